@@ -1,4 +1,12 @@
 pub mod Told
+pub mod Counts
 pub mod Files
 pub mod Source
 pub mod Sink
+pub mod Composition
+pub mod MemFiles
+pub mod MemSource
+pub mod MemSink
+pub mod HostFiles
+pub mod StdSource
+pub mod StdSink

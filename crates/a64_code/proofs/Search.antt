@@ -1,0 +1,37 @@
+-- At most one row of the table fits a word, so the first that fits is the one.
+use Rattle.std.proofs.Common.{◌≡◌, ℕ, zero, suc, true, false, not, List, [], ◌∷◌, Some, refl, ap, sym, ◌∙◌, bit_and}
+use Rattle.std.specs.List.{slice_get, list_all, find}
+use Rattle.std.proofs.lemmas.Bool.{eqb-true, eq-eqb, and_parts, both_ways}
+use Rattle.std.proofs.lemmas.Nat.{and_assoc, and_comm}
+use Rattle.a64_code.specs.Decoded.{Kind, blank, fits}
+use Rattle.a64_code.proofs.EachRow.{mask_of, differ, all_differ}
+
+-- Where two rows fit a word, their base words agree in the bits that both have fixed.
+agree : (word : ℕ) (j k : Kind) → fits word j ≡ true → fits word k ≡ true → bit_and (blank j).base (mask_of k) ≡ bit_and (blank k).base (mask_of j)
+agree word j k hj hk =
+    let ej : bit_and word (mask_of j) ≡ (blank j).base = eqb-true _ _ hj in
+    let ek : bit_and word (mask_of k) ≡ (blank k).base = eqb-true _ _ hk in
+    ap (λ n. bit_and n (mask_of k)) (sym ej) ∙ and_assoc (mask_of k) word (mask_of j) ∙ ap (bit_and word) (and_comm (mask_of j) (mask_of k))
+    ∙ sym (and_assoc (mask_of j) word (mask_of k)) ∙ ap (λ n. bit_and n (mask_of j)) ek
+
+apart : (word : ℕ) (j k : Kind) → differ j k ≡ true → fits word k ≡ true → fits word j ≡ false
+apart word j k d hk = elim (fits word j) as (λ b. fits word j ≡ b → b ≡ false) [
+  | true ↦ λ hj. absurd (both_ways (differ j k) (ap not (eq-eqb _ _ (agree word j k hj hk))) d)
+  | false ↦ λ _. refl
+] refl
+
+differ_at : (j k : Kind) (ks : List Kind) (n : ℕ) → list_all (differ j) ks ≡ true → slice_get ks n ≡ Some k → differ j k ≡ true
+differ_at j k [] n h e = absurd (cc)
+differ_at j k (x ∷ xs) zero h e = let p = and_parts (differ j x) (list_all (differ j) xs) h in let same : x ≡ k = cc in ap (differ j) (sym same) ∙ p.0
+differ_at j k (x ∷ xs) (suc n) h e = let p = and_parts (differ j x) (list_all (differ j) xs) h in differ_at j k xs n p.1 e
+
+pub find-fits : (word : ℕ) (k : Kind) (ks : List Kind) (n : ℕ) → all_differ ks ≡ true → slice_get ks n ≡ Some k → fits word k ≡ true → find (fits word) ks ≡ Some k
+find-fits word k [] n d e h = absurd (cc)
+find-fits word k (x ∷ xs) zero d e h =
+    let same : x ≡ k = cc in
+    let yes : fits word x ≡ true = ap (fits word) same ∙ h in
+    rw yes (ap (λ j. Some j) same)
+find-fits word k (x ∷ xs) (suc n) d e h =
+    let p = and_parts (list_all (differ x) xs) (all_differ xs) d in
+    let no : fits word x ≡ false = apart word x k (differ_at x k xs n p.0 e) h in
+    rw no (find-fits word k xs n p.1 e h)

@@ -1,0 +1,2 @@
+pub mod FirstFiles
+pub mod Written

@@ -1,0 +1,42 @@
+// The line on the error sink.
+ghost use Rattle.std.specs.Prelude.{◌≡◌};
+ghost use Rattle.mt_pipeline.specs.Answer.{why_of};
+
+use crate::answer::Answer;
+use crate::ended::Why;
+use mt_outside::{PutAnswer, Sink};
+use mte_machine::MachineEnd;
+use std::fmt;
+use std::fmt::Write;
+
+// Text that is put on a sink piece by piece.
+#[derive(Drop)]
+struct Line<'a, E: Sink> {
+    sink: &'a mut E,
+}
+
+impl<'a, E: Sink> Write for Line<'a, E> {
+    fn write_str(&mut self, s: &str) -> fmt::Result {
+        match self.sink.put(s.as_bytes()) {
+            PutAnswer::Done => Ok(()),
+            PutAnswer::Failed => Err(fmt::Error),
+        }
+    }
+}
+
+/// Puts the line of an answer about this file. A fault of the sink is nobody's answer.
+pub fn report<E: Sink>(err: &mut E, file: &str, answer: &Answer)
+    ensures quiet { why_of answer.now ≡ Why.Exited → err.new ≡ err.old }
+{
+    let mut line = Line { sink: err };
+    let _ = match answer {
+        Answer::Ran(MachineEnd::Exited(_)) => Ok(()),
+        Answer::Ran(MachineEnd::BadCode { at }) => write!(line, "mtcc: bad code at 0x{at:x}\n"),
+        Answer::Ran(MachineEnd::OutOfSteps) => write!(line, "mtcc: out of steps\n"),
+        Answer::Usage => write!(line, "mtcc: usage\n"),
+        Answer::Refused { refusal, .. } => write!(line, "mtcc: {file}: {refusal}\n"),
+        Answer::NoFile { .. } => write!(line, "mtcc: {file}: no such file\n"),
+        Answer::NoMemory => write!(line, "mtcc: out of memory\n"),
+        Answer::ReadFault { .. } => write!(line, "mtcc: {file}: read fault\n"),
+    };
+}

@@ -1,0 +1,5 @@
+pub mod Halfword
+pub mod OutOfSteps
+pub mod Registers
+pub mod Words
+pub mod Answers

@@ -1,0 +1,37 @@
+-- A run: steps one after another, until one ends it or no more are allowed.
+use Rattle.std.specs.Prelude.{◌≡◌, ℕ, zero, suc, ◌+◌}
+use Rattle.a64_code.specs.State.{State}
+use Rattle.a64_code.specs.Step.{Stepped, Leads, Ends, step}
+use Rattle.a64_code.specs.declared.end.MachineEnd.{MachineEnd}
+use Rattle.a64_code.specs.declared.end.MachineEnd.TheVariants.{OutOfSteps}
+use Rattle.mte_machine.specs.declared.step.Step.{Step}
+use Rattle.mte_machine.specs.declared.step.Step.TheVariants.{Ran, Ended}
+
+-- where a run stands: it can go on from a state, or a step has ended it and left the state as it was
+pub data Run : Type 0 where
+  Running : State → Run
+  Stopped : MachineEnd → State → Run
+
+-- where a run from a state stands once its first step has done this
+abbrev pub run_after : Stepped → State → (State → Run) → Run
+run_after (Leads next) s go = go next
+run_after (Ends end) s go = Stopped end s
+
+-- at most n steps
+abbrev pub run : ℕ → State → Run
+run zero s = Running s
+run (suc n) s = run_after (step s) s (run n)
+
+-- n steps lead from one state to another, and none of them ends the run
+pub record Steps (n : ℕ) (from to : State) : Type 0 where
+  pub runs : run n from ≡ Running to
+
+-- what a step answers, and the state that it leaves
+abbrev pub StepsAs : Stepped → State → Step → State → Type 0
+StepsAs (Leads next) old answer new = (answer ≡ Ran) × (new ≡ next)
+StepsAs (Ends end) old answer new = (answer ≡ Ended end) × (new ≡ old)
+
+-- what a run answers, and the state that it leaves
+abbrev pub RunsAs : Run → MachineEnd → State → Type 0
+RunsAs (Running s) answer new = (answer ≡ OutOfSteps) × (new ≡ s)
+RunsAs (Stopped end s) answer new = (answer ≡ end) × (new ≡ s)

@@ -1,0 +1,12 @@
+// What one step does.
+
+use a64_code::MachineEnd;
+
+/// What one step does.
+#[derive(Clone, Copy, Debug, PartialEq, Eq)]
+pub enum Step {
+    /// It ran, and the machine stands at the next instruction.
+    Ran,
+    /// It ended the run, and the machine is as before it.
+    Ended(MachineEnd),
+}
