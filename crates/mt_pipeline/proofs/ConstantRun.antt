@@ -1,5 +1,5 @@
 -- The run of the code of a constant.
-use Rattle.std.proofs.Common.{◌≡◌, ◌<◌, ◌≤◌, ℕ, ◌*◌, ◌/◌, ◌%◌, ◌^◌, Bool, true, false, nat_lt, if◌then◌else◌, List, [], ◌∷◌, ◌++◌, Some, refl, ap, ◌∙◌, subst, arith}
+use Rattle.std.proofs.Common.{◌≡◌, ◌<◌, ◌≤◌, ℕ, ◌*◌, ◌/◌, ◌%◌, ◌^◌, Bool, true, false, nat_lt, if◌then◌else◌, List, [], ◌∷◌, ◌++◌, Some, refl, ap, ◌∙◌, arith}
 use Rattle.std.proofs.lemmas.Bool.{ltb-true}
 use Rattle.std.specs.Option.{option_and_then}
 use Rattle.a64_code.specs.declared.instr.Instr.{Instr}
@@ -12,7 +12,7 @@ use Rattle.a64_code.proofs.Decoding.{decoded-Row}
 use Rattle.a64_code.specs.State.{State, general, with_general, advanced}
 use Rattle.a64_code.specs.Step.{Ends, step, effect, carried_out, operand, with_halfword}
 use Rattle.mte_machine.specs.Machine.{initial_state}
-use Rattle.mte_machine.specs.Run.{Run, Stopped, run, Steps, RunsAs}
+use Rattle.mte_machine.specs.Run.{Run, Stopped, run, end_of, Steps}
 use Rattle.mte_machine.specs.Steps.{Steps-one, Steps-add, run-ends}
 use Rattle.mt_pipeline.specs.Code.{constant_code, status_register, upper_half, Spell}
 
@@ -35,7 +35,7 @@ with_low n words = advanced (with_general status_register (n % 65536 * 2 ^ (16 *
 
 abbrev with_high : ℕ → List ℕ → State
 with_high n words = advanced (with_general status_register
-  (with_halfword (16 * 1) (n / 65536) (operand false (general (with_low n words) status_register))) (with_low n words))
+    (with_halfword (16 * 1) (n / 65536) (operand false (general (with_low n words) status_register))) (with_low n words))
 
 -- the lower half alone, where the constant has no other
 short_run : (n steps low exit : ℕ) → n < 65536 → 3 ≤ steps → Row low (Movz false 0 (n % 65536) status_register) → Row exit (Svc 3) → ExitsWith (n % 2 ^ 8) (run steps (at_start (low ∷ exit ∷ [])))
@@ -68,9 +68,7 @@ spelled_exits n steps (a ∷ b ∷ []) false short within enough spell = absurd 
 spelled_exits n steps (a ∷ b ∷ c ∷ d ∷ ws) false short within enough spell = absurd spell.1.1.1
 
 -- Words that spell the code of a constant exit with it modulo 256, in any number of steps that reaches the end.
-pub constant_exits : (n steps : ℕ) (words : List ℕ) (from : State) (answer : MachineEnd) (new : State) → from ≡ initial_state words 0x10000000 0x10000000 → n ≤ 2147483647 → 3 ≤ steps → Spell words (constant_code n) → RunsAs (run steps from) answer new → answer ≡ Exited (n % 2 ^ 8)
-constant_exits n steps words from answer new starts within enough spell ran =
+pub constant_exits : (n steps : ℕ) (words : List ℕ) (from : State) (answer : MachineEnd) → from ≡ initial_state words 0x10000000 0x10000000 → n ≤ 2147483647 → 3 ≤ steps → Spell words (constant_code n) → answer ≡ end_of (run steps from) → answer ≡ Exited (n % 2 ^ 8)
+constant_exits n steps words from answer starts within enough spell ends =
     let exits = spelled_exits n steps words (nat_lt n 65536) refl within enough spell in
-    let stops : run steps from ≡ Stopped (Exited (n % 2 ^ 8)) exits.state = ap (run steps) starts ∙ exits.is in
-    let said : RunsAs (Stopped (Exited (n % 2 ^ 8)) exits.state) answer new = subst (λ r. RunsAs r answer new) stops ran in
-    said.0
+    ends ∙ ap end_of (ap (run steps) starts ∙ exits.is)

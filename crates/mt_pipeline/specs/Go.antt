@@ -33,7 +33,7 @@ CauseOfGo told file faults after status OutOfSteps = ⊥
 pub record GoAnswers {S K : Type 0} (told : Option Contents) (file : List ℕ) (faults after : ℕ) (input input' : S) (out out' : K) (ended : Ended) : Type 0 where
   -- Where the file holds the text of a constant and no read failed, the program exits with it modulo 256, or memory is wanting.
   pub exits : (bytes : List ℕ) (n : ℕ) → bytes_of told file ≡ Some bytes → ReturnsConstant bytes n → ¬ Rose faults after →
-    (ended ≡ record { status = n % 256; why = Exited }) ⊎ (ended.why ≡ NoMemory)
+      (ended ≡ record { status = n % 256; why = Exited }) ⊎ (ended.why ≡ NoMemory)
   -- Each answer comes only by its cause.
   pub cause : CauseOfGo told file faults after ended.status ended.why
   -- The program takes no input, and has no output.

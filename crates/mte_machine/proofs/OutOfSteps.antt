@@ -1,5 +1,5 @@
 -- No step says by itself that the steps are over.
-use Rattle.std.proofs.Common.{◌≡◌, ◌≢◌, ◌↔◌, ℕ, zero, suc, Bool, true, false, ◌==◌, if◌then◌else◌, refl, sym, ◌∙◌}
+use Rattle.std.proofs.Common.{◌≡◌, ◌≢◌, ◌↔◌, ℕ, zero, suc, Bool, true, false, ◌==◌, if◌then◌else◌, refl, sym, ap, ◌∙◌}
 use Rattle.a64_code.specs.State.{State}
 use Rattle.a64_code.specs.Step.{Stepped, Leads, Ends, step, effect, carried_out, fetched}
 use Rattle.a64_code.specs.declared.end.MachineEnd.{MachineEnd}
@@ -7,7 +7,7 @@ use Rattle.a64_code.specs.declared.end.MachineEnd.TheVariants.{Exited, BadCode, 
 use Rattle.a64_code.specs.declared.instr.Instr.{Instr}
 use Rattle.a64_code.specs.declared.instr.Instr.TheVariants.{Movz, Movk, Svc}
 use Rattle.std.proofs.Common.{Option, Some, None}
-use Rattle.mte_machine.specs.Run.{Run, Running, Stopped, run, run_after, Steps, RunsAs}
+use Rattle.mte_machine.specs.Run.{Run, Running, Stopped, run, run_after, end_of, Steps}
 
 -- it has an end of its own, where it ends the run
 abbrev pub EndsOfItself : Stepped → Type 0
@@ -39,11 +39,11 @@ run-stops : (n : ℕ) (s : State) → StopsOfItself (run n s)
 run-stops zero s = tt
 run-stops (suc n) s = run_after-stops (step s) s (run n) (carried_out-ends (fetched s) s) (λ t. run-stops n t)
 
--- A run answers that the steps are over exactly where all of them ran.
-pub out_of_steps : (n : ℕ) (from : State) (answer : MachineEnd) (new : State) → RunsAs (run n from) answer new → (answer ≡ OutOfSteps) ↔ ((s : State) × Steps n from s)
-out_of_steps n from answer new said = by_end (run n from) refl (run-stops n from) said
+-- A run is out of steps exactly where all of them ran.
+pub out_of_steps : (n : ℕ) (from : State) (answer : MachineEnd) → answer ≡ end_of (run n from) → (answer ≡ OutOfSteps) ↔ ((s : State) × Steps n from s)
+out_of_steps n from answer ends = by_end (run n from) refl (run-stops n from)
   where
-    by_end : (r : Run) → run n from ≡ r → StopsOfItself r → RunsAs r answer new → (answer ≡ OutOfSteps) ↔ ((s : State) × Steps n from s)
-    by_end (Running s) ran own said = (λ _. (s, record { runs = ran }), λ _. said.0)
-    by_end (Stopped end s) ran own said =
-        (λ out. absurd (own (sym said.0 ∙ out)), λ (t, steps). let both : Stopped end s ≡ Running t = sym ran ∙ steps.runs in absurd (cc))
+    by_end : (r : Run) → run n from ≡ r → StopsOfItself r → (answer ≡ OutOfSteps) ↔ ((s : State) × Steps n from s)
+    by_end (Running s) ran own = (λ _. (s, record { runs = ran }), λ _. ends ∙ ap end_of ran)
+    by_end (Stopped end s) ran own =
+        (λ out. absurd (own (sym (ends ∙ ap end_of ran) ∙ out)), λ (t, steps). let both : Stopped end s ≡ Running t = sym ran ∙ steps.runs in absurd (cc))

@@ -31,7 +31,12 @@ abbrev pub StepsAs : Stepped → State → Step → State → Type 0
 StepsAs (Leads next) old answer new = (answer ≡ Ran) × (new ≡ next)
 StepsAs (Ends end) old answer new = (answer ≡ Ended end) × (new ≡ old)
 
--- what a run answers, and the state that it leaves
-abbrev pub RunsAs : Run → MachineEnd → State → Type 0
-RunsAs (Running s) answer new = (answer ≡ OutOfSteps) × (new ≡ s)
-RunsAs (Stopped end s) answer new = (answer ≡ end) × (new ≡ s)
+-- how a run ends, where one that can go on is out of steps
+abbrev pub end_of : Run → MachineEnd
+end_of (Running s) = OutOfSteps
+end_of (Stopped end s) = end
+
+-- the state that a run leaves
+abbrev pub state_after : Run → State
+state_after (Running s) = s
+state_after (Stopped end s) = s

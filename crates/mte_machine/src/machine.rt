@@ -6,7 +6,7 @@ ghost use Rattle.a64_code.specs.Field.{AllFit};
 ghost use Rattle.a64_code.specs.Table.{encoding};
 ghost use Rattle.std.specs.Prelude.{IfSome};
 ghost use Rattle.mte_machine.specs.Machine.{state_of, initial_state};
-ghost use Rattle.mte_machine.specs.Run.{run, RunsAs, Steps, StepsAs};
+ghost use Rattle.mte_machine.specs.Run.{run, end_of, state_after, Steps, StepsAs};
 
 use crate::step::Step;
 use a64_code::{Instr, MachineEnd, Reg, decode};
@@ -49,7 +49,8 @@ impl Machine {
 
     /// Executes instructions until one of them ends the run, at most `n` of them.
     pub fn run<S: Source, K: Sink>(&mut self, source: &mut S, sink: &mut K, n: u64) -> MachineEnd
-        ensures run { RunsAs (run n (state_of self.old)) result (state_of self.new) }
+        ensures end { result ≡ end_of (run n (state_of self.old)) }
+        ensures state { state_of self.new ≡ state_after (run n (state_of self.old)) }
         ensures out_of_steps { (result ≡ MachineEnd.OutOfSteps) ↔ ((s : State) × Steps n (state_of self.old) s) }
         ensures input { source.new ≡ source.old }
         ensures output { sink.new ≡ sink.old }
@@ -101,7 +102,9 @@ impl Machine {
                 self.set_general(rd, with_halfword(old, hw, imm16));
                 self.advance()
             }
-            Instr::Svc { imm16: 3 } => Step::Ended(MachineEnd::Exited((self.registers[0] & 0xff) as u8)),
+            Instr::Svc { imm16: 3 } => Step::Ended(MachineEnd::Exited(
+                (self.registers[0] & 0xff) as u8,
+            )),
             Instr::Svc { .. } => Step::Ended(MachineEnd::BadCode { at: self.pc }),
         }
     }
@@ -110,7 +113,10 @@ impl Machine {
     fn general(&self, register: Reg) -> u64
         ensures { result ≡ general (state_of self.now) register }
     {
-        self.registers.get(usize::from(register.0)).copied().unwrap_or(0)
+        self.registers
+            .get(usize::from(register.0))
+            .copied()
+            .unwrap_or(0)
     }
 
     // Writes a general register, where a write to the number 31 is dropped.

@@ -4,4 +4,4 @@ use Rattle.mt_pipeline.proofs.code.run.Goals as goal
 
 pub returns-clause-exits : goal.returns-clause-exits
 returns-clause-exits g c n within spell =
-    constant_exits n 100000000 c.args.words.items _ c.run.result _ c.new.ensures within (lit≤ tt) spell c.run.ensures.run
+    constant_exits n 100000000 c.args.words.items _ c.run.result c.new.ensures within (lit≤ tt) spell c.run.ensures.end

@@ -1,5 +1,5 @@
-use Rattle.std.proofs.Common.{◌≡◌, ◌∙◌, arith, refl, subst}
-use Rattle.mte_machine.specs.Run.{Steps}
+use Rattle.std.proofs.Common.{◌≡◌, ◌∙◌, ap, arith, refl, subst, sym}
+use Rattle.mte_machine.specs.Run.{Steps, end_of, state_after}
 use Rattle.mte_machine.specs.Machine.{state_of}
 use Rattle.mte_machine.specs.Steps.{Steps-add, Steps-one, run-ends}
 use Rattle.mte_machine.proofs.Answers.{StepsAs-ran, StepsAs-ended}
@@ -13,14 +13,18 @@ loop-ran-preserved g c = record {
   output = c.step.ensures.output ∙ c.loop-ran.invariant.output;
 }
 
-pub returns-in-Ended-clause-run : goal.returns-in-Ended-clause-run
-returns-in-Ended-clause-run g c =
+pub returns-in-Ended-clause-end : goal.returns-in-Ended-clause-end
+returns-in-Ended-clause-end g c =
     let ended = StepsAs-ended _ c.in-Ended.end _ _ (rw c.in-Ended.is at c.step.ensures.step) in
-    let stopped = run-ends c.args.n c.loop-ran.invariant.ran ended.ends c.loop-ran-test.true in
-    rw stopped (refl, ended.state)
+    sym (ap end_of (run-ends c.args.n c.loop-ran.invariant.ran ended.ends c.loop-ran-test.true))
+
+pub returns-in-Ended-clause-state : goal.returns-in-Ended-clause-state
+returns-in-Ended-clause-state g c =
+    let ended = StepsAs-ended _ c.in-Ended.end _ _ (rw c.in-Ended.is at c.step.ensures.step) in
+    ended.state ∙ sym (ap state_after (run-ends c.args.n c.loop-ran.invariant.ran ended.ends c.loop-ran-test.true))
 
 pub returns-in-Ended-clause-out_of_steps : goal.returns-in-Ended-clause-out_of_steps
-returns-in-Ended-clause-out_of_steps g c = out_of_steps c.args.n _ _ _ (returns-in-Ended-clause-run g c)
+returns-in-Ended-clause-out_of_steps g c = out_of_steps c.args.n _ _ (returns-in-Ended-clause-end g c)
 
 pub returns-clause-out_of_steps : goal.returns-clause-out_of_steps
 returns-clause-out_of_steps g c =

@@ -7,5 +7,5 @@ abbrev pub invariant-loop-ran : goal.invariant-loop-ran
 invariant-loop-ran g l = record {
   ran : Steps l.ran (state_of l.initial.self) (state_of l.self);
   input : l.source ≡ l.initial.source;
-  output : l.sink ≡ l.initial.sink
+  output : l.sink ≡ l.initial.sink;
 }
