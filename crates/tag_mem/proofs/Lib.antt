@@ -1,0 +1,10 @@
+pub mod Mapped
+pub mod Bytes
+pub mod Runs
+pub mod Guard
+pub mod Pieces
+pub mod Written
+pub mod Judged
+pub mod TagLists
+pub mod Words
+pub mod Fetched
