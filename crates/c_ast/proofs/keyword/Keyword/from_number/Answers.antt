@@ -1,0 +1,6 @@
+use Rattle.std.proofs.Common.{rules}
+use Rattle.c_ast.proofs.Numbered.{keyword-found}
+use Rattle.c_ast.proofs.keyword.Keyword.from_number.Goals as goal
+
+pub returns-clause-some : goal.returns-clause-some
+returns-clause-some c = let found = keyword-found c.from.result c.get.result c.get.ensures.lookup in search rules

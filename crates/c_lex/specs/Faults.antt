@@ -1,0 +1,80 @@
+-- The faults of a text, one rule for each: what stands where neither a gap nor a token begins, and at which byte.
+use Rattle.std.specs.Prelude.{◌≡◌, ◌≢◌, ℕ, ◌+◌, ◌<◌, ◌≤◌, Bool, true, false, ◌||◌, ◌&&◌, ◌==◌, nat_lt, List, [], ◌∷◌, length, take, drop, slice_index, None}
+use Rattle.std.specs.Char.{is_ascii_digit}
+use Rattle.c_ast.specs.Words.{punctuator_of}
+use Rattle.c_lex.specs.declared.fault.Fault.{Fault}
+use Rattle.c_lex.specs.declared.fault.Fault.TheVariants.{BadByte, UnclosedText, UnclosedComment, NumberTooLarge, BadDirective}
+use Rattle.c_lex.specs.declared.escape.Item.TheVariants.{Byte}
+use Rattle.c_lex.specs.declared.reading.Line.{Line}
+use Rattle.c_lex.specs.declared.reading.Line.TheVariants.{Clear, Spaced, Used}
+use Rattle.c_lex.specs.Bytes.{is_white, is_letter}
+use Rattle.c_lex.specs.Digits.{value_of}
+use Rattle.c_lex.specs.Numeral.{numeral_at, is_numeral, fitting_bytes, numeral_type}
+use Rattle.c_lex.specs.Escape.{simple_escape, octal_count, hex_count, is_plain, item_at}
+use Rattle.c_lex.specs.Directive.{is_include_line}
+use Rattle.c_lex.specs.Gap.{begins_line_comment, begins_block_comment, block_comment}
+
+-- a newline, or the end
+abbrev pub is_cut_off : List ℕ → Bool
+is_cut_off [] = true
+is_cut_off (b ∷ rest) = b == 10
+
+-- `x` and a hexadecimal digit, which follow the backslash of a hexadecimal escape
+abbrev pub begins_hexadecimal : List ℕ → Bool
+begins_hexadecimal rest = slice_index rest 0 == 120 && nat_lt 0 (hex_count (drop 1 rest))
+
+-- What may not stand at the front between quotes of this kind: a byte that does not stand for itself, a backslash
+-- that begins no escape of C11 6.4.4.4, or an octal or hexadecimal escape over 255.
+pub data IsWrong (quote : ℕ) (rest : List ℕ) : Fault → Type 0 where
+  byte : is_cut_off rest ≡ false → slice_index rest 0 ≢ quote → slice_index rest 0 ≢ 92 → is_plain quote (slice_index rest 0) ≡ false → IsWrong quote rest BadByte
+  escape : slice_index rest 0 ≡ 92 → simple_escape (slice_index rest 1) ≡ None → octal_count (drop 1 rest) ≡ 0 → begins_hexadecimal (drop 1 rest) ≡ false →
+      IsWrong quote rest BadByte
+  octal : slice_index rest 0 ≡ 92 → 0 < octal_count (drop 1 rest) → 255 < value_of 8 (take (octal_count (drop 1 rest)) (drop 1 rest)) →
+      IsWrong quote rest NumberTooLarge
+  hexadecimal : slice_index rest 0 ≡ 92 → begins_hexadecimal (drop 1 rest) ≡ true → 255 < value_of 16 (take (hex_count (drop 2 rest)) (drop 2 rest)) →
+      IsWrong quote rest NumberTooLarge
+
+-- the first bytes are items in turn, each a byte as it is written between quotes of this kind
+pub data AreItems (quote : ℕ) (rest : List ℕ) : ℕ → Type 0 where
+  none : AreItems quote rest 0
+  more : {place : ℕ} (value bytes : ℕ) → AreItems quote rest place → item_at quote (drop place rest) ≡ Byte value bytes → AreItems quote rest (place + bytes)
+
+-- a byte that white space, a name, a number, a character, a string or a `#` begins with
+abbrev pub begins_other : ℕ → Bool
+begins_other b = is_white b || (is_letter b || (is_ascii_digit b || (b == 39 || (b == 34 || b == 35))))
+
+-- At the front stands this fault, at the byte of this number; the line says what stands on the line before it.
+pub data FaultAt (line : Line) (rest : List ℕ) : Fault → ℕ → Type 0 where
+  -- a byte that begins nothing
+  stray : 0 < length rest → begins_other (slice_index rest 0) ≡ false → (begins_line_comment rest || begins_block_comment rest) ≡ false →
+      ((bytes : ℕ) → bytes ≤ length rest → punctuator_of (take bytes rest) ≡ None) → FaultAt line rest BadByte 0
+  -- `/*` and no `*/` behind it
+  unclosed_comment : begins_block_comment rest ≡ true → block_comment rest ≡ None → FaultAt line rest UnclosedComment 0
+  -- a number, at its first byte that does not fit, which is the place behind `0x` where no digit follows
+  unfit_number : is_ascii_digit (slice_index rest 0) ≡ true → is_numeral (numeral_at rest) ≡ false → FaultAt line rest BadByte (fitting_bytes (numeral_at rest))
+  -- a number that no type of its list holds
+  large_number : is_ascii_digit (slice_index rest 0) ≡ true → is_numeral (numeral_at rest) ≡ true → numeral_type (numeral_at rest) ≡ None →
+      FaultAt line rest NumberTooLarge 0
+  -- a string, at the first place behind its items that holds what may not stand there
+  wrong_in_text : {what : Fault} {place : ℕ} → slice_index rest 0 ≡ 34 → AreItems 34 (drop 1 rest) place → IsWrong 34 (drop (1 + place) rest) what →
+      FaultAt line rest what (1 + place)
+  -- a string that a newline or the end cuts off behind its items
+  unclosed_text : {place : ℕ} → slice_index rest 0 ≡ 34 → AreItems 34 (drop 1 rest) place → is_cut_off (drop (1 + place) rest) ≡ true →
+      FaultAt line rest UnclosedText 0
+  -- a character with no item
+  empty_character : slice_index rest 0 ≡ 39 → slice_index rest 1 ≡ 39 → FaultAt line rest BadByte 1
+  -- a character whose item may not stand there
+  wrong_in_character : {what : Fault} → slice_index rest 0 ≡ 39 → IsWrong 39 (drop 1 rest) what → FaultAt line rest what 1
+  -- a character of more than one item, at the second
+  long_character : {value bytes : ℕ} → slice_index rest 0 ≡ 39 → item_at 39 (drop 1 rest) ≡ Byte value bytes → slice_index rest (1 + bytes) ≢ 39 →
+      is_cut_off (drop (1 + bytes) rest) ≡ false → FaultAt line rest BadByte (1 + bytes)
+  -- a character that a newline or the end cuts off before its item, or behind it
+  unclosed_quote : slice_index rest 0 ≡ 39 → is_cut_off (drop 1 rest) ≡ true → FaultAt line rest UnclosedText 0
+  unclosed_character : {value bytes : ℕ} → slice_index rest 0 ≡ 39 → item_at 39 (drop 1 rest) ≡ Byte value bytes → is_cut_off (drop (1 + bytes) rest) ≡ true →
+      FaultAt line rest UnclosedText 0
+  -- a `#` that is the first token of its line, where the line is not the directive
+  not_directive : slice_index rest 0 ≡ 35 → line ≡ Clear → is_include_line rest ≡ false → FaultAt line rest BadDirective 0
+  -- a `#` that is the first token of its line, behind more than spaces and tabs
+  spaced_directive : slice_index rest 0 ≡ 35 → line ≡ Spaced → FaultAt line rest BadDirective 0
+  -- a `#` behind a token of its line
+  late_hash : slice_index rest 0 ≡ 35 → line ≡ Used → FaultAt line rest BadByte 0

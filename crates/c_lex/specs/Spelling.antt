@@ -1,0 +1,32 @@
+-- Which bytes spell which token (C11 6.4).
+use Rattle.std.specs.Prelude.{◌≡◌, ℕ, Bool, IsTrue, false, ◌&&◌, List, [], ◌∷◌, Some, None}
+use Rattle.std.specs.List.{list_all}
+use Rattle.std.specs.Char.{is_ascii_digit}
+use Rattle.c_ast.specs.declared.token.Lexeme.{Lexeme}
+use Rattle.c_ast.specs.declared.token.Lexeme.TheVariants.{Include, Name, Number, Character, Text, Keyword, Punct}
+use Rattle.c_ast.specs.Words.{keyword_of, punctuator_of}
+use Rattle.c_lex.specs.Bytes.{is_letter, is_word, is_numeral_byte}
+use Rattle.c_lex.specs.Numeral.{is_numeral, numeral_value, numeral_type}
+use Rattle.c_lex.specs.Quoted.{character_of, text_of}
+use Rattle.c_lex.specs.Directive.{is_include}
+
+-- a letter or `_`, then letters, digits and `_` (C11 6.4.2.1)
+abbrev pub is_identifier : List ℕ → Bool
+is_identifier [] = false
+is_identifier (b ∷ rest) = is_letter b && list_all is_word rest
+
+-- a digit, then digits, letters, `_` and `.` (C11 6.4.8, a preprocessing number without signs or a leading period)
+abbrev pub is_preprocessing_number : List ℕ → Bool
+is_preprocessing_number [] = false
+is_preprocessing_number (b ∷ rest) = is_ascii_digit b && list_all is_numeral_byte rest
+
+-- These bytes alone are this token. A name is its own spelling and no keyword; keywords and punctuators are spelled
+-- by their lists; a number has the value of its digits and the first type of its list that holds the value.
+unfoldable pub Spells : Lexeme → List ℕ → Type 0
+Spells Include bytes = IsTrue (is_include bytes)
+Spells (Name name) bytes = IsTrue (is_identifier bytes) × (keyword_of bytes ≡ None) × (name ≡ bytes)
+Spells (Number value ty) bytes = IsTrue (is_preprocessing_number bytes) × IsTrue (is_numeral bytes) × (value ≡ numeral_value bytes) × (numeral_type bytes ≡ Some ty)
+Spells (Character value) bytes = character_of bytes ≡ Some value
+Spells (Text values) bytes = text_of bytes ≡ Some values
+Spells (Keyword number) bytes = keyword_of bytes ≡ Some number
+Spells (Punct number) bytes = punctuator_of bytes ≡ Some number
