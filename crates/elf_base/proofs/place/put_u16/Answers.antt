@@ -1,0 +1,9 @@
+use Rattle.byteorder.specs.Endian.{little_bytes}
+use Rattle.elf_base.specs.Field.{field_bytes}
+use Rattle.elf_base.specs.Place.{put_at}
+use Rattle.elf_base.proofs.Writing.{put_mid-put_at}
+use Rattle.elf_base.proofs.place.put_u16.Goals as goal
+
+pub returns : goal.returns
+unfolding field_bytes put_at
+returns c = put_mid-put_at c.args.at (little_bytes 2 c.args.value) c.args.out.now c.write_u16.new.buf c.requires c.write_u16.ensures

@@ -1,0 +1,4 @@
+pub mod Field
+pub mod Records
+pub mod Laws
+pub mod Place

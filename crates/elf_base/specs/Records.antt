@@ -1,0 +1,23 @@
+-- The fields of each record, with their widths and in their order in the file (ELF64).
+use Rattle.std.specs.Prelude.{List, [], ◌∷◌}
+use Rattle.elf_base.specs.declared.header.Ehdr.{Ehdr}
+use Rattle.elf_base.specs.declared.segment.Phdr.{Phdr}
+use Rattle.elf_base.specs.declared.dynamic.Dyn.{Dyn}
+use Rattle.elf_base.specs.Field.{Field, number, signed, raw}
+
+-- the header of a file, `Elf64_Ehdr`
+abbrev pub ehdr_fields : Ehdr → List Field
+ehdr_fields h =
+    raw 16 h.ident ∷ number 2 h.kind ∷ number 2 h.machine ∷ number 4 h.version ∷ number 8 h.entry
+    ∷ number 8 h.phoff ∷ number 8 h.shoff ∷ number 4 h.flags ∷ number 2 h.ehsize ∷ number 2 h.phentsize
+    ∷ number 2 h.phnum ∷ number 2 h.shentsize ∷ number 2 h.shnum ∷ number 2 h.shstrndx ∷ []
+
+-- a program header, `Elf64_Phdr`
+abbrev pub phdr_fields : Phdr → List Field
+phdr_fields p =
+    number 4 p.kind ∷ number 4 p.flags ∷ number 8 p.offset ∷ number 8 p.vaddr ∷ number 8 p.paddr
+    ∷ number 8 p.filesz ∷ number 8 p.memsz ∷ number 8 p.align ∷ []
+
+-- a dynamic entry, `Elf64_Dyn`
+abbrev pub dyn_fields : Dyn → List Field
+dyn_fields d = signed d.tag ∷ number 8 d.value ∷ []

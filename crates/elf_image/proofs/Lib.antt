@@ -1,0 +1,4 @@
+pub mod Order
+pub mod Lay
+pub mod Entries
+pub mod Whole

@@ -1,0 +1,9 @@
+use Rattle.std.proofs.Common.{arith}
+use Rattle.elf_image.specs.Image.{image_of}
+use Rattle.elf_image.proofs.Order.{Within, within}
+use Rattle.elf_image.proofs.parts.ImageParts.memory_end.Goals as goal
+
+pub overflow_add-result : goal.overflow_add-result
+overflow_add-result c =
+    let w : Within (image_of c.args.self.now) = within (image_of c.args.self.now) c.requires in
+    omega arith

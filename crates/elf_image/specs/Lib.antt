@@ -1,0 +1,9 @@
+pub mod Image
+pub mod Places
+pub mod Pieces
+pub mod ImageFile
+pub mod OneFile
+pub mod Constant
+pub mod Laying
+pub mod FirstWords
+pub mod ConstantLaws

@@ -1,0 +1,174 @@
+ghost use Rattle.std.specs.Prelude.{◌≡◌, ◌++◌, OnOk, IfOk};
+ghost use Rattle.elf_base.specs.Field.{bytes_of};
+ghost use Rattle.elf_base.specs.Records.{phdr_fields};
+ghost use Rattle.elf_image.specs.Image.{image_of};
+ghost use Rattle.elf_image.specs.ImageFile.{ImageFile};
+ghost use Rattle.elf_image.specs.Laying.{put, put_all};
+ghost use Rattle.elf_image.specs.Pieces.{piece, header, load, dynamic_at, entries_bytes, header_pieces, table_pieces, loaded_pieces, table_entries, descriptor_entries};
+ghost use Rattle.elf_image.specs.Places.{IsValid, descriptors_place};
+
+use crate::layout::{RELOCS_PLACE, STRINGS_PLACE, SYMBOLS_PLACE};
+use crate::parts::ImageParts;
+use crate::put::{pad_to, push_entry, put_bytes, put_relocs, put_words};
+use elf_base::{Ehdr, Phdr, write_ehdr, write_phdr};
+use std::alloc::{AllocError, Global};
+
+/// The one file of the parts, which are valid: `filled` and the zero bytes are whole granules of 16 bytes, and
+/// the image takes at most 256 MiB of memory. docs/FILES.md shows the file.
+pub fn write_image(alloc: Global, parts: &ImageParts) -> Result<Vec<u8>, AllocError>
+    requires { IsValid (image_of parts.now) }
+    ensures { IfOk result (λ v. ImageFile (image_of parts.now) v.items) }
+{
+    let mut out = Vec::new(alloc);
+    put_headers(&mut out, parts)?;
+    put_tables(&mut out, parts)?;
+    put_loaded(&mut out, parts)?;
+    Ok(out)
+}
+
+// The header and the program headers.
+fn put_headers(out: &mut Vec<u8>, parts: &ImageParts) -> Result<(), AllocError>
+    requires { IsValid (image_of parts.now) }
+    ensures { OnOk result (out.new.items
+        ≡ put_all (header_pieces (image_of parts.now)) out.old.items) }
+{
+    let mut bytes = [0; 64];
+    write_ehdr(&header_of(parts), &mut bytes);
+    put_bytes(out, 0, &bytes)?;
+    let read_only = parts.rodata_end();
+    put_segment(out, 64, &load(4, 0, read_only, read_only))?;
+    let code = parts.code_bytes();
+    put_segment(out, 120, &load(5, parts.code_place(), code, code))?;
+    let dynamic = parts.dynamic_place();
+    let filesz = parts.file_end() - dynamic;
+    let memsz = parts.memory_end() - dynamic;
+    put_segment(out, 176, &load(6, dynamic, filesz, memsz))?;
+    put_segment(out, 232, &dynamic_segment(dynamic, parts.dynamic_bytes()))?;
+    Ok(())
+}
+
+fn header_of(parts: &ImageParts) -> Ehdr
+    ensures { result ≡ header (image_of parts.now) }
+{
+    Ehdr {
+        ident: [0x7f, b'E', b'L', b'F', 2, 1, 1, 0, 0, 0, 0, 0, 0, 0, 0, 0],
+        kind: 3,
+        machine: 183,
+        version: 1,
+        entry: parts.entry,
+        phoff: 64,
+        shoff: 0,
+        flags: 0,
+        ehsize: 64,
+        phentsize: 56,
+        phnum: 4,
+        shentsize: 0,
+        shnum: 0,
+        shstrndx: 0,
+    }
+}
+
+// A part that is loaded at its place.
+fn load(flags: u32, place: u64, filesz: u64, memsz: u64) -> Phdr
+    ensures { result ≡ load flags place filesz memsz }
+{
+    Phdr {
+        kind: 1,
+        flags,
+        offset: place,
+        vaddr: place,
+        paddr: place,
+        filesz,
+        memsz,
+        align: 4096,
+    }
+}
+
+// The part that the dynamic entries are.
+fn dynamic_segment(place: u64, bytes: u64) -> Phdr
+    ensures { result ≡ dynamic_at place bytes }
+{
+    Phdr {
+        kind: 2,
+        flags: 6,
+        offset: place,
+        vaddr: place,
+        paddr: place,
+        filesz: bytes,
+        memsz: bytes,
+        align: 8,
+    }
+}
+
+fn put_segment(out: &mut Vec<u8>, place: u64, segment: &Phdr) -> Result<(), AllocError>
+    ensures { OnOk result (out.new.items
+        ≡ put (piece place (bytes_of (phdr_fields segment.now))) out.old.items) }
+{
+    let mut bytes = [0; 56];
+    write_phdr(segment, &mut bytes);
+    put_bytes(out, place, &bytes)
+}
+
+// The symbol and string tables, the relocations, the descriptors and the read-only data.
+fn put_tables(out: &mut Vec<u8>, parts: &ImageParts) -> Result<(), AllocError>
+    requires { IsValid (image_of parts.now) }
+    ensures { OnOk result (out.new.items
+        ≡ put_all (table_pieces (image_of parts.now)) out.old.items) }
+{
+    put_bytes(out, SYMBOLS_PLACE, &[0; 25])?;
+    put_relocs(out, RELOCS_PLACE, &parts.relocs)?;
+    put_bytes(out, parts.descriptors_place(), parts.descriptors.as_slice())?;
+    put_bytes(out, parts.rodata_place(), parts.rodata.as_slice())?;
+    Ok(())
+}
+
+// The code, the dynamic entries and the filled bytes.
+fn put_loaded(out: &mut Vec<u8>, parts: &ImageParts) -> Result<(), AllocError>
+    requires { IsValid (image_of parts.now) }
+    ensures { OnOk result (out.new.items
+        ≡ put_all (loaded_pieces (image_of parts.now)) out.old.items) }
+{
+    put_words(out, parts.code_place(), &parts.words)?;
+    pad_to(out, parts.dynamic_place())?;
+    push_tables(out, parts)?;
+    push_descriptors(out, parts)?;
+    push_entry(out, 0, 0)?;
+    put_bytes(out, parts.filled_place(), parts.filled.as_slice())?;
+    Ok(())
+}
+
+// The entries that name the tables, and those that ask for tags.
+fn push_tables(out: &mut Vec<u8>, parts: &ImageParts) -> Result<(), AllocError>
+    requires { IsValid (image_of parts.now) }
+    ensures { OnOk result (out.new.items
+        ≡ out.old.items ++ entries_bytes (table_entries (image_of parts.now))) }
+{
+    push_entry(out, 5, STRINGS_PLACE)?;
+    push_entry(out, 6, SYMBOLS_PLACE)?;
+    push_entry(out, 10, 1)?;
+    push_entry(out, 11, 24)?;
+    push_entry(out, 7, RELOCS_PLACE)?;
+    push_entry(out, 8, parts.descriptors_place() - RELOCS_PLACE)?;
+    push_entry(out, 9, 24)?;
+    push_entry(out, 0x7000_0009, 0)?;
+    push_entry(out, 0x7000_000b, 0)?;
+    push_entry(out, 0x7000_000c, 1)?;
+    Ok(())
+}
+
+// The entries that say where the descriptors are, where there are any.
+#[tactic(auto, unfolding(crate::specs::Pieces::entries_bytes))]
+fn push_descriptors(out: &mut Vec<u8>, parts: &ImageParts) -> Result<(), AllocError>
+    requires { IsValid (image_of parts.now) }
+    ensures { OnOk result (out.new.items
+        ≡ out.old.items ++ entries_bytes (descriptor_entries (descriptors_place (image_of parts.now)) parts.now.descriptors)) }
+{
+    match parts.descriptors.as_slice() {
+        [] => Ok(()),
+        descriptors => {
+            push_entry(out, 0x7000_000d, parts.descriptors_place())?;
+            push_entry(out, 0x7000_000f, descriptors.len() as u64)?;
+            Ok(())
+        }
+    }
+}
