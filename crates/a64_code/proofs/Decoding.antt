@@ -1,22 +1,20 @@
 -- The laws of `decoded`: it is `Row`, both ways.
-use Rattle.std.proofs.Common.{◌≡◌, ℕ, ◌+◌, ◌%◌, ◌^◌, ◌<◌, Bool, true, false, List, [], ◌∷◌, Option, Some, None, cond, ◌↔◌, IfNone, ◌==◌, map, refl, ap, sym, subst, ◌∙◌, arith, bit_and, IsTrue}
+use Rattle.std.proofs.Common.{◌≡◌, ℕ, ◌+◌, ◌%◌, ◌^◌, ◌<◌, true, List, [], ◌∷◌, Option, Some, None, ◌↔◌, IfNone, refl, ap, sym, subst, ◌∙◌, arith, bit_and, IsTrue}
 use Rattle.std.specs.List.{find, slice_get}
 use Rattle.std.specs.Option.{option_map}
 use Rattle.std.proofs.lemmas.Bool.{eqb-true, eq-eqb, and_parts, ltb-true}
 use Rattle.std.proofs.lemmas.Nat.{pow_pos, mod_below}
 use Rattle.std.proofs.Math.Nat.{mod-eq_of_lt}
 use Rattle.a64_code.specs.declared.instr.Instr.{Instr}
-use Rattle.a64_code.specs.declared.table.Row.{Row as ListedRow}
-use Rattle.a64_code.specs.declared.table.TheConstants.{ROWS}
-use Rattle.a64_code.specs.Listed.{listed as listed_row}
 use Rattle.a64_code.specs.Field.{Field, AllFit, placed, values, fields_of, bits_beside}
 use Rattle.a64_code.specs.Sound.{are_apart}
 use Rattle.a64_code.specs.Table.{Encoding, encoding, row}
 use Rattle.a64_code.specs.Row.{Row, HasOneRow}
-use Rattle.a64_code.specs.Decoded.{Kind, kind, kind_of, kinds, blank, fits, made, reading, decoded}
+use Rattle.a64_code.specs.Parts.{Kind, kind_of, kinds, made}
+use Rattle.a64_code.specs.Decoded.{blank, fits, reading, decoded}
 use Rattle.a64_code.proofs.Fields.{placed-below, fields_of-placed, masked-placed}
 use Rattle.a64_code.proofs.EachRow
-use Rattle.a64_code.proofs.Search.{find-fits}
+use Rattle.a64_code.proofs.Search.{find-fits, find-passes}
 
 -- What is known of the row of an instruction.
 record RowOf (e : Encoding) : Type 0 where
@@ -70,7 +68,7 @@ reading-Row word i h =
 -- What has a row is decoded,
 pub decoded-Row : (word : ℕ) (i : Instr) → Row word i → decoded word ≡ Some i
 decoded-Row word i h =
-    let found : find (fits word) kinds ≡ Some (kind_of i) = find-fits word (kind_of i) kinds _ EachRow.kinds_differ (listed i) (Row-fits word i h) in
+    let found : find (fits word) kinds ≡ Some (kind_of i) = find-fits word (kind_of i) kinds (EachRow.place_of (kind_of i)) EachRow.kinds_differ (listed i) (Row-fits word i h) in
     rw found (ap (λ j. Some j) (reading-Row word i h))
 
 fields_of-fit : (word : ℕ) (fs : List Field) → AllFit (fields_of word fs)
@@ -90,13 +88,6 @@ fits-Row word k small h =
       spelled = rw e spelled;
     }
 
-find-passes : (word : ℕ) (ks : List Kind) (k : Kind) → find (fits word) ks ≡ Some k → fits word k ≡ true
-find-passes word [] k h = absurd (cc)
-find-passes word (x ∷ xs) k h = elim (fits word x) as (λ b. fits word x ≡ b → cond b (Some x) (find (fits word) xs) ≡ Some k → fits word k ≡ true) [
-  | true ↦ λ e same. let s : x ≡ k = cc in ap (fits word) (sym s) ∙ e
-  | false ↦ λ e same. find-passes word xs k same
-] refl h
-
 -- and what is decoded has that row.
 pub Row-decoded : (word : ℕ) (i : Instr) → word < 2 ^ 32 → decoded word ≡ Some i → Row word i
 Row-decoded word i small h = elim (find (fits word) kinds) as (λ o. find (fits word) kinds ≡ o → option_map (reading word) o ≡ Some i → Row word i) [
@@ -106,29 +97,6 @@ Row-decoded word i small h = elim (find (fits word) kinds) as (λ o. find (fits 
 
 pub one_row : (word : ℕ) → HasOneRow word
 one_row word i j hi hj = let e : Some i ≡ Some j = sym (decoded-Row word i hi) ∙ decoded-Row word j hj in cc
-
--- The program's table is the table.
-abbrev pub row_fits : ℕ → ListedRow → Bool
-row_fits word r = bit_and word r.fixed == r.base
-
-abbrev row_reading : ℕ → ListedRow → Instr
-row_reading word r = reading word (kind r.op r.wide)
-
-map-find : (word : ℕ) (ks : List Kind) → option_map (row_reading word) (find (row_fits word) (map listed_row ks)) ≡ option_map (reading word) (find (fits word) ks)
-map-find word [] = refl
-map-find word (k ∷ ks) = elim (fits word k) as (λ b. option_map (row_reading word) (cond b (Some (listed_row k)) (find (row_fits word) (map listed_row ks))) ≡ option_map (reading word) (cond b (Some k) (find (fits word) ks))) [
-  | true ↦ refl
-  | false ↦ map-find word ks
-]
-
-table-decoded : (word : ℕ) → option_map (row_reading word) (find (row_fits word) ROWS) ≡ decoded word
-table-decoded word = ap (λ rows. option_map (row_reading word) (find (row_fits word) rows)) EachRow.table_is ∙ map-find word kinds
-
-pub decoded-found : (word : ℕ) (r : ListedRow) (i : Instr) → find (row_fits word) ROWS ≡ Some r → i ≡ reading word (kind r.op r.wide) → Some i ≡ decoded word
-decoded-found word r i found e = ap (λ j. Some j) e ∙ ap (option_map (row_reading word)) (sym found) ∙ table-decoded word
-
-pub decoded_not_found : (word : ℕ) → find (row_fits word) ROWS ≡ None → None ≡ decoded word
-decoded_not_found word found = ap (option_map (row_reading word)) (sym found) ∙ table-decoded word
 
 -- The clauses of `decode`, for an answer that is `decoded`.
 pub decode-row : (word : ℕ) (o : Option Instr) → word < 2 ^ 32 → o ≡ decoded word → (i : Instr) → (o ≡ Some i) ↔ Row word i

@@ -13,7 +13,8 @@ use Rattle.a64_code.specs.Table.{encoding, row, by_width}
 use Rattle.a64_code.specs.Listed.{has_room, listed as listed_row, filled, four_values, field_at}
 use Rattle.a64_code.specs.declared.table.TheConstants.{ROWS}
 use Rattle.a64_code.specs.declared.table.Row.{Row as ListedRow}
-use Rattle.a64_code.specs.Decoded.{made, Kind, kind, kind_of, kinds, is_kind, blank, reading}
+use Rattle.a64_code.specs.Parts.{made, Kind, kind, kind_of, kinds, is_kind}
+use Rattle.a64_code.specs.Decoded.{blank, reading}
 
 -- An instruction is made again from its name, its width and the values of its fields.
 pub made-values : (i : Instr) → made (kind_of i).op (kind_of i).wide (values (encoding i).fields) ≡ i
@@ -53,7 +54,7 @@ sound k = elim k.wide as (λ w. IsTrue (is_sound (blank (kind k.op w)).base (bla
 
 -- Each row has its place in the table.
 abbrev pub place_of : Kind → ℕ
-place_of k = by_width k.wide (tag_of the_type k.op) (3 + tag_of the_type k.op)
+place_of k = by_width k.wide (tag_of the_type k.op) (50 + tag_of the_type k.op)
 
 listed_wide : (op : Op) → slice_get kinds (place_of (kind op true)) ≡ cond (is_kind (kind op true)) (Some (kind op true)) None
 listed_wide op.Svc = refl

@@ -5,7 +5,7 @@ use Rattle.a64_code.specs.declared.table.Row.{Row as ListedRow}
 use Rattle.a64_code.specs.Field.{Field, AllFit, placed}
 use Rattle.a64_code.specs.Table.{encoding}
 use Rattle.a64_code.specs.Row.{Row}
-use Rattle.a64_code.specs.Decoded.{kind_of}
+use Rattle.a64_code.specs.Parts.{kind_of}
 use Rattle.a64_code.specs.Listed.{listed, filled, four_values}
 use Rattle.a64_code.proofs.EachRow.{IsShort, is_short, four, filled-four_values, base-kind_of}
 

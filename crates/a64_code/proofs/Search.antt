@@ -1,9 +1,10 @@
 -- At most one row of the table fits a word, so the first that fits is the one.
-use Rattle.std.proofs.Common.{◌≡◌, ℕ, zero, suc, true, false, not, List, [], ◌∷◌, Some, refl, ap, sym, ◌∙◌, bit_and}
+use Rattle.std.proofs.Common.{cond, drop, ◌≡◌, ℕ, zero, suc, true, false, not, List, [], ◌∷◌, Some, refl, ap, sym, ◌∙◌, bit_and}
 use Rattle.std.specs.List.{slice_get, list_all, find}
 use Rattle.std.proofs.lemmas.Bool.{eqb-true, eq-eqb, and_parts, both_ways}
 use Rattle.std.proofs.lemmas.Nat.{and_assoc, and_comm}
-use Rattle.a64_code.specs.Decoded.{Kind, blank, fits}
+use Rattle.a64_code.specs.Parts.{Kind}
+use Rattle.a64_code.specs.Decoded.{blank, fits}
 use Rattle.a64_code.proofs.EachRow.{mask_of, differ, all_differ}
 
 -- Where two rows fit a word, their base words agree in the bits that both have fixed.
@@ -35,3 +36,29 @@ find-fits word k (x ∷ xs) (suc n) d e h =
     let p = and_parts (list_all (differ x) xs) (all_differ xs) d in
     let no : fits word x ≡ false = apart word x k (differ_at x k xs n p.0 e) h in
     rw no (find-fits word k xs n p.1 e h)
+
+differ_found : (word : ℕ) (j k : Kind) (ks : List Kind) → list_all (differ j) ks ≡ true → find (fits word) ks ≡ Some k → differ j k ≡ true
+differ_found word j k [] d e = absurd (cc)
+differ_found word j k (x ∷ xs) d e =
+    let p = and_parts (differ j x) (list_all (differ j) xs) d in
+    elim (fits word x) as (λ b. cond b (Some x) (find (fits word) xs) ≡ Some k → differ j k ≡ true) [
+      | true ↦ λ same. let s : x ≡ k = cc in ap (differ j) (sym s) ∙ p.0
+      | false ↦ λ rest. differ_found word j k xs p.1 rest
+    ] e
+
+pub find-passes : (word : ℕ) (ks : List Kind) (k : Kind) → find (fits word) ks ≡ Some k → fits word k ≡ true
+find-passes word [] k h = absurd (cc)
+find-passes word (x ∷ xs) k h = elim (fits word x) as (λ b. fits word x ≡ b → cond b (Some x) (find (fits word) xs) ≡ Some k → fits word k ≡ true) [
+  | true ↦ λ e same. let s : x ≡ k = cc in ap (fits word) (sym s) ∙ e
+  | false ↦ λ e same. find-passes word xs k same
+] refl h
+
+-- Wherever a search begins, what it finds is what a search from the start finds.
+pub find-drop : (word : ℕ) (k : Kind) (n : ℕ) (ks : List Kind) → all_differ ks ≡ true → find (fits word) (drop n ks) ≡ Some k → find (fits word) ks ≡ Some k
+find-drop word k zero ks d e = e
+find-drop word k (suc n) [] d e = absurd (cc)
+find-drop word k (suc n) (x ∷ xs) d e =
+    let p = and_parts (list_all (differ x) xs) (all_differ xs) d in
+    let found = find-drop word k n xs p.1 e in
+    let no : fits word x ≡ false = apart word x k (differ_found word x k xs p.0 found) (find-passes word xs k found) in
+    rw no found

@@ -7,9 +7,11 @@ pub record Field : Type 0 where
   pub width : ℕ
   pub value : ℕ
 
+-- A field by its lowest bit, its number of bits and its value.
 abbrev pub at : ℕ → ℕ → ℕ → Field
 at low width value = record { low = low; width = width; value = value }
 
+-- What the fields hold.
 abbrev pub values : List Field → List ℕ
 values [] = []
 values (f ∷ fs) = f.value ∷ values fs
@@ -19,7 +21,7 @@ abbrev pub AllFit : List Field → Type 0
 AllFit [] = Unit {0}
 AllFit (f ∷ fs) = (f.value < 2 ^ f.width) × AllFit fs
 
--- The fields at their places.
+-- The fields at their places, in a word that is otherwise zero.
 abbrev pub placed : List Field → ℕ
 placed [] = 0
 placed (f ∷ fs) = f.value * 2 ^ f.low + placed fs
@@ -28,7 +30,7 @@ placed (f ∷ fs) = f.value * 2 ^ f.low + placed fs
 abbrev pub bits : ℕ → ℕ → ℕ → ℕ
 bits word low width = word / 2 ^ low % 2 ^ width
 
--- The fields as a word has them.
+-- The same fields with what a word holds there.
 abbrev pub fields_of : ℕ → List Field → List Field
 fields_of word [] = []
 fields_of word (f ∷ fs) = at f.low f.width (bits word f.low f.width) ∷ fields_of word fs

@@ -2,7 +2,10 @@ pub mod Field
 pub mod Sound
 pub mod Table
 pub mod Row
+pub mod Parts
 pub mod Decoded
 pub mod Listed
+pub mod StackPointer
+pub mod Instruction
 pub mod State
 pub mod Step

@@ -4,7 +4,8 @@ use Rattle.a64_code.specs.declared.place.Place.{Place}
 use Rattle.a64_code.specs.declared.table.Row.{Row as ListedRow}
 use Rattle.a64_code.specs.Field.{Field, at, bits_beside}
 use Rattle.a64_code.specs.Sound.{is_sound}
-use Rattle.a64_code.specs.Decoded.{Kind, blank}
+use Rattle.a64_code.specs.Parts.{Kind}
+use Rattle.a64_code.specs.Decoded.{blank}
 
 -- A field that holds nothing.
 abbrev pub nothing : Field

@@ -1,9 +1,9 @@
 ghost use Rattle.std.specs.Prelude.{◌≡◌, ◌↔◌, ℕ, IfSome, IfNone};
 ghost use Rattle.a64_code.specs.Row.{Row, HasOneRow};
-ghost use Rattle.a64_code.specs.Decoded.{decoded};
+ghost use Rattle.a64_code.specs.Instruction.{instruction_of};
 
+use crate::find::row_of;
 use crate::instr::Instr;
-use crate::table;
 
 /// The word of an instruction; None exactly where a field is out of its row's range.
 pub fn encode(instr: Instr) -> Option<u32>
@@ -19,8 +19,8 @@ pub fn decode(word: u32) -> Option<Instr>
     ensures row { (instr : Instr) → ((result ≡ Some instr) ↔ Row word instr) }
     ensures none { IfNone result ((instr : Instr) → ¬ Row word instr) }
     ensures one_row { HasOneRow word }
-    ensures computes { result ≡ decoded word }
+    ensures instruction { result ≡ instruction_of word }
 {
-    let row = table::find(word)?;
+    let row = row_of(word)?;
     Some(row.op.reading(row.wide, word))
 }

@@ -3,11 +3,17 @@
 
 mod code;
 mod end;
+mod find;
+mod first_rows;
 mod instr;
 mod op;
+mod parts;
 mod place;
+mod reading;
+mod register;
 mod table;
 
 pub use code::{decode, encode};
 pub use end::MachineEnd;
 pub use instr::{Instr, Reg};
+pub use register::RegisterField;

@@ -1,19 +1,63 @@
 ghost use Rattle.std.specs.Prelude.{◌≡◌, ◌≤◌, IsTrue};
-ghost use Rattle.a64_code.specs.Field.{bits};
-ghost use Rattle.a64_code.specs.Table.{by_width};
-ghost use Rattle.a64_code.specs.Decoded.{kind, is_kind, reading};
+ghost use Rattle.a64_code.specs.Parts.{kind, is_kind};
 ghost use Rattle.a64_code.specs.Listed.{listed};
 
-use crate::instr::{Instr, Reg};
-use crate::place::{HW, HW_NARROW, IMM16, Place, RD};
-use crate::table::{ROWS, Row};
+use crate::table::{ROWS, Row, WIDE_ROWS};
 
-/// An instruction's name, without its fields. Those with a form on 32 bits come first.
+/// An instruction's name, without its fields. Those with a form on 32 bits come first, and those whose words agree in
+/// their upper nine bits stand together.
 #[derive(Clone, Copy)]
 pub enum Op {
     Movz,
     Movk,
+    Movn,
+    AddImm,
+    SubImm,
+    SubsImm,
+    AddReg,
+    SubReg,
+    SubsReg,
+    AndReg,
+    OrrReg,
+    EorReg,
+    Sbfm,
+    Ubfm,
+    Cbz,
+    Cbnz,
+    Ldr,
+    Str,
+    Madd,
+    Msub,
+    Csinc,
+    Lslv,
+    Lsrv,
+    Asrv,
+    Udiv,
+    Sdiv,
+    Irg,
+    Ldrb,
+    Strb,
+    Ldrh,
+    Strh,
+    Ldrsw,
+    Ldrsb,
+    Ldrsh,
+    Stp,
+    Ldp,
+    B,
+    Bl,
+    BCond,
+    Adrp,
+    Ret,
+    Nop,
     Svc,
+    Addg,
+    Subg,
+    Stg,
+    Stzg,
+    Ldg,
+    St2g,
+    Stz2g,
 }
 
 impl Op {
@@ -25,46 +69,8 @@ impl Op {
         let index = if wide {
             self as usize
         } else {
-            3 + self as usize
+            WIDE_ROWS + self as usize
         };
         &ROWS[index]
     }
-
-    /// The instruction of this name and width, with its fields as a word has them.
-    pub fn reading(self, wide: bool, word: u32) -> Instr
-        ensures { result ≡ reading word (kind self wide) }
-    {
-        match self {
-            Op::Movz => Instr::Movz {
-                wide,
-                hw: hw(wide).byte_of(word),
-                imm16: IMM16.half_of(word),
-                rd: register(RD, word),
-            },
-            Op::Movk => Instr::Movk {
-                wide,
-                hw: hw(wide).byte_of(word),
-                imm16: IMM16.half_of(word),
-                rd: register(RD, word),
-            },
-            Op::Svc => Instr::Svc {
-                imm16: IMM16.half_of(word),
-            },
-        }
-    }
-}
-
-/// The shift of a wide move: two bits on 64 bits, and one on 32.
-fn hw(wide: bool) -> Place
-    ensures { result ≡ record { low = 21; width = by_width wide 2 1 } }
-{
-    if wide { HW } else { HW_NARROW }
-}
-
-fn register(place: Place, word: u32) -> Reg
-    requires low { place.low ≤ 26 }
-    requires width { place.width ≡ 5 }
-    ensures { result.0 ≡ bits word place.low 5 }
-{
-    Reg(place.byte_of(word))
 }

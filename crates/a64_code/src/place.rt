@@ -10,14 +10,50 @@ pub struct Place {
 
 /// No field, where a row has fewer than four.
 pub const NONE: Place = Place { low: 0, width: 0 };
-
+/// Rd or Rt.
 pub const RD: Place = Place { low: 0, width: 5 };
+
+pub const RN: Place = Place { low: 5, width: 5 };
+/// Ra or Rt2.
+pub const RA: Place = Place { low: 10, width: 5 };
+
+pub const RM: Place = Place { low: 16, width: 5 };
+
+pub const SH: Place = Place { low: 22, width: 1 };
+
+pub const IMM12: Place = Place { low: 10, width: 12 };
 
 pub const IMM16: Place = Place { low: 5, width: 16 };
 
 pub const HW: Place = Place { low: 21, width: 2 };
 
 pub const HW_NARROW: Place = Place { low: 21, width: 1 };
+
+pub const IMMR: Place = Place { low: 16, width: 6 };
+
+pub const IMMR_NARROW: Place = Place { low: 16, width: 5 };
+
+pub const IMMS: Place = Place { low: 10, width: 6 };
+
+pub const IMMS_NARROW: Place = Place { low: 10, width: 5 };
+
+pub const COND: Place = Place { low: 12, width: 4 };
+
+pub const BRANCH_COND: Place = Place { low: 0, width: 4 };
+
+pub const IMM7: Place = Place { low: 15, width: 7 };
+/// A branch's offset, or the upper part of a page's.
+pub const IMM19: Place = Place { low: 5, width: 19 };
+
+pub const IMM26: Place = Place { low: 0, width: 26 };
+
+pub const IMMLO: Place = Place { low: 29, width: 2 };
+
+pub const UIMM6: Place = Place { low: 16, width: 6 };
+
+pub const UIMM4: Place = Place { low: 10, width: 4 };
+
+pub const SIMM9: Place = Place { low: 12, width: 9 };
 
 impl Place {
     /// The number that stands here in a word.

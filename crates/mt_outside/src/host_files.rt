@@ -1,9 +1,9 @@
 // The files of the host.
-ghost use Rattle.std.specs.Prelude.{◌≡◌, ◌≢◌, ◌≤◌, ℕ, List, Option, None, IfSome};
+ghost use Rattle.std.specs.Prelude.{IfOk, length, ◌≡◌, ◌≢◌, ◌≤◌, ℕ, List, Option, None, IfSome};
 ghost use Rattle.mt_outside.specs.Told.{Rose, WhereTold};
 ghost use Rattle.mt_outside.specs.Counts.{one_more};
 ghost use Rattle.mt_outside.specs.Files.{Contents, ReadGives, WriteGives};
-ghost use Rattle.mt_outside.specs.HostFiles.{host_read_faults, host_write_faults};
+ghost use Rattle.mt_outside.specs.HostFiles.{host_read_faults, host_write_faults, IsWithin};
 
 use crate::calls::one_more;
 use crate::{Files, ReadAnswer, WriteAnswer};
@@ -50,6 +50,7 @@ impl<R: rt::Files> Files for HostFiles<R> {
         ensures uncounted { result ≢ ReadAnswer.Failed
             → host_read_faults self.new ≡ host_read_faults self.old }
         ensures writes { host_write_faults self.new ≡ host_write_faults self.old }
+        ensures limit { IsWithin MOST_BYTES result }
     {
         match read_whole(&self.runtime, alloc, name) {
             Ok(bytes) => ReadAnswer::Got(bytes),
@@ -83,7 +84,9 @@ impl<R: rt::Files> Files for HostFiles<R> {
 }
 
 // The bytes of a file. One that is too large fails before it is read, where its size is known, and else at the limit.
-fn read_whole<R: rt::Files>(runtime: &R, alloc: Global, name: &str) -> io::Result<Vec<u8>> {
+fn read_whole<R: rt::Files>(runtime: &R, alloc: Global, name: &str) -> io::Result<Vec<u8>>
+    ensures { IfOk result (λ bytes. length bytes.items ≤ MOST_BYTES) }
+{
     let file = fs::open(runtime, name)?;
     if file.metadata()?.len() > MOST_BYTES {
         return Err(ErrorKind::FileTooLarge.into());

@@ -1,6 +1,9 @@
+pub mod Asked
 pub mod Digits
 pub mod Line
-pub mod Pair
-pub mod Spelled
+pub mod Encoded
 pub mod ConstantRun
-pub mod GoAnswers
+pub mod Words
+pub mod Jobs
+pub mod Causes
+pub mod Written

@@ -1,25 +1,21 @@
--- The code of a program that returns one constant.
-use Rattle.std.specs.Prelude.{ℕ, ◌/◌, ◌%◌, ◌^◌, false, nat_lt, if◌then◌else◌, List, [], ◌∷◌, ◌++◌}
-use Rattle.a64_code.specs.declared.instr.Instr.{Instr}
+-- The code of a constant as instructions (this project's own): its words are those of `movz w0`, `movk w0` with its
+-- halfword at bit 16, and `svc #3`.
+use Rattle.std.specs.Prelude.{◌<◌, ℕ, false, refl}
+use Rattle.std.proofs.Common.{arith}
 use Rattle.a64_code.specs.declared.instr.Instr.TheVariants.{Movz, Movk, Svc}
 use Rattle.a64_code.specs.declared.instr.Reg.{Reg}
 use Rattle.a64_code.specs.Row.{Row}
+use Rattle.elf_image.specs.Constant.{movz_word, movk_word, svc_word}
 
 -- register 0, which holds the status at the end
 abbrev pub status_register : Reg
 status_register = record { 0 = 0 }
 
--- the upper half of the constant, where there is one
-abbrev pub upper_half : ℕ → List Instr
-upper_half n = if nat_lt n 65536 then [] else Movk false 1 (n / 65536) status_register ∷ []
+pub movz_row : (low : ℕ) → low < 65536 → Row (movz_word low) (Movz false 0 low status_register)
+movz_row low within = record { within = (omega arith, (omega arith, (omega arith, tt))); spelled = omega arith }
 
--- the constant into register 0, and the service that ends the program
-abbrev pub constant_code : ℕ → List Instr
-constant_code n = Movz false 0 (n % 65536) status_register ∷ (upper_half n ++ Svc 3 ∷ [])
+pub movk_row : (high : ℕ) → high < 65536 → Row (movk_word high) (Movk false 1 high status_register)
+movk_row high within = record { within = (omega arith, (omega arith, (omega arith, tt))); spelled = omega arith }
 
--- these words spell these instructions, one each
-abbrev pub Spell : List ℕ → List Instr → Type 0
-Spell [] [] = Unit {0}
-Spell (word ∷ words) (instr ∷ instrs) = Row word instr × Spell words instrs
-Spell [] (instr ∷ instrs) = ⊥
-Spell (word ∷ words) [] = ⊥
+pub svc_row : Row svc_word (Svc 3)
+svc_row = record { within = (omega arith, tt); spelled = refl }

@@ -1,41 +1,47 @@
--- What the command `go` answers: the program's own status, or another answer with its cause.
-use Rattle.std.specs.Prelude.{◌≡◌, ◌⊎◌, ℕ, ◌%◌, List, Option, Some, None, IfSome}
-use Rattle.std.specs.Option.{option_and_then}
-use Rattle.mt_outside.specs.Told.{Rose}
-use Rattle.mt_outside.specs.Files.{Contents}
+-- What the command `go` answers: the end of the program's run, or another answer with its cause (this project's own).
+use Rattle.std.specs.Prelude.{◌≡◌, ◌⊎◌, ◌≤◌, ℕ, ◌%◌, List, Some, None, IfSome}
+use Rattle.elf_image.specs.Constant.{constant_image}
+use Rattle.elf_image.specs.Image.{Image}
+use Rattle.mte_machine.specs.Run.{run, end_of}
+use Rattle.tag_startup.specs.Loaded.{loaded}
 use Rattle.mt_pipeline.specs.Constant.{ReturnsConstant}
+use Rattle.mt_pipeline.specs.Defaults.{default_choices, default_stack}
+use Rattle.mt_pipeline.specs.Seen.{Seen, bytes_of, HoldsSome, ReadFailed, SameFiles, IsSilent}
+use Rattle.mt_pipeline.specs.Status.{ended_by}
 use Rattle.mt_pipeline.specs.declared.ended.Ended.{Ended}
 use Rattle.mt_pipeline.specs.declared.ended.Why.{Why}
-use Rattle.mt_pipeline.specs.declared.ended.Why.TheVariants.{Exited, Usage, Refused, NoFile, NoMemory, ReadFault, BadCode, OutOfSteps}
+use Rattle.mt_pipeline.specs.declared.ended.Why.TheVariants.{Exited, Refused, NoFile, NoMemory, ReadFault, OutOfSteps}
 
--- the bytes of a file, where they are told and there is such a file
-abbrev pub bytes_of : Option Contents → List ℕ → Option (List ℕ)
-bytes_of told file = option_and_then (λ files. files file) told
+-- what is answered to the run of an image by the default choices and stack, for at most so many steps
+abbrev pub run_answer : Image → ℕ → Ended
+run_answer image steps = ended_by (end_of (run steps (loaded image default_choices default_stack)))
 
--- where the files are told, this one holds bytes of which this is true
-abbrev pub HoldsSome : Option Contents → List ℕ → (List ℕ → Type 0) → Type 0
-HoldsSome told file Holds = IfSome told (λ files. (bytes : List ℕ) × (files file ≡ Some bytes) × Holds bytes)
+-- no constant is returned by a program of this text
+abbrev pub IsNoProgram : List ℕ → Type 0
+IsNoProgram bytes = (n : ℕ) → ¬ ReturnsConstant bytes n
 
--- The cause of each answer, where `faults` counts the reads that have failed before the call and `after` those after it.
-abbrev pub CauseOfGo : Option Contents → List ℕ → (faults after status : ℕ) → Why → Type 0
-CauseOfGo told file faults after status Exited =
-    HoldsSome told file (λ bytes. (n : ℕ) × ReturnsConstant bytes n × (status ≡ n % 256))
-CauseOfGo told file faults after status (Refused which number place) =
-    (which ≡ 0) × (number ≡ 44) × (place ≡ 0) × HoldsSome told file (λ bytes. (n : ℕ) → ¬ ReturnsConstant bytes n)
-CauseOfGo told file faults after status (NoFile which) = (which ≡ 0) × IfSome told (λ files. files file ≡ None)
-CauseOfGo told file faults after status (ReadFault which) = (which ≡ 0) × Rose faults after
-CauseOfGo told file faults after status NoMemory = Unit {0}
-CauseOfGo told file faults after status Usage = ⊥
-CauseOfGo told file faults after status (BadCode at) = ⊥
-CauseOfGo told file faults after status OutOfSteps = ⊥
+-- The cause of an answer, by its reason. A file is named by its place among those that the job reads.
+abbrev pub CauseOfGo : {S K : Type 0} → List ℕ → ℕ → Seen S K → Seen S K → Ended → Why → Type 0
+CauseOfGo file steps before after ended Exited =
+    HoldsSome before.files file (λ bytes. (n : ℕ) × ReturnsConstant bytes n × (ended ≡ run_answer (constant_image n) steps))
+CauseOfGo file steps before after ended OutOfSteps =
+    HoldsSome before.files file (λ bytes. (n : ℕ) × ReturnsConstant bytes n × (ended ≡ run_answer (constant_image n) steps))
+CauseOfGo file steps before after ended (Refused place number byte) =
+    (place ≡ 0) × (number ≡ 44) × (byte ≡ 0) × HoldsSome before.files file IsNoProgram
+CauseOfGo file steps before after ended (NoFile place) = (place ≡ 0) × IfSome before.files (λ files. files file ≡ None)
+CauseOfGo file steps before after ended (ReadFault place) = (place ≡ 0) × ReadFailed before after
+CauseOfGo file steps before after ended NoMemory = Unit {0}
+CauseOfGo file steps before after ended _ = ⊥
 
 -- What `go` of a file answers, and what it leaves.
-pub record GoAnswers {S K : Type 0} (told : Option Contents) (file : List ℕ) (faults after : ℕ) (input input' : S) (out out' : K) (ended : Ended) : Type 0 where
-  -- Where the file holds the text of a constant and no read failed, the program exits with it modulo 256, or memory is wanting.
-  pub exits : (bytes : List ℕ) (n : ℕ) → bytes_of told file ≡ Some bytes → ReturnsConstant bytes n → ¬ Rose faults after →
+pub record GoAnswers {S K : Type 0} (file : List ℕ) (steps : ℕ) (before after : Seen S K) (ended : Ended) : Type 0 where
+  -- Where the file holds the text of a constant and no read failed, the program runs, or memory is wanting.
+  pub runs : (bytes : List ℕ) (n : ℕ) → bytes_of before.files file ≡ Some bytes → ReturnsConstant bytes n → ¬ ReadFailed before after →
+      (ended ≡ run_answer (constant_image n) steps) ⊎ (ended.why ≡ NoMemory)
+  -- It exits with the constant modulo 256 where three steps may run.
+  pub exits : (bytes : List ℕ) (n : ℕ) → bytes_of before.files file ≡ Some bytes → ReturnsConstant bytes n → ¬ ReadFailed before after → 3 ≤ steps →
       (ended ≡ record { status = n % 256; why = Exited }) ⊎ (ended.why ≡ NoMemory)
   -- Each answer comes only by its cause.
-  pub cause : CauseOfGo told file faults after ended.status ended.why
-  -- The program takes no input, and has no output.
-  pub takes_nothing : input' ≡ input
-  pub puts_nothing : out' ≡ out
+  pub cause : CauseOfGo file steps before after ended ended.why
+  pub silent : IsSilent before after
+  pub files : SameFiles before.files after.files

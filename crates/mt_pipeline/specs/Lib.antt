@@ -1,8 +1,16 @@
+pub mod Seen
 pub mod Constant
+pub mod Number
+pub mod Defaults
 pub mod Job
 pub mod Command
 pub mod Code
+pub mod Built
+pub mod Read
 pub mod Status
-pub mod Go
 pub mod Answer
 pub mod NoWords
+pub mod Go
+pub mod Build
+pub mod Run
+pub mod Usage

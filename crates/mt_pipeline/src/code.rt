@@ -1,24 +1,12 @@
-// From the text of a constant to code, and its run.
-ghost use Rattle.std.specs.Prelude.{◌≡◌, ◌%◌, ◌^◌, ◌≤◌, ℕ, List, [], ◌∷◌, ◌++◌, IfOk, IsErrOf, OnOk};
+// The code of a program that returns a constant.
+ghost use Rattle.std.specs.Prelude.{◌≡◌, ◌≤◌, ℕ, [], ◌∷◌, ◌++◌, IfOk, OnOk};
 ghost use Rattle.a64_code.specs.Field.{AllFit};
+ghost use Rattle.a64_code.specs.Row.{Row};
 ghost use Rattle.a64_code.specs.Table.{encoding};
-ghost use Rattle.a64_code.specs.declared.instr.Instr.{Instr};
-ghost use Rattle.mt_pipeline.specs.declared.refusal.CompileRefusal.TheVariants.{NoMemory};
-ghost use Rattle.mt_pipeline.specs.Code.{constant_code, Spell};
-ghost use Rattle.mt_pipeline.specs.Constant.{ReturnsConstant};
+ghost use Rattle.elf_image.specs.Constant.{constant_code};
 
-use crate::constant::constant_of;
-use crate::refusal::CompileRefusal;
 use a64_code::{Instr, Reg, encode};
-use mt_outside::{Sink, Source};
-use mte_machine::{Machine, MachineEnd};
 use std::alloc::{AllocError, Global};
-
-/// Where the code stands in the machine.
-const LOAD_ADDRESS: u64 = 0x1000_0000;
-
-/// The steps that a run may take.
-const STEPS: u64 = 100_000_000;
 
 /// The register that holds the status at the end.
 const STATUS: Reg = Reg(0);
@@ -26,20 +14,11 @@ const STATUS: Reg = Reg(0);
 /// The service that ends the program.
 const EXIT: u16 = 3;
 
-/// The code of a text.
-pub fn build(alloc: Global, text: &[u8]) -> Result<Vec<u32>, CompileRefusal>
-    ensures ok { IfOk result (λ words. (n : ℕ) × ReturnsConstant text.now n × Spell words.items (constant_code n)) }
-    ensures not_yet { IsErrOf result CompileRefusal.NotYet → (n : ℕ) → ¬ ReturnsConstant text.now n }
-{
-    match constant_of(text) {
-        Some(n) => Ok(code_of(alloc, n)?),
-        None => Err(CompileRefusal::NotYet),
-    }
-}
-
-// The code of a program that returns a constant.
-fn code_of(alloc: Global, n: u32) -> Result<Vec<u32>, AllocError>
-    ensures { IfOk result (λ words. Spell words.items (constant_code n)) }
+/// The words of a program that returns a constant: its halves into register 0, of which the upper one is left out where
+/// it is zero, and the service that ends the program.
+pub fn words_of(alloc: Global, n: u32) -> Result<Vec<u32>, AllocError>
+    requires { n ≤ 2147483647 }
+    ensures { IfOk result (λ words. words.items ≡ constant_code n) }
 {
     let mut words = Vec::new(alloc);
     let low = Instr::Movz {
@@ -49,7 +28,7 @@ fn code_of(alloc: Global, n: u32) -> Result<Vec<u32>, AllocError>
         rd: STATUS,
     };
     put(&mut words, low)?;
-    if n >= 0x1_0000 {
+    if n > 0xffff {
         let high = Instr::Movk {
             wide: false,
             hw: 1,
@@ -63,20 +42,11 @@ fn code_of(alloc: Global, n: u32) -> Result<Vec<u32>, AllocError>
 }
 
 // One more instruction.
-#[tactic(auto, using(crate::proofs::Spelled::has_word))]
+#[tactic(auto, using(crate::proofs::Encoded::has_word))]
 fn put(words: &mut Vec<u32>, instr: Instr) -> Result<(), AllocError>
     requires { AllFit (encoding instr).fields }
-    ensures { OnOk result ((instrs : List Instr) → Spell words.old.items instrs → Spell words.new.items (instrs ++ instr ∷ [])) }
+    ensures { OnOk result ((word : ℕ) × Row word instr × (words.new.items ≡ words.old.items ++ word ∷ [])) }
 {
     words.push(encode(instr).unwrap())?;
     Ok(())
-}
-
-/// Runs words that stand from the load address on, from the first of them.
-pub fn run<S: Source, K: Sink>(words: Vec<u32>, input: &mut S, out: &mut K) -> MachineEnd
-    ensures exits { (n : ℕ) → n ≤ 2147483647 → Spell words.items (constant_code n) → result ≡ MachineEnd.Exited (n % 2 ^ 8) }
-    ensures input { input.new ≡ input.old }
-    ensures output { out.new ≡ out.old }
-{
-    Machine::new(words, LOAD_ADDRESS, LOAD_ADDRESS).run(input, out, STEPS)
 }

@@ -1,16 +1,20 @@
 // The top call.
 ghost use Rattle.std.specs.Prelude.{◌≡◌, ◌↔◌, ℕ, List, map};
 ghost use Rattle.std.specs.String.{string_bytes};
-ghost use Rattle.mt_pipeline.specs.Job.{Job, Go, HasJob};
 ghost use Rattle.mt_pipeline.specs.Answer.{ended_of};
+ghost use Rattle.mt_pipeline.specs.Build.{BuildAnswers};
 ghost use Rattle.mt_pipeline.specs.Go.{GoAnswers};
+ghost use Rattle.mt_pipeline.specs.Job.{Job, Go, Build, Run, HasJob};
 ghost use Rattle.mt_pipeline.specs.NoWords.{why_without_words};
-ghost use Rattle.mt_pipeline.specs.Status.{status_of};
+ghost use Rattle.mt_pipeline.specs.Run.{RunAnswers};
+ghost use Rattle.mt_pipeline.specs.Seen.{seen};
+ghost use Rattle.mt_pipeline.specs.Status.{HasNoLine, status_of};
+ghost use Rattle.mt_pipeline.specs.Usage.{UsageAnswers};
 
 use crate::answer::Answer;
 use crate::command::{Command, command_of};
+use crate::commands::{go, run_file, write_built};
 use crate::ended::{Ended, Why};
-use crate::go::go;
 use crate::report::report;
 use mt_outside::{Files, Sink, Source};
 use std::alloc::Global;
@@ -26,17 +30,33 @@ pub fn drive<F: Files, S: Source, K: Sink, E: Sink>(
     err: &mut E,
 ) -> Ended
     ensures usage { (result.why ≡ Why.Usage) ↔ ((job : Job) → ¬ HasJob (map string_bytes words.now) job) }
+    ensures no_job { ((job : Job) → ¬ HasJob (map string_bytes words.now) job) →
+        UsageAnswers (seen F.told F.read_faults F.write_faults files.old input.old out.old)
+        (seen F.told F.read_faults F.write_faults files.new input.new out.new) }
 
-    ensures go { (file : List ℕ) → HasJob (map string_bytes words.now) (Go file) →
-        GoAnswers (F.told files.old) file (F.read_faults files.old) (F.read_faults files.new) input.old input.new out.old out.new result }
+    ensures go { (file : List ℕ) (steps : ℕ) → HasJob (map string_bytes words.now) (Go file steps) →
+        GoAnswers file steps (seen F.told F.read_faults F.write_faults files.old input.old out.old)
+        (seen F.told F.read_faults F.write_faults files.new input.new out.new) result }
+    ensures build { (file out_file : List ℕ) → HasJob (map string_bytes words.now) (Build file out_file) →
+        BuildAnswers file out_file (seen F.told F.read_faults F.write_faults files.old input.old out.old)
+        (seen F.told F.read_faults F.write_faults files.new input.new out.new) result }
+    ensures run { (image : List ℕ) (steps : ℕ) → HasJob (map string_bytes words.now) (Run image steps) →
+        RunAnswers image steps (seen F.told F.read_faults F.write_faults files.old input.old out.old)
+        (seen F.told F.read_faults F.write_faults files.new input.new out.new) result }
 
     ensures status { result.status ≡ status_of result.status result.why }
-    ensures quiet { result.why ≡ Why.Exited → err.new ≡ err.old }
-    ensures kept { F.told files.new ≡ F.told files.old }
-    ensures writes { F.write_faults files.new ≡ F.write_faults files.old }
+    ensures quiet { HasNoLine result.why → err.new ≡ err.old }
 {
     match command_of(words) {
-        Some(Command::Go { file }) => finish(err, file, go(alloc, file, files, input, out)),
+        Some(Command::Go { file, steps }) => {
+            finish(err, file, go(alloc, file, steps, files, input, out))
+        }
+        Some(Command::Build { file, out: image }) => {
+            finish_build(err, file, image, write_built(alloc, file, image, files))
+        }
+        Some(Command::Run { image, steps }) => {
+            finish(err, image, run_file(alloc, image, steps, files, input, out))
+        }
         None => finish(err, "", Answer::Usage),
     }
 }
@@ -61,10 +81,21 @@ pub fn end_without_words<E: Sink>(err: &mut E, cause: NoWords) -> Ended
     }
 }
 
+// The same of an answer of `build`, whose line names the file that could not be written.
+fn finish_build<E: Sink>(err: &mut E, file: &str, image: &str, answer: Answer) -> Ended
+    ensures ended { result ≡ ended_of answer }
+    ensures quiet { HasNoLine result.why → err.new ≡ err.old }
+{
+    match answer {
+        Answer::WriteFault { .. } => finish(err, image, answer),
+        _ => finish(err, file, answer),
+    }
+}
+
 // Puts the line of an answer, and ends with it.
 fn finish<E: Sink>(err: &mut E, file: &str, answer: Answer) -> Ended
     ensures ended { result ≡ ended_of answer }
-    ensures quiet { result.why ≡ Why.Exited → err.new ≡ err.old }
+    ensures quiet { HasNoLine result.why → err.new ≡ err.old }
 {
     report(err, file, &answer);
     answer.ended()

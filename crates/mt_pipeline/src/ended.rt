@@ -1,9 +1,11 @@
 // How a call of the program ends.
-ghost use Rattle.std.specs.Prelude.{◌≡◌};
 
-/// Why a call of the program ended. A file is named by its place among the job's files, from 0.
+/// Why a call of the program ended. A file is named by its place, from 0, among those that the job reads, and at
+/// `WriteFault` among those that it writes.
 #[derive(Clone, Copy, Debug, PartialEq, Eq)]
 pub enum Why {
+    /// The file that was asked for is written.
+    Done,
     /// The program that was run ended itself.
     Exited,
     /// The words ask for nothing that there is.
@@ -12,8 +14,12 @@ pub enum Why {
     Refused { file: u32, number: u8, place: u32 },
     /// There is no such file.
     NoFile { file: u32 },
+    /// An image is refused, by the refusal's number, at this place.
+    BadImage { file: u32, number: u8, place: u64 },
     /// Want of memory.
     NoMemory,
+    /// A file could not be written.
+    WriteFault { file: u32 },
     /// A file could not be read.
     ReadFault { file: u32 },
     /// No instruction stands at this address of the machine.

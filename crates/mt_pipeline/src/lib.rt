@@ -4,13 +4,20 @@
 mod answer;
 mod code;
 mod command;
+mod commands;
 mod constant;
 mod driver;
 mod ended;
-mod go;
+mod image;
+mod read;
 mod refusal;
 mod report;
+mod runner;
+mod source;
 
 pub use driver::{NoWords, drive, end_without_words};
 pub use ended::{Ended, Why};
-pub use refusal::CompileRefusal;
+pub use image::build;
+pub use refusal::{CompileRefusal, RunRefusal};
+pub use runner::run_image;
+pub use source::SourceText;

@@ -1,8 +1,8 @@
-// Why a source is refused.
-ghost use Rattle.std.specs.Prelude.{◌≡◌};
-ghost use Rattle.mt_pipeline.specs.Answer.{number_of};
+// Why a source or an image is refused.
 
+use elf_image::ImageRefusal;
 use std::alloc::AllocError;
+use tag_startup::StartRefusal;
 use thiserror::Error;
 
 /// Why a source is refused.
@@ -16,16 +16,18 @@ pub enum CompileRefusal {
     NoMemory,
 }
 
-impl CompileRefusal {
-    /// The number of this refusal; 0 for want of memory, which is no refusal of the source.
-    pub fn number(&self) -> u8
-        ensures { result ≡ number_of self.now }
-    {
-        match self {
-            CompileRefusal::NotYet => 44,
-            CompileRefusal::NoMemory => 0,
-        }
-    }
+/// Why an image does not run.
+#[derive(Debug, Drop, Error)]
+pub enum RunRefusal {
+    /// Its bytes are no image that is read today.
+    #[error("{0}")]
+    Image(ImageRefusal),
+    /// It does not start.
+    #[error("{0}")]
+    Start(StartRefusal),
+    /// Want of memory.
+    #[error("NoMemory")]
+    NoMemory,
 }
 
 impl From<AllocError> for CompileRefusal {

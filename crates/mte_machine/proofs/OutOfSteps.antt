@@ -22,6 +22,7 @@ effect-ends : (instr : Instr) (s : State) → EndsOfItself (effect instr s)
 effect-ends (Movz wide hw imm16 rd) s = tt
 effect-ends (Movk wide hw imm16 rd) s = tt
 effect-ends (Svc imm16) s = service-ends (imm16 == 3) _ s.pc
+effect-ends _ s = λ same. let differ : BadCode s.pc ≡ OutOfSteps = same in cc
 
 carried_out-ends : (instr : Option Instr) (s : State) → EndsOfItself (carried_out instr s)
 carried_out-ends None s = λ same. let differ : BadCode s.pc ≡ OutOfSteps = same in cc

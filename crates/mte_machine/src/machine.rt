@@ -1,7 +1,7 @@
 // The machine: its state, one step, and a run.
 ghost use Rattle.std.specs.Prelude.{◌≡◌, ◌↔◌, ◌%◌, ◌*◌, ◌^◌, ◌<◌};
-ghost use Rattle.a64_code.specs.State.{State, general, with_general, advanced};
-ghost use Rattle.a64_code.specs.Step.{effect, fetched, operand, step, with_halfword};
+ghost use Rattle.a64_code.specs.State.{State, general, of_width, with_general, with_result, advanced};
+ghost use Rattle.a64_code.specs.Step.{effect, fetched, step, with_halfword};
 ghost use Rattle.a64_code.specs.Field.{AllFit};
 ghost use Rattle.a64_code.specs.Table.{encoding};
 ghost use Rattle.std.specs.Prelude.{IfSome};
@@ -88,8 +88,13 @@ impl Machine {
         ensures { StepsAs (effect instr (state_of self.old)) (state_of self.old) result (state_of self.new) }
     {
         match instr {
-            Instr::Movz { hw, imm16, rd, .. } => {
-                self.set_general(rd, halfword_at(hw, imm16));
+            Instr::Movz {
+                wide,
+                hw,
+                imm16,
+                rd,
+            } => {
+                self.set_result(wide, rd, halfword_at(hw, imm16));
                 self.advance()
             }
             Instr::Movk {
@@ -98,14 +103,15 @@ impl Machine {
                 imm16,
                 rd,
             } => {
-                let old = operand(wide, self.general(rd));
-                self.set_general(rd, with_halfword(old, hw, imm16));
+                let old = of_width(wide, self.general(rd));
+                self.set_result(wide, rd, with_halfword(old, hw, imm16));
                 self.advance()
             }
             Instr::Svc { imm16: 3 } => Step::Ended(MachineEnd::Exited(
                 (self.registers[0] & 0xff) as u8,
             )),
-            Instr::Svc { .. } => Step::Ended(MachineEnd::BadCode { at: self.pc }),
+            // The other services are not there yet, nor are the other instructions carried out.
+            _ => Step::Ended(MachineEnd::BadCode { at: self.pc }),
         }
     }
 
@@ -117,6 +123,13 @@ impl Machine {
             .get(usize::from(register.0))
             .copied()
             .unwrap_or(0)
+    }
+
+    // Writes the result of an instruction, where one of 32 bits clears the upper half of the register.
+    fn set_result(&mut self, wide: bool, register: Reg, value: u64)
+        ensures { state_of self.new ≡ with_result wide register value (state_of self.old) }
+    {
+        self.set_general(register, of_width(wide, value));
     }
 
     // Writes a general register, where a write to the number 31 is dropped.
@@ -138,9 +151,9 @@ impl Machine {
     }
 }
 
-// An operand of 64 bits, or of 32 where the instruction is not wide.
-fn operand(wide: bool, value: u64) -> u64
-    ensures { result ≡ operand wide value }
+// A number of 64 bits, or its lower 32 where an instruction is not wide.
+fn of_width(wide: bool, value: u64) -> u64
+    ensures { result ≡ of_width wide value }
 {
     if wide { value } else { value & 0xffff_ffff }
 }

@@ -1,8 +1,12 @@
-use Rattle.std.proofs.Common.{◌∙◌, ap}
+use Rattle.std.proofs.Common.{◌∙◌, ap, sym, subst, IsTrue}
 use Rattle.a64_code.specs.Listed.{listed}
 use Rattle.a64_code.proofs.Encoding.{encode-row, encode-none}
-use Rattle.a64_code.proofs.EachRow.{has_room-listed}
+use Rattle.a64_code.proofs.EachRow.{has_room-listed, is_kind-kind_of}
+use Rattle.a64_code.specs.Parts.{is_kind}
 use Rattle.a64_code.proofs.code.encode.Goals as goal
+
+pub row-requires : goal.row-requires
+row-requires c = subst (λ k. IsTrue (is_kind k)) (sym c.parts-parts.ensures.kind) (is_kind-kind_of c.args.instr)
 
 pub word-requires : goal.word-requires
 word-requires c = has_room-listed _ _ c.row.ensures

@@ -1,0 +1,36 @@
+use Rattle.std.proofs.Common.{◌≡◌, ◌∙◌, Err, ap, refl, sym, subst}
+use Rattle.elf_image.specs.Constant.{constant_image}
+use Rattle.elf_image.specs.ConstantLaws.{constant_valid}
+use Rattle.elf_image.specs.Image.{Image}
+use Rattle.elf_image.specs.Places.{IsValid}
+use Rattle.mte_machine.specs.Run.{run, end_of}
+use Rattle.tag_startup.specs.Loaded.{loaded}
+use Rattle.mt_pipeline.specs.Defaults.{default_choices, default_stack}
+use Rattle.mt_pipeline.specs.Seen.{seen}
+use Rattle.mt_pipeline.specs.Status.{ended_by}
+use Rattle.mt_pipeline.proofs.Causes.{go_answers, go_ran, same_files}
+use Rattle.mt_pipeline.proofs.commands.go.Goals as goal
+
+pub run_parts-requires-clause-valid : goal.run_parts-requires-clause-valid
+run_parts-requires-clause-valid g c = subst (λ (p : Image). IsValid p) (sym c.in-Ok-parts_of.ensures.parts.2) (constant_valid c.in-Ok-parts_of.ensures.parts.0)
+
+-- the text is of no constant
+pub returns-in-Err-NotYet : goal.returns-in-Err-NotYet
+returns-in-Err-NotYet g c =
+    go_answers _ _ _ _ _
+    (refl, refl, refl, (c.in-Ok.bytes.items, c.in-Ok.ensures.bytes, λ n p. c.in-Err-NotYet.ensures.not_yet (ap Err c.in-Err-NotYet.field-0-is) n p))
+    (record { takes_nothing = refl; puts_nothing = refl })
+    (same_files _ _ c.read_file.ensures.kept)
+
+-- the image ran
+pub returns-in-Ok-run_parts : goal.returns-in-Ok-run_parts
+returns-in-Ok-run_parts g c =
+    let parts = c.in-Ok-parts_of.ensures.parts in
+    let ran : c.in-Ok-run_parts.end ≡ end_of (run c.args.steps (loaded (constant_image parts.0) default_choices default_stack)) =
+    c.in-Ok-run_parts.ensures.runs ∙ ap (λ i. end_of (run c.args.steps (loaded i default_choices default_stack))) parts.2 in
+    let before = seen g.F.Files.told g.F.Files.read_faults g.F.Files.write_faults c.args.files.now c.args.input.now c.args.out.now in
+    let after = seen g.F.Files.told g.F.Files.read_faults g.F.Files.write_faults c.read_file.new.files c.run_parts.new.source c.run_parts.new.sink in
+    go_answers c.args.file.now c.args.steps before after (ended_by c.in-Ok-run_parts.end)
+    (go_ran c.args.file.now c.args.steps before after parts.0 c.in-Ok-run_parts.end parts.1.in_range (c.in-Ok.bytes.items, c.in-Ok.ensures.bytes, parts.1) ran)
+    (record { takes_nothing = c.run_parts.ensures.input; puts_nothing = c.run_parts.ensures.output })
+    (same_files _ _ c.read_file.ensures.kept)

@@ -1,0 +1,22 @@
+-- What an image does that was built from a text (this project's own).
+use Rattle.std.specs.Prelude.{◌≡◌, ◌⊎◌, ◌≤◌, ℕ, ◌%◌, List}
+use Rattle.a64_code.specs.declared.end.MachineEnd.TheVariants.{Exited, OutOfSteps}
+use Rattle.elf_image.specs.Constant.{constant_image}
+use Rattle.elf_image.specs.Image.{Image}
+use Rattle.elf_image.specs.ImageFile.{ImageFile}
+use Rattle.mte_machine.specs.Run.{run, end_of}
+use Rattle.tag_startup.specs.Loaded.{loaded}
+use Rattle.mt_pipeline.specs.Constant.{ReturnsConstant}
+
+-- Whatever the choices and the stack, which no run uses yet, the image's run exits with this status where three steps may
+-- run, and with it or out of steps where fewer may. No run takes input or has output yet (clauses of `Machine::run`).
+pub record ExitsAlways (image : Image) (status : ℕ) : Type 0 where
+  pub exits : (choices : List ℕ) (stack steps : ℕ) → 3 ≤ steps → end_of (run steps (loaded image choices stack)) ≡ Exited status
+  pub sooner : (choices : List ℕ) (stack steps : ℕ) → (end_of (run steps (loaded image choices stack)) ≡ Exited status) ⊎ (end_of (run steps (loaded image choices stack)) ≡ OutOfSteps)
+
+-- The text returns a constant, the bytes are the file of its image, and the image exits with the constant modulo 256.
+pub record IsBuilt (text file : List ℕ) : Type 0 where
+  pub constant : ℕ
+  pub returns : ReturnsConstant text constant
+  pub file_is : ImageFile (constant_image constant) file
+  pub exits : ExitsAlways (constant_image constant) (constant % 256)

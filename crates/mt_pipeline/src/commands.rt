@@ -1,0 +1,133 @@
+// The commands.
+ghost use Rattle.std.specs.Prelude.{◌≡◌};
+ghost use Rattle.mt_pipeline.specs.Answer.{ended_of};
+ghost use Rattle.mt_pipeline.specs.Build.{BuildAnswers};
+ghost use Rattle.mt_pipeline.specs.Defaults.{default_choices};
+ghost use Rattle.mt_pipeline.specs.Go.{GoAnswers};
+ghost use Rattle.mt_pipeline.specs.Run.{RunAnswers};
+ghost use Rattle.mt_pipeline.specs.Seen.{files_seen, seen};
+
+use crate::answer::Answer;
+use crate::image::{build, parts_of};
+use crate::read::read_file;
+use crate::refusal::{CompileRefusal, RunRefusal};
+use crate::runner::{run_image, run_parts};
+use crate::source::SourceText;
+use mt_base::Tag;
+use mt_outside::{Files, Sink, Source, WriteAnswer};
+use std::alloc::Global;
+use tag_startup::StartRefusal;
+
+/// The bytes of the stack where the words say nothing of it.
+const DEFAULT_STACK: u64 = 1_048_576;
+
+/// Builds a source in memory and runs it.
+pub fn go<F: Files, S: Source, K: Sink>(
+    alloc: Global,
+    file: &str,
+    steps: u64,
+    files: &mut F,
+    input: &mut S,
+    out: &mut K,
+) -> Answer
+    ensures { GoAnswers file.now steps (seen F.told F.read_faults F.write_faults files.old input.old out.old)
+        (seen F.told F.read_faults F.write_faults files.new input.new out.new) (ended_of result) }
+{
+    let bytes = match read_file(alloc, files, file) {
+        Ok(bytes) => bytes,
+        Err(answer) => return answer,
+    };
+    let parts = match parts_of(alloc, &SourceText { bytes }) {
+        Ok(parts) => parts,
+        Err(CompileRefusal::NotYet) => {
+            let refusal = CompileRefusal::NotYet;
+            return Answer::Refused { file: 0, refusal };
+        }
+        Err(CompileRefusal::NoMemory) => return Answer::NoMemory,
+    };
+    match run_parts(
+        alloc,
+        &parts,
+        &default_choices(),
+        DEFAULT_STACK,
+        steps,
+        input,
+        out,
+    ) {
+        Ok(end) => Answer::Ran(end),
+        Err(StartRefusal::NoMemory) => Answer::NoMemory,
+        Err(refusal) => Answer::BadImage {
+            file: 0,
+            refusal: RunRefusal::Start(refusal),
+        },
+    }
+}
+
+/// Builds a source and writes the image.
+pub fn write_built<F: Files>(alloc: Global, file: &str, out_file: &str, files: &mut F) -> Answer
+    ensures { BuildAnswers file.now out_file.now (files_seen F.told F.read_faults F.write_faults files.old)
+        (files_seen F.told F.read_faults F.write_faults files.new) (ended_of result) }
+{
+    let bytes = match read_file(alloc, files, file) {
+        Ok(bytes) => bytes,
+        Err(answer) => return answer,
+    };
+    let image = match build(alloc, &SourceText { bytes }) {
+        Ok(image) => image,
+        Err(CompileRefusal::NotYet) => {
+            let refusal = CompileRefusal::NotYet;
+            return Answer::Refused { file: 0, refusal };
+        }
+        Err(CompileRefusal::NoMemory) => return Answer::NoMemory,
+    };
+    match files.write(out_file, &image) {
+        WriteAnswer::Done => Answer::Done,
+        WriteAnswer::Failed => Answer::WriteFault { file: 0 },
+        WriteAnswer::NoMemory => Answer::NoMemory,
+    }
+}
+
+/// Loads an image and runs it.
+pub fn run_file<F: Files, S: Source, K: Sink>(
+    alloc: Global,
+    file: &str,
+    steps: u64,
+    files: &mut F,
+    input: &mut S,
+    out: &mut K,
+) -> Answer
+    ensures { RunAnswers file.now steps (seen F.told F.read_faults F.write_faults files.old input.old out.old)
+        (seen F.told F.read_faults F.write_faults files.new input.new out.new) (ended_of result) }
+{
+    let bytes = match read_file(alloc, files, file) {
+        Ok(bytes) => bytes,
+        Err(answer) => return answer,
+    };
+    match run_image(
+        alloc,
+        &bytes,
+        &default_choices(),
+        DEFAULT_STACK,
+        steps,
+        input,
+        out,
+    ) {
+        Ok(end) => Answer::Ran(end),
+        Err(RunRefusal::Image(refusal)) => Answer::BadImage {
+            file: 0,
+            refusal: RunRefusal::Image(refusal),
+        },
+        Err(RunRefusal::Start(refusal)) => Answer::BadImage {
+            file: 0,
+            refusal: RunRefusal::Start(refusal),
+        },
+        Err(RunRefusal::NoMemory) => Answer::NoMemory,
+    }
+}
+
+// The random tags where the words say nothing of them.
+fn default_choices() -> [Tag; 1]
+    ensures { result ≡ default_choices }
+{
+    [Tag::new(5).unwrap()]
+}

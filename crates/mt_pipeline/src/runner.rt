@@ -1,0 +1,70 @@
+// The run of an image.
+ghost use Rattle.std.specs.Prelude.{◌≡◌, ◌≢◌, ◌⊎◌, [], IfErr, IfOk, IsErrOf};
+ghost use Rattle.elf_image.specs.Constant.{IsConstantFile};
+ghost use Rattle.elf_image.specs.Image.{Image, image_of};
+ghost use Rattle.elf_image.specs.Places.{IsValid};
+ghost use Rattle.mte_machine.specs.Run.{run, end_of};
+ghost use Rattle.tag_startup.specs.Loaded.{HoldsCodeAlone, IsStack, loaded};
+
+use crate::refusal::RunRefusal;
+use elf_image::{ImageParts, ImageRefusal, read_image};
+use mt_base::Tag;
+use mt_outside::{Sink, Source};
+use mte_machine::MachineEnd;
+use std::alloc::Global;
+use tag_startup::{StartRefusal, start};
+
+/// Loads an image from its bytes and runs it, for at most n steps. The choices, of which there is one at least, are the
+/// random tags that the run draws in turn, and the stack has so many bytes: a multiple of 1,024 from 1,024 to 67,108,864.
+pub fn run_image<S: Source, K: Sink>(
+    alloc: Global,
+    bytes: &[u8],
+    choices: &[Tag],
+    stack: u64,
+    n: u64,
+    source: &mut S,
+    sink: &mut K,
+) -> Result<MachineEnd, RunRefusal>
+    requires choices { choices.now ≢ [] }
+    requires stack { IsStack stack }
+    ensures image { IfOk result (λ _. (image : Image) × IsConstantFile image bytes.now) }
+    ensures runs { IfOk result (λ end. (image : Image) → IsConstantFile image bytes.now
+        → end ≡ end_of (run n (loaded image choices.now stack))) }
+    ensures refused { IfErr result (λ refusal. (refusal ≡ RunRefusal.NoMemory)
+        ⊎ ((refusal ≡ RunRefusal.Image ImageRefusal.NotYet) × ((image : Image) → ¬ IsConstantFile image bytes.now))) }
+    ensures input { source.new ≡ source.old }
+    ensures output { sink.new ≡ sink.old }
+{
+    let parts = match read_image(alloc, bytes) {
+        Ok(parts) => parts,
+        Err(ImageRefusal::NoMemory) => return Err(RunRefusal::NoMemory),
+        Err(refusal) => return Err(RunRefusal::Image(refusal)),
+    };
+    match run_parts(alloc, &parts, choices, stack, n, source, sink) {
+        Ok(end) => Ok(end),
+        Err(StartRefusal::NoMemory) => Err(RunRefusal::NoMemory),
+        Err(refusal) => Err(RunRefusal::Start(refusal)),
+    }
+}
+
+/// Runs the image of these parts.
+pub fn run_parts<S: Source, K: Sink>(
+    alloc: Global,
+    parts: &ImageParts,
+    choices: &[Tag],
+    stack: u64,
+    n: u64,
+    source: &mut S,
+    sink: &mut K,
+) -> Result<MachineEnd, StartRefusal>
+    requires valid { IsValid (image_of parts.now) }
+    requires choices { choices.now ≢ [] }
+    requires stack { IsStack stack }
+    ensures runs { IfOk result (λ end. end ≡ end_of (run n (loaded (image_of parts.now) choices.now stack))) }
+    ensures not_yet { IsErrOf result StartRefusal.NotYet → ¬ HoldsCodeAlone (image_of parts.now) }
+    ensures input { source.new ≡ source.old }
+    ensures output { sink.new ≡ sink.old }
+{
+    let mut machine = start(alloc, parts, choices, stack)?;
+    Ok(machine.run(source, sink, n))
+}
