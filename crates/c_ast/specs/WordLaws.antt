@@ -1,5 +1,6 @@
 -- Names, spellings and numbers agree: what the crates above may cite.
-use Rattle.std.specs.Prelude.{◌≡◌, refl, Some}
+use Rattle.std.specs.Prelude.{◌≡◌, List, [], ◌∷◌, refl, Some}
+use Rattle.std.proofs.Common.{ap, sym, ◌∙◌, get_or}
 use Rattle.c_ast.specs.declared.keyword.Keyword.{Keyword}
 use Rattle.c_ast.specs.declared.keyword.Keyword.TheVariants as keyword
 use Rattle.c_ast.specs.declared.punctuator.Punctuator.{Punctuator}
@@ -102,3 +103,130 @@ punctuator_of-spelling_of_punctuator punctuator.ShiftRightEqual = refl
 punctuator_of-spelling_of_punctuator punctuator.AmpersandEqual = refl
 punctuator_of-spelling_of_punctuator punctuator.CaretEqual = refl
 punctuator_of-spelling_of_punctuator punctuator.BarEqual = refl
+
+-- the keywords in the order of their numbers
+abbrev all_keywords : List Keyword
+all_keywords =
+    keyword.Auto ∷ keyword.Break ∷ keyword.Case ∷ keyword.Char ∷ keyword.Const ∷ keyword.Continue ∷ keyword.Default ∷ keyword.Do ∷
+    keyword.Double ∷ keyword.Else ∷ keyword.Enum ∷ keyword.Extern ∷ keyword.Float ∷ keyword.For ∷ keyword.Goto ∷ keyword.If ∷
+    keyword.Inline ∷ keyword.Int ∷ keyword.Long ∷ keyword.Register ∷ keyword.Restrict ∷ keyword.Return ∷ keyword.Short ∷ keyword.Signed ∷
+    keyword.Sizeof ∷ keyword.Static ∷ keyword.Struct ∷ keyword.Switch ∷ keyword.Typedef ∷ keyword.Union ∷ keyword.Unsigned ∷ keyword.Void ∷
+    keyword.Volatile ∷ keyword.While ∷ keyword.Alignas ∷ keyword.Alignof ∷ keyword.Atomic ∷ keyword.Bool ∷ keyword.Complex ∷ keyword.Generic ∷
+    keyword.Imaginary ∷ keyword.Noreturn ∷ keyword.StaticAssert ∷ keyword.ThreadLocal ∷ []
+
+-- a keyword stands at its number in the list of all
+by-keyword_number : (k : Keyword) → get_or all_keywords (keyword_number k) keyword.Auto ≡ k
+by-keyword_number keyword.Auto = refl
+by-keyword_number keyword.Break = refl
+by-keyword_number keyword.Case = refl
+by-keyword_number keyword.Char = refl
+by-keyword_number keyword.Const = refl
+by-keyword_number keyword.Continue = refl
+by-keyword_number keyword.Default = refl
+by-keyword_number keyword.Do = refl
+by-keyword_number keyword.Double = refl
+by-keyword_number keyword.Else = refl
+by-keyword_number keyword.Enum = refl
+by-keyword_number keyword.Extern = refl
+by-keyword_number keyword.Float = refl
+by-keyword_number keyword.For = refl
+by-keyword_number keyword.Goto = refl
+by-keyword_number keyword.If = refl
+by-keyword_number keyword.Inline = refl
+by-keyword_number keyword.Int = refl
+by-keyword_number keyword.Long = refl
+by-keyword_number keyword.Register = refl
+by-keyword_number keyword.Restrict = refl
+by-keyword_number keyword.Return = refl
+by-keyword_number keyword.Short = refl
+by-keyword_number keyword.Signed = refl
+by-keyword_number keyword.Sizeof = refl
+by-keyword_number keyword.Static = refl
+by-keyword_number keyword.Struct = refl
+by-keyword_number keyword.Switch = refl
+by-keyword_number keyword.Typedef = refl
+by-keyword_number keyword.Union = refl
+by-keyword_number keyword.Unsigned = refl
+by-keyword_number keyword.Void = refl
+by-keyword_number keyword.Volatile = refl
+by-keyword_number keyword.While = refl
+by-keyword_number keyword.Alignas = refl
+by-keyword_number keyword.Alignof = refl
+by-keyword_number keyword.Atomic = refl
+by-keyword_number keyword.Bool = refl
+by-keyword_number keyword.Complex = refl
+by-keyword_number keyword.Generic = refl
+by-keyword_number keyword.Imaginary = refl
+by-keyword_number keyword.Noreturn = refl
+by-keyword_number keyword.StaticAssert = refl
+by-keyword_number keyword.ThreadLocal = refl
+
+-- no two keywords have one number
+pub keyword_number-injective : (k other : Keyword) → keyword_number k ≡ keyword_number other → k ≡ other
+keyword_number-injective k other same =
+    sym (by-keyword_number k) ∙ ap (λ n. get_or all_keywords n keyword.Auto) same ∙ by-keyword_number other
+
+-- the punctuators in the order of their numbers
+abbrev all_punctuators : List Punctuator
+all_punctuators =
+    punctuator.LeftBrace ∷ punctuator.RightBrace ∷ punctuator.LeftParen ∷ punctuator.RightParen ∷ punctuator.LeftBracket ∷ punctuator.RightBracket ∷
+    punctuator.Semicolon ∷ punctuator.Comma ∷ punctuator.Dot ∷ punctuator.Arrow ∷ punctuator.PlusPlus ∷ punctuator.MinusMinus ∷
+    punctuator.Ampersand ∷ punctuator.Star ∷ punctuator.Plus ∷ punctuator.Minus ∷ punctuator.Tilde ∷ punctuator.Exclamation ∷
+    punctuator.Slash ∷ punctuator.Percent ∷ punctuator.ShiftLeft ∷ punctuator.ShiftRight ∷ punctuator.Less ∷ punctuator.Greater ∷
+    punctuator.LessEqual ∷ punctuator.GreaterEqual ∷ punctuator.EqualEqual ∷ punctuator.ExclamationEqual ∷ punctuator.Caret ∷ punctuator.Bar ∷
+    punctuator.AmpersandAmpersand ∷ punctuator.BarBar ∷ punctuator.Question ∷ punctuator.Colon ∷ punctuator.Equal ∷ punctuator.PlusEqual ∷
+    punctuator.MinusEqual ∷ punctuator.StarEqual ∷ punctuator.SlashEqual ∷ punctuator.PercentEqual ∷ punctuator.ShiftLeftEqual ∷ punctuator.ShiftRightEqual ∷
+    punctuator.AmpersandEqual ∷ punctuator.CaretEqual ∷ punctuator.BarEqual ∷ []
+
+-- a punctuator stands at its number in the list of all
+by-punctuator_number : (p : Punctuator) → get_or all_punctuators (punctuator_number p) punctuator.LeftBrace ≡ p
+by-punctuator_number punctuator.LeftBrace = refl
+by-punctuator_number punctuator.RightBrace = refl
+by-punctuator_number punctuator.LeftParen = refl
+by-punctuator_number punctuator.RightParen = refl
+by-punctuator_number punctuator.LeftBracket = refl
+by-punctuator_number punctuator.RightBracket = refl
+by-punctuator_number punctuator.Semicolon = refl
+by-punctuator_number punctuator.Comma = refl
+by-punctuator_number punctuator.Dot = refl
+by-punctuator_number punctuator.Arrow = refl
+by-punctuator_number punctuator.PlusPlus = refl
+by-punctuator_number punctuator.MinusMinus = refl
+by-punctuator_number punctuator.Ampersand = refl
+by-punctuator_number punctuator.Star = refl
+by-punctuator_number punctuator.Plus = refl
+by-punctuator_number punctuator.Minus = refl
+by-punctuator_number punctuator.Tilde = refl
+by-punctuator_number punctuator.Exclamation = refl
+by-punctuator_number punctuator.Slash = refl
+by-punctuator_number punctuator.Percent = refl
+by-punctuator_number punctuator.ShiftLeft = refl
+by-punctuator_number punctuator.ShiftRight = refl
+by-punctuator_number punctuator.Less = refl
+by-punctuator_number punctuator.Greater = refl
+by-punctuator_number punctuator.LessEqual = refl
+by-punctuator_number punctuator.GreaterEqual = refl
+by-punctuator_number punctuator.EqualEqual = refl
+by-punctuator_number punctuator.ExclamationEqual = refl
+by-punctuator_number punctuator.Caret = refl
+by-punctuator_number punctuator.Bar = refl
+by-punctuator_number punctuator.AmpersandAmpersand = refl
+by-punctuator_number punctuator.BarBar = refl
+by-punctuator_number punctuator.Question = refl
+by-punctuator_number punctuator.Colon = refl
+by-punctuator_number punctuator.Equal = refl
+by-punctuator_number punctuator.PlusEqual = refl
+by-punctuator_number punctuator.MinusEqual = refl
+by-punctuator_number punctuator.StarEqual = refl
+by-punctuator_number punctuator.SlashEqual = refl
+by-punctuator_number punctuator.PercentEqual = refl
+by-punctuator_number punctuator.ShiftLeftEqual = refl
+by-punctuator_number punctuator.ShiftRightEqual = refl
+by-punctuator_number punctuator.AmpersandEqual = refl
+by-punctuator_number punctuator.CaretEqual = refl
+by-punctuator_number punctuator.BarEqual = refl
+
+-- no two punctuators have one number
+pub punctuator_number-injective : (p other : Punctuator) → punctuator_number p ≡ punctuator_number other → p ≡ other
+punctuator_number-injective p other same =
+    sym (by-punctuator_number p) ∙ ap (λ n. get_or all_punctuators n punctuator.LeftBrace) same ∙ by-punctuator_number other

@@ -38,6 +38,13 @@ impl Name {
         Ok(Name { bytes })
     }
 
+    /// Equal bytes in memory of their own.
+    pub fn copy(&self, alloc: Global) -> Result<Name, AllocError>
+        ensures { IfOk result (λ copied. copied ≡ self.now) }
+    {
+        Name::from_slice(alloc, self.as_slice())
+    }
+
     /// The bytes, in order.
     pub fn as_slice(&self) -> &[u8]
         ensures { result.now ≡ self.now }
@@ -77,6 +84,13 @@ impl Bytes {
     {
         let bytes = Vec::from_slice(alloc, bytes)?;
         Ok(Bytes { bytes })
+    }
+
+    /// Equal bytes in memory of their own.
+    pub fn copy(&self, alloc: Global) -> Result<Bytes, AllocError>
+        ensures { IfOk result (λ copied. copied ≡ self.now) }
+    {
+        Bytes::from_slice(alloc, self.as_slice())
     }
 
     /// The bytes, in order.

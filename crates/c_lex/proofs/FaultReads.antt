@@ -12,26 +12,37 @@ use Rattle.c_lex.specs.declared.escape.Item.TheVariants.{Byte, Close, Wrong, Cut
 use Rattle.c_lex.specs.declared.reading.Line.{Line}
 use Rattle.c_lex.specs.declared.reading.Line.TheVariants.{Clear, Spaced, Used}
 use Rattle.c_lex.specs.declared.reading.Reading.{Reading}
-use Rattle.c_lex.specs.declared.reading.Reading.TheVariants.{Gap, Fault}
+use Rattle.c_lex.specs.declared.reading.Reading.TheVariants.{Gap, Token, Fault}
 use Rattle.c_lex.specs.Bytes.{is_white, is_letter, is_in_line}
 use Rattle.c_lex.specs.Numeral.{numeral_at, is_numeral, fitting_bytes, numeral_value, numeral_type}
 use Rattle.c_lex.specs.Escape.{item_at}
 use Rattle.c_lex.specs.Quoted.{Body, closed, wrong, cut, item_bytes, behind, body_with, body}
 use Rattle.c_lex.specs.Directive.{is_include_line, from_header}
 use Rattle.c_lex.specs.Gap.{begins_line_comment, begins_block_comment, block_comment}
-use Rattle.c_lex.specs.Faults.{is_cut_off, IsWrong, AreItems, none, more, begins_other, FaultAt, stray, unclosed_comment, unfit_number, large_number, wrong_in_text, unclosed_text, empty_character, wrong_in_character, long_character, unclosed_quote, unclosed_character, not_directive, spaced_directive, late_hash}
+use Rattle.c_lex.specs.Faults.{is_cut_off, IsWrong, AreItems, none, more, begins_other, FaultAt, stray, unclosed_comment, unfit_number, large_number, wrong_in_text, unclosed_text, empty_character, wrong_in_character, long_character, unclosed_quote, unclosed_character}
 use Rattle.c_lex.specs.Reading.{read_word, typed_number, read_number, closing_quote, character_from, read_character, text_from, read_text, include_or, read_directive, punctuator_or, punctuator_at, read_punctuator, read_token, comment_or, read}
 use Rattle.c_lex.specs.Scanner.{ItemFits}
 use Rattle.c_lex.proofs.EscapeLaws.{item_at-fits}
+use Rattle.c_lex.proofs.LineFaults.{FaultOn, by_bytes, not_directive, spaced_directive, late_hash}
 use Rattle.c_lex.proofs.TextLaws.{IsReadTo, body-step, text-more, text-wrong, text-cut}
 use Rattle.c_lex.proofs.Classes.{class_of, white-class, digit-class, digit-is_no_letter, punctuator-short}
 use Rattle.c_lex.proofs.WordReads.{at_none}
 use Rattle.c_lex.proofs.ItemFaults.{EndsAs, item-ends, IsWrongAs, item-wrong, cut-item, close-item, wrong-item}
 
 -- a fault that is read stands by a rule
-abbrev Shows : Line → List ℕ → Reading → Type 0
-Shows line rest (Fault what place) = FaultAt line rest what place
-Shows line rest _ = Unit {0}
+abbrev Shows : List ℕ → Reading → Type 0
+Shows rest (Fault what place) = FaultAt rest what place
+Shows rest _ = Unit {0}
+
+-- likewise on a line with this before it
+abbrev ShowsOn : Line → List ℕ → Reading → Type 0
+ShowsOn line rest (Fault what place) = FaultOn line rest what place
+ShowsOn line rest _ = Unit {0}
+
+on : (line : Line) (rest : List ℕ) (found : Reading) → Shows rest found → ShowsOn line rest found
+on line rest (Gap n) shown = tt
+on line rest (Token kind n) shown = tt
+on line rest (Fault what place) shown = by_bytes shown
 
 -- the byte at a place is the first from there on
 first_at : (rest : List ℕ) (place : ℕ) → get_or (drop place rest) 0 0 ≡ get_or rest place 0
@@ -39,45 +50,45 @@ first_at rest place = rw (get_or-drop, add-zero) refl
 
 -- ---- numbers
 
-typed-shows : (line : Line) (b : ℕ) (rest : List ℕ) → is_ascii_digit b ≡ true → is_numeral (numeral_at (b ∷ rest)) ≡ true → (found : Option IntType) → numeral_type (numeral_at (b ∷ rest)) ≡ found →
-    (value bytes : ℕ) → Shows line (b ∷ rest) (typed_number value found bytes)
-typed-shows line b rest digit numeral None is value bytes = large_number digit numeral is
-typed-shows line b rest digit numeral (Some ty) is value bytes = tt
+typed-shows : (b : ℕ) (rest : List ℕ) → is_ascii_digit b ≡ true → is_numeral (numeral_at (b ∷ rest)) ≡ true → (found : Option IntType) → numeral_type (numeral_at (b ∷ rest)) ≡ found →
+    (value bytes : ℕ) → Shows (b ∷ rest) (typed_number value found bytes)
+typed-shows b rest digit numeral None is value bytes = large_number digit numeral is
+typed-shows b rest digit numeral (Some ty) is value bytes = tt
 
-number-shows : (line : Line) (b : ℕ) (rest : List ℕ) → is_ascii_digit b ≡ true → Shows line (b ∷ rest) (read_number (b ∷ rest))
+number-shows : (b : ℕ) (rest : List ℕ) → is_ascii_digit b ≡ true → Shows (b ∷ rest) (read_number (b ∷ rest))
 unfolding read_number
-number-shows line b rest digit =
+number-shows b rest digit =
     let bytes = numeral_at (b ∷ rest) in
-    cond_both (is_numeral bytes) (typed_number (numeral_value bytes) (numeral_type bytes) (length bytes)) (Fault BadByte (fitting_bytes bytes)) (Shows line (b ∷ rest))
-    (λ numeral. typed-shows line b rest digit numeral (numeral_type bytes) refl (numeral_value bytes) (length bytes))
+    cond_both (is_numeral bytes) (typed_number (numeral_value bytes) (numeral_type bytes) (length bytes)) (Fault BadByte (fitting_bytes bytes)) (Shows (b ∷ rest))
+    (λ numeral. typed-shows b rest digit numeral (numeral_type bytes) refl (numeral_value bytes) (length bytes))
     (λ unfit. unfit_number digit unfit)
 
 -- ---- characters
 
-closing-shows : (line : Line) (rest : List ℕ) (value bytes : ℕ) → item_at 39 rest ≡ Byte value bytes → (found : Item) → EndsAs 39 (drop bytes rest) found →
-    Shows line (39 ∷ rest) (closing_quote value (1 + bytes) found)
-closing-shows line rest value bytes first (Byte other n) ends =
+closing-shows : (rest : List ℕ) (value bytes : ℕ) → item_at 39 rest ≡ Byte value bytes → (found : Item) → EndsAs 39 (drop bytes rest) found →
+    Shows (39 ∷ rest) (closing_quote value (1 + bytes) found)
+closing-shows rest value bytes first (Byte other n) ends =
     let next : drop (1 + bytes) (39 ∷ rest) ≡ drop bytes rest = sym (drop-drop bytes 1 (39 ∷ rest)) in
     long_character refl first (λ e. ends.1 (ap (λ w. get_or w 0 0) (sym next) ∙ first_at (39 ∷ rest) (1 + bytes) ∙ e)) (ap is_cut_off next ∙ ends.0)
-closing-shows line rest value bytes first (Wrong fault) ends =
+closing-shows rest value bytes first (Wrong fault) ends =
     let next : drop (1 + bytes) (39 ∷ rest) ≡ drop bytes rest = sym (drop-drop bytes 1 (39 ∷ rest)) in
     long_character refl first (λ e. ends.1 (ap (λ w. get_or w 0 0) (sym next) ∙ first_at (39 ∷ rest) (1 + bytes) ∙ e)) (ap is_cut_off next ∙ ends.0)
-closing-shows line rest value bytes first Close ends = tt
-closing-shows line rest value bytes first Cut ends =
+closing-shows rest value bytes first Close ends = tt
+closing-shows rest value bytes first Cut ends =
     let next : drop (1 + bytes) (39 ∷ rest) ≡ drop bytes rest = sym (drop-drop bytes 1 (39 ∷ rest)) in
     unclosed_character refl first (ap is_cut_off next ∙ ends)
 
-character_shows : (line : Line) (rest : List ℕ) (found : Item) → item_at 39 rest ≡ found → EndsAs 39 rest found → IsWrongAs 39 rest found → Shows line (39 ∷ rest) (character_from found (39 ∷ rest))
-character_shows line rest (Byte value bytes) is ends bad =
+character_shows : (rest : List ℕ) (found : Item) → item_at 39 rest ≡ found → EndsAs 39 rest found → IsWrongAs 39 rest found → Shows (39 ∷ rest) (character_from found (39 ∷ rest))
+character_shows rest (Byte value bytes) is ends bad =
     let next : drop (1 + bytes) (39 ∷ rest) ≡ drop bytes rest = sym (drop-drop bytes 1 (39 ∷ rest)) in
-    closing-shows line rest value bytes is (item_at 39 (drop (1 + bytes) (39 ∷ rest))) (subst (λ w. EndsAs 39 (drop bytes rest) (item_at 39 w)) (sym next) (item-ends 39 (drop bytes rest)))
-character_shows line rest Close is ends bad = empty_character refl ends
-character_shows line rest (Wrong fault) is ends bad = wrong_in_character refl bad
-character_shows line rest Cut is ends bad = unclosed_quote refl ends
+    closing-shows rest value bytes is (item_at 39 (drop (1 + bytes) (39 ∷ rest))) (subst (λ w. EndsAs 39 (drop bytes rest) (item_at 39 w)) (sym next) (item-ends 39 (drop bytes rest)))
+character_shows rest Close is ends bad = empty_character refl ends
+character_shows rest (Wrong fault) is ends bad = wrong_in_character refl bad
+character_shows rest Cut is ends bad = unclosed_quote refl ends
 
-character-shows : (line : Line) (rest : List ℕ) → Shows line (39 ∷ rest) (read_character (39 ∷ rest))
+character-shows : (rest : List ℕ) → Shows (39 ∷ rest) (read_character (39 ∷ rest))
 unfolding read_character
-character-shows line rest = character_shows line rest (item_at 39 rest) refl (item-ends 39 rest) (item-wrong 39 rest)
+character-shows rest = character_shows rest (item_at 39 rest) refl (item-ends 39 rest) (item-wrong 39 rest)
 
 -- ---- texts
 
@@ -114,28 +125,28 @@ text_shows (suc fuel) n rest limit items =
     subst (TextShows rest n) (sym (body-step (drop n rest)))
     (text_step n rest (item_at 34 (drop n rest)) refl items (λ bytes some room goes. text_shows fuel (n + bytes) rest (omega arith) goes))
 
-from_body : (line : Line) (rest : List ℕ) (found : Body) → TextShows rest 0 found → Shows line (34 ∷ rest) (text_from found)
-from_body line rest (closed values place) shown = tt
-from_body line rest (wrong fault place) shown =
+from_body : (rest : List ℕ) (found : Body) → TextShows rest 0 found → Shows (34 ∷ rest) (text_from found)
+from_body rest (closed values place) shown = tt
+from_body rest (wrong fault place) shown =
     let sum : 0 + place ≡ place = omega arith in
     let next : drop place rest ≡ drop (1 + place) (34 ∷ rest) = drop-drop place 1 (34 ∷ rest) in
     wrong_in_text refl (subst (AreItems 34 rest) sum shown.0) (subst (λ w. IsWrong 34 w fault) next (subst (λ k. IsWrong 34 (drop k rest) fault) sum shown.1))
-from_body line rest cut shown =
+from_body rest cut shown =
     let next : drop shown.0 rest ≡ drop (1 + shown.0) (34 ∷ rest) = drop-drop shown.0 1 (34 ∷ rest) in
     unclosed_text refl shown.1 (ap is_cut_off (sym next) ∙ shown.2)
 
-text-shows : (line : Line) (rest : List ℕ) → Shows line (34 ∷ rest) (read_text (34 ∷ rest))
+text-shows : (rest : List ℕ) → Shows (34 ∷ rest) (read_text (34 ∷ rest))
 unfolding read_text
-text-shows line rest = from_body line rest (body rest) (text_shows (length rest) 0 rest (omega arith) none)
+text-shows rest = from_body rest (body rest) (text_shows (length rest) 0 rest (omega arith) none)
 
 -- ---- directives and punctuators
 
-directive-shows : (line : Line) (rest : List ℕ) → Shows line (35 ∷ rest) (read_directive line (35 ∷ rest))
+directive-shows : (line : Line) (rest : List ℕ) → ShowsOn line (35 ∷ rest) (read_directive line (35 ∷ rest))
 unfolding read_directive
 directive-shows Used rest = late_hash refl refl
 directive-shows Spaced rest = spaced_directive refl refl
 directive-shows Clear rest =
-    cond_both (is_include_line (35 ∷ rest)) (Some (length (35 ∷ rest) - length (drop 9 (from_header (35 ∷ rest))))) None (λ found. Shows Clear (35 ∷ rest) (include_or found))
+    cond_both (is_include_line (35 ∷ rest)) (Some (length (35 ∷ rest) - length (drop 9 (from_header (35 ∷ rest))))) None (λ found. ShowsOn Clear (35 ∷ rest) (include_or found))
     (λ _. tt) (λ other. not_directive refl refl other)
 
 module _ (rest : List ℕ) (one : punctuator_at 1 rest ≡ None) (two : punctuator_at 2 rest ≡ None) (three : punctuator_at 3 rest ≡ None) where
@@ -153,66 +164,66 @@ module _ (rest : List ℕ) (one : punctuator_at 1 rest ≡ None) (two : punctuat
   no_punctuator : (bytes : ℕ) → bytes ≤ length rest → punctuator_of (take bytes rest) ≡ None
   no_punctuator bytes within = none_of bytes within (punctuator_of (take bytes rest)) refl
 
-punctuator-shows : (line : Line) (rest : List ℕ) → ((bytes : ℕ) → punctuator_at 1 rest ≡ None → punctuator_at 2 rest ≡ None → punctuator_at 3 rest ≡ None → FaultAt line rest BadByte 0) → Shows line rest (read_punctuator rest)
+punctuator-shows : (rest : List ℕ) → ((bytes : ℕ) → punctuator_at 1 rest ≡ None → punctuator_at 2 rest ≡ None → punctuator_at 3 rest ≡ None → FaultAt rest BadByte 0) → Shows rest (read_punctuator rest)
 unfolding read_punctuator
-punctuator-shows line rest faulty = three (punctuator_at 3 rest) refl
+punctuator-shows rest faulty = three (punctuator_at 3 rest) refl
   where
-    one : (found : Option ℕ) → punctuator_at 1 rest ≡ found → punctuator_at 2 rest ≡ None → punctuator_at 3 rest ≡ None → Shows line rest (punctuator_or found 1 (Fault BadByte 0))
+    one : (found : Option ℕ) → punctuator_at 1 rest ≡ found → punctuator_at 2 rest ≡ None → punctuator_at 3 rest ≡ None → Shows rest (punctuator_or found 1 (Fault BadByte 0))
     one None is none2 none3 = faulty 0 is none2 none3
     one (Some number) is none2 none3 = tt
 
-    two : (found : Option ℕ) → punctuator_at 2 rest ≡ found → punctuator_at 3 rest ≡ None → Shows line rest (punctuator_or found 2 (punctuator_or (punctuator_at 1 rest) 1 (Fault BadByte 0)))
+    two : (found : Option ℕ) → punctuator_at 2 rest ≡ found → punctuator_at 3 rest ≡ None → Shows rest (punctuator_or found 2 (punctuator_or (punctuator_at 1 rest) 1 (Fault BadByte 0)))
     two None is none3 = one (punctuator_at 1 rest) refl is none3
     two (Some number) is none3 = tt
 
-    three : (found : Option ℕ) → punctuator_at 3 rest ≡ found → Shows line rest (punctuator_or found 3 (punctuator_or (punctuator_at 2 rest) 2 (punctuator_or (punctuator_at 1 rest) 1 (Fault BadByte 0))))
+    three : (found : Option ℕ) → punctuator_at 3 rest ≡ found → Shows rest (punctuator_or found 3 (punctuator_or (punctuator_at 2 rest) 2 (punctuator_or (punctuator_at 1 rest) 1 (Fault BadByte 0))))
     three None is = two (punctuator_at 2 rest) refl is
     three (Some number) is = tt
 
 -- ---- all
 
-word-shows : (line : Line) (rest : List ℕ) → Shows line rest (read_word rest)
+word-shows : (rest : List ℕ) → Shows rest (read_word rest)
 unfolding read_word
-word-shows line rest = tt
+word-shows rest = tt
 
-token-shows : (line : Line) (b : ℕ) (rest : List ℕ) → is_white b ≡ false → (begins_line_comment (b ∷ rest) || begins_block_comment (b ∷ rest)) ≡ false → Shows line (b ∷ rest) (read_token line b (b ∷ rest))
+token-shows : (line : Line) (b : ℕ) (rest : List ℕ) → is_white b ≡ false → (begins_line_comment (b ∷ rest) || begins_block_comment (b ∷ rest)) ≡ false → ShowsOn line (b ∷ rest) (read_token line b (b ∷ rest))
 unfolding read_token
 token-shows line b rest white apart =
-    let P = Shows line (b ∷ rest) in
+    let P = ShowsOn line (b ∷ rest) in
     let text = b ∷ rest in
     let mark = cond (eqb b 35) (read_directive line text) (read_punctuator text) in
     let quotes = cond (eqb b 34) (read_text text) mark in
     let quote = cond (eqb b 39) (read_character text) quotes in
     let number = cond (is_ascii_digit b) (read_number text) quote in
-    cond_both (is_letter b) (read_word text) number P (λ _. word-shows line text)
-    (λ letter. cond_both (is_ascii_digit b) (read_number text) quote P (λ digit. number-shows line b rest digit)
-    (λ digit. cond_both (eqb b 39) (read_character text) quotes P (λ is. subst (λ c. Shows line (c ∷ rest) (read_character (c ∷ rest))) (sym (eqb-true b 39 is)) (character-shows line rest))
-    (λ single. cond_both (eqb b 34) (read_text text) mark P (λ is. subst (λ c. Shows line (c ∷ rest) (read_text (c ∷ rest))) (sym (eqb-true b 34 is)) (text-shows line rest))
+    cond_both (is_letter b) (read_word text) number P (λ _. on line text (read_word text) (word-shows text))
+    (λ letter. cond_both (is_ascii_digit b) (read_number text) quote P (λ digit. on line text (read_number text) (number-shows b rest digit))
+    (λ digit. cond_both (eqb b 39) (read_character text) quotes P (λ is. on line text (read_character text) (subst (λ c. Shows (c ∷ rest) (read_character (c ∷ rest))) (sym (eqb-true b 39 is)) (character-shows rest)))
+    (λ single. cond_both (eqb b 34) (read_text text) mark P (λ is. on line text (read_text text) (subst (λ c. Shows (c ∷ rest) (read_text (c ∷ rest))) (sym (eqb-true b 34 is)) (text-shows rest)))
     (λ double. cond_both (eqb b 35) (read_directive line text) (read_punctuator text) P
-    (λ is. subst (λ c. Shows line (c ∷ rest) (read_directive line (c ∷ rest))) (sym (eqb-true b 35 is)) (directive-shows line rest))
-    (λ hash. punctuator-shows line text
-    (λ _ one two three. stray (omega arith) (or_from _ _ white (or_from _ _ letter (or_from _ _ digit (or_from _ _ single (or_from _ _ double hash))))) apart (no_punctuator text one two three)))))))
+    (λ is. subst (λ c. ShowsOn line (c ∷ rest) (read_directive line (c ∷ rest))) (sym (eqb-true b 35 is)) (directive-shows line rest))
+    (λ hash. on line text (read_punctuator text) (punctuator-shows text
+    (λ _ one two three. stray (omega arith) (or_from _ _ white (or_from _ _ letter (or_from _ _ digit (or_from _ _ single (or_from _ _ double hash))))) apart (no_punctuator text one two three))))))))
 
-comment-shows : (line : Line) (rest : List ℕ) → begins_block_comment rest ≡ true → (found : Option ℕ) → block_comment rest ≡ found → Shows line rest (comment_or found)
-comment-shows line rest begins None is = unclosed_comment begins is
-comment-shows line rest begins (Some bytes) is = tt
+comment-shows : (rest : List ℕ) → begins_block_comment rest ≡ true → (found : Option ℕ) → block_comment rest ≡ found → Shows rest (comment_or found)
+comment-shows rest begins None is = unclosed_comment begins is
+comment-shows rest begins (Some bytes) is = tt
 
-shows : (line : Line) (b : ℕ) (rest : List ℕ) → Shows line (b ∷ rest) (read line (b ∷ rest))
+shows : (line : Line) (b : ℕ) (rest : List ℕ) → ShowsOn line (b ∷ rest) (read line (b ∷ rest))
 unfolding read
 shows line b rest =
-    let P = Shows line (b ∷ rest) in
+    let P = ShowsOn line (b ∷ rest) in
     let text = b ∷ rest in
     let token = read_token line b text in
     let comment = cond (begins_block_comment text) (comment_or (block_comment text)) token in
     cond_both (is_white b) (Gap 1) (cond (begins_line_comment text) (Gap (prefix_len is_in_line text)) comment) P (λ _. tt)
     (λ white. cond_both (begins_line_comment text) (Gap (prefix_len is_in_line text)) comment P (λ _. tt)
-    (λ lined. cond_both (begins_block_comment text) (comment_or (block_comment text)) token P (λ blocked. comment-shows line text blocked (block_comment text) refl)
+    (λ lined. cond_both (begins_block_comment text) (comment_or (block_comment text)) token P (λ blocked. on line text (comment_or (block_comment text)) (comment-shows text blocked (block_comment text) refl))
     (λ blocked. token-shows line b rest white (or_from _ _ lined blocked))))
 
 -- each fault that is read is one by a rule
-pub read-fault : (line : Line) (rest : List ℕ) (what : Faults) (place : ℕ) → 0 < length rest → read line rest ≡ Fault what place → FaultAt line rest what place
+pub read-fault : (line : Line) (rest : List ℕ) (what : Faults) (place : ℕ) → 0 < length rest → read line rest ≡ Fault what place → FaultOn line rest what place
 read-fault line [] what place some is = absurd (omega arith)
-read-fault line (b ∷ rest) what place some is = subst (Shows line (b ∷ rest)) is (shows line b rest)
+read-fault line (b ∷ rest) what place some is = subst (ShowsOn line (b ∷ rest)) is (shows line b rest)
 
 -- ---- and the other way
 
@@ -341,45 +352,51 @@ stray-read line (b ∷ rest) some other apart never =
     rw (white.0, comments.0, comments.1, letter.0, digit.0, single.0, double.0, double.1, none-at (b ∷ rest) never 3, none-at (b ∷ rest) never 2, none-at (b ∷ rest) never 1) refl
 
 -- each fault by a rule stands in a text that is not empty
-pub fault-some : (line : Line) (rest : List ℕ) (what : Faults) (place : ℕ) → FaultAt line rest what place → 0 < length rest
-fault-some line rest _ _ (stray some other apart never) = some
-fault-some line [] _ _ (unclosed_comment begins open_end) = cc
-fault-some line (b ∷ rest) _ _ (unclosed_comment begins open_end) = omega arith
-fault-some line [] _ _ (unfit_number digit unfit) = cc
-fault-some line (b ∷ rest) _ _ (unfit_number digit unfit) = omega arith
-fault-some line [] _ _ (large_number digit numeral large) = cc
-fault-some line (b ∷ rest) _ _ (large_number digit numeral large) = omega arith
-fault-some line rest _ _ (wrong_in_text is items bad) = front_some rest 34 (omega arith) is
-fault-some line rest _ _ (unclosed_text is items ends) = front_some rest 34 (omega arith) is
-fault-some line rest _ _ (empty_character is next) = front_some rest 39 (omega arith) is
-fault-some line rest _ _ (wrong_in_character is bad) = front_some rest 39 (omega arith) is
-fault-some line rest _ _ (long_character is first other goes) = front_some rest 39 (omega arith) is
-fault-some line rest _ _ (unclosed_quote is ends) = front_some rest 39 (omega arith) is
-fault-some line rest _ _ (unclosed_character is first ends) = front_some rest 39 (omega arith) is
+bytes-some : (rest : List ℕ) (what : Faults) (place : ℕ) → FaultAt rest what place → 0 < length rest
+bytes-some rest _ _ (stray some other apart never) = some
+bytes-some [] _ _ (unclosed_comment begins open_end) = cc
+bytes-some (b ∷ rest) _ _ (unclosed_comment begins open_end) = omega arith
+bytes-some [] _ _ (unfit_number digit unfit) = cc
+bytes-some (b ∷ rest) _ _ (unfit_number digit unfit) = omega arith
+bytes-some [] _ _ (large_number digit numeral large) = cc
+bytes-some (b ∷ rest) _ _ (large_number digit numeral large) = omega arith
+bytes-some rest _ _ (wrong_in_text is items bad) = front_some rest 34 (omega arith) is
+bytes-some rest _ _ (unclosed_text is items ends) = front_some rest 34 (omega arith) is
+bytes-some rest _ _ (empty_character is next) = front_some rest 39 (omega arith) is
+bytes-some rest _ _ (wrong_in_character is bad) = front_some rest 39 (omega arith) is
+bytes-some rest _ _ (long_character is first other goes) = front_some rest 39 (omega arith) is
+bytes-some rest _ _ (unclosed_quote is ends) = front_some rest 39 (omega arith) is
+bytes-some rest _ _ (unclosed_character is first ends) = front_some rest 39 (omega arith) is
+
+pub fault-some : (line : Line) (rest : List ℕ) (what : Faults) (place : ℕ) → FaultOn line rest what place → 0 < length rest
+fault-some line rest what place (by_bytes fault) = bytes-some rest what place fault
 fault-some line rest _ _ (not_directive is clear other) = front_some rest 35 (omega arith) is
 fault-some line rest _ _ (spaced_directive is spaced) = front_some rest 35 (omega arith) is
 fault-some line rest _ _ (late_hash is used) = front_some rest 35 (omega arith) is
 
 -- each fault by a rule is read
-pub fault-read : (line : Line) (rest : List ℕ) (what : Faults) (place : ℕ) → FaultAt line rest what place → read line rest ≡ Fault what place
-fault-read line rest _ _ (stray some other apart never) = stray-read line rest some other apart never
-fault-read line rest _ _ (unclosed_comment begins open_end) = comment-read line rest begins open_end
-fault-read line rest _ _ (unfit_number digit unfit) = number-read line rest digit ∙ unfit-read rest unfit
-fault-read line rest _ _ (large_number digit numeral large) = number-read line rest digit ∙ large-read rest numeral large
-fault-read line rest _ _ (wrong_in_text {what = what} {place = place} is items bad) =
+bytes-read : (line : Line) (rest : List ℕ) (what : Faults) (place : ℕ) → FaultAt rest what place → read line rest ≡ Fault what place
+bytes-read line rest _ _ (stray some other apart never) = stray-read line rest some other apart never
+bytes-read line rest _ _ (unclosed_comment begins open_end) = comment-read line rest begins open_end
+bytes-read line rest _ _ (unfit_number digit unfit) = number-read line rest digit ∙ unfit-read rest unfit
+bytes-read line rest _ _ (large_number digit numeral large) = number-read line rest digit ∙ large-read rest numeral large
+bytes-read line rest _ _ (wrong_in_text {what = what} {place = place} is items bad) =
     let before = items-read rest place (front_some rest 34 (omega arith) is) items in
     text-read line rest is ∙ text-wrong rest before.0 (1 + place) before.1 what (wrong-item 34 refl (drop (1 + place) rest) what bad)
-fault-read line rest _ _ (unclosed_text {place = place} is items ends) =
+bytes-read line rest _ _ (unclosed_text {place = place} is items ends) =
     let before = items-read rest place (front_some rest 34 (omega arith) is) items in
     text-read line rest is ∙ text-cut rest before.0 (1 + place) before.1 (cut-item 34 (drop (1 + place) rest) ends)
-fault-read line rest _ _ (empty_character is next) = character-read line rest is ∙ empty-read rest (first_at rest 1 ∙ next)
-fault-read line rest _ _ (wrong_in_character {what = what} is bad) = character-read line rest is ∙ wrong-read rest what bad
-fault-read line rest _ _ (long_character {value = value} {bytes = bytes} is first other goes) =
+bytes-read line rest _ _ (empty_character is next) = character-read line rest is ∙ empty-read rest (first_at rest 1 ∙ next)
+bytes-read line rest _ _ (wrong_in_character {what = what} is bad) = character-read line rest is ∙ wrong-read rest what bad
+bytes-read line rest _ _ (long_character {value = value} {bytes = bytes} is first other goes) =
     character-read line rest is ∙ long-read rest value bytes first
     ∙ neither-read (drop (1 + bytes) rest) value (1 + bytes) (item_at 39 (drop (1 + bytes) rest)) (item-ends 39 (drop (1 + bytes) rest)) (λ e. other (sym (first_at rest (1 + bytes)) ∙ e)) goes
-fault-read line rest _ _ (unclosed_quote is ends) = character-read line rest is ∙ quote-read rest ends
-fault-read line rest _ _ (unclosed_character {value = value} {bytes = bytes} is first ends) =
+bytes-read line rest _ _ (unclosed_quote is ends) = character-read line rest is ∙ quote-read rest ends
+bytes-read line rest _ _ (unclosed_character {value = value} {bytes = bytes} is first ends) =
     character-read line rest is ∙ long-read rest value bytes first ∙ ap (closing_quote value (1 + bytes)) (cut-item 39 (drop (1 + bytes) rest) ends)
+
+pub fault-read : (line : Line) (rest : List ℕ) (what : Faults) (place : ℕ) → FaultOn line rest what place → read line rest ≡ Fault what place
+fault-read line rest what place (by_bytes fault) = bytes-read line rest what place fault
 fault-read line rest _ _ (not_directive is clear other) = directive-read line rest is ∙ clear-read line rest clear other
 fault-read line rest _ _ (spaced_directive is spaced) = directive-read line rest is ∙ spaced-read line rest spaced
 fault-read line rest _ _ (late_hash is used) = directive-read line rest is ∙ used-read line rest used

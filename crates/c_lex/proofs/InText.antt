@@ -8,7 +8,6 @@ use Rattle.c_ast.specs.declared.int_type.IntType.{IntType}
 use Rattle.c_ast.specs.declared.token.Lexeme.{Lexeme}
 use Rattle.c_ast.specs.declared.token.Lexeme.TheVariants as lexeme
 use Rattle.c_ast.specs.Seen.{Seen}
-use Rattle.c_lex.specs.declared.reading.Line.{Line}
 use Rattle.c_lex.specs.Numeral.{greatest, first_type, listed_types, is_constant_type, numeral_value}
 use Rattle.c_lex.specs.Spelling.{Spells}
 use Rattle.c_lex.specs.Tokens.{TokenAt, Reaches, start, gap, token, Tokens, IsTyped, IsInText}
@@ -47,8 +46,8 @@ spelled-typed (lexeme.Text values) bytes spells = tt
 spelled-typed (lexeme.Keyword number) bytes spells = tt
 spelled-typed (lexeme.Punct number) bytes spells = tt
 
-one-in_text : (text : List ℕ) (place : ℕ) (line : Line) (kind : Lexeme) (bytes : ℕ) → TokenAt line (drop place text) kind bytes → IsInText text (record { kind = kind; bytes = take bytes (drop place text); start = place })
-one-in_text text place line kind bytes here =
+one-in_text : (text : List ℕ) (place : ℕ) (kind : Lexeme) (bytes : ℕ) → TokenAt (drop place text) kind bytes → IsInText text (record { kind = kind; bytes = take bytes (drop place text); start = place })
+one-in_text text place kind bytes here =
     let count : length (take bytes (drop place text)) ≡ bytes = length-take-le bytes (drop place text) here.within in
     record {
       within = omega (arith, count, here.some, here.within, length-drop place text);
@@ -56,11 +55,11 @@ one-in_text text place line kind bytes here =
       typed = spelled-typed kind (take bytes (drop place text)) here.spells;
     }
 
-reached-in_text : (text : List ℕ) (place : ℕ) (line : Line) (tokens : List Seen) → Reaches text place line tokens → All (IsInText text) tokens
-reached-in_text text _ _ _ start = λ k d below. absurd (omega arith)
-reached-in_text text _ _ tokens (gap bytes reached is) = reached-in_text text _ _ tokens reached
-reached-in_text text _ _ _ (token {place = place} {line = line} {tokens = tokens} kind bytes reached here) =
-    All-push (IsInText text) tokens (record { kind = kind; bytes = take bytes (drop place text); start = place }) (reached-in_text text _ _ tokens reached) (one-in_text text place line kind bytes here)
+reached-in_text : (text : List ℕ) (place : ℕ) (tokens : List Seen) → Reaches text place tokens → All (IsInText text) tokens
+reached-in_text text _ _ start = λ k d below. absurd (omega arith)
+reached-in_text text _ tokens (gap bytes reached is) = reached-in_text text _ tokens reached
+reached-in_text text _ _ (token {place = place} {tokens = tokens} kind bytes reached here sound) =
+    All-push (IsInText text) tokens (record { kind = kind; bytes = take bytes (drop place text); start = place }) (reached-in_text text _ tokens reached) (one-in_text text place kind bytes here)
 
 pub tokens-in_text : (text : List ℕ) (tokens : List Seen) → Tokens text tokens → All (IsInText text) tokens
-tokens-in_text text tokens whole = reached-in_text text (length text) whole.0 tokens whole.1
+tokens-in_text text tokens whole = reached-in_text text (length text) tokens whole

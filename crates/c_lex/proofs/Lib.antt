@@ -13,8 +13,10 @@ pub mod BodyFronts
 pub mod QuotedReads
 pub mod DirectiveReads
 pub mod ItemFaults
+pub mod LineFaults
 pub mod FaultReads
 pub mod ReadLaws
+pub mod Standing
 pub mod TokenLaws
 pub mod LexLaws
 pub mod LoopLaws

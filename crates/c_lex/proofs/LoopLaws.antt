@@ -4,18 +4,27 @@ use Rattle.c_ast.specs.declared.token.Lexeme.{Lexeme}
 use Rattle.c_ast.specs.Seen.{Seen}
 use Rattle.c_lex.specs.declared.fault.Fault.{Fault as Faults}
 use Rattle.c_lex.specs.declared.reading.Line.{Line}
-use Rattle.c_lex.specs.declared.reading.Line.TheVariants.{Used}
+use Rattle.c_lex.specs.declared.reading.Line.TheVariants.{Clear, Used}
 use Rattle.c_lex.specs.declared.reading.Reading.TheVariants.{Gap, Token, Fault}
-use Rattle.c_lex.specs.Gap.{line_behind}
+use Rattle.c_lex.specs.Scanner.{line_behind}
 use Rattle.c_lex.specs.Reading.{read}
-use Rattle.c_lex.specs.Tokens.{Reaches, gap, token, FirstFault}
-use Rattle.c_lex.proofs.FaultReads.{read-fault}
+use Rattle.c_lex.specs.Tokens.{Reaches, start, gap, token, FirstFault}
+use Rattle.c_lex.proofs.Standing.{Standing, standing-start, standing-gap, standing-token}
+use Rattle.c_lex.proofs.TokenLaws.{sound_token, faulty_read}
 use Rattle.c_lex.proofs.ReadLaws.{reads-gap, gap-fits, fault-fits, reads-token}
 
 -- some bytes behind a place, which are there
 pub record Goes (text : List ℕ) (place bytes : ℕ) : Type 0 where
   pub some : 0 < bytes
   pub within : place + bytes ≤ length text
+
+-- the text before a place is gaps and these tokens, with this before the place on its line
+pub record Arrives (text : List ℕ) (place : ℕ) (line : Line) (tokens : List Seen) : Type 0 where
+  pub reached : Reaches text place tokens
+  pub standing : Standing text tokens place line
+
+pub arrives-start : (text : List ℕ) → Arrives text 0 Clear []
+arrives-start text = record { reached = start; standing = standing-start text }
 
 module _ (text : List ℕ) (place : ℕ) (line : Line) (inside : place < length text) where
   pub rest_some : 0 < length (drop place text)
@@ -26,21 +35,34 @@ module _ (text : List ℕ) (place : ℕ) (line : Line) (inside : place < length 
       let fits = gap-fits (drop place text) bytes (reads-gap line (drop place text) bytes rest_some is) in
       record { some = fits.0; within = omega (arith, fits.1, length-drop place text) }
 
-  pub gap-reached : (tokens : List Seen) (bytes : ℕ) → Reaches text place line tokens → read line (drop place text) ≡ Gap bytes → Reaches text (place + bytes) (line_behind line (get_or (drop place text) 0 0)) tokens
-  gap-reached tokens bytes reached is = gap bytes reached (reads-gap line (drop place text) bytes rest_some is)
+  pub gap-reached : (tokens : List Seen) (bytes : ℕ) → Arrives text place line tokens → read line (drop place text) ≡ Gap bytes → Arrives text (place + bytes) (line_behind line (get_or (drop place text) 0 0)) tokens
+  gap-reached tokens bytes here is =
+      let gap_is = reads-gap line (drop place text) bytes rest_some is in
+      record { reached = gap bytes here.reached gap_is; standing = standing-gap text tokens place bytes line here.standing gap_is }
 
   pub token-goes : (kind : Lexeme) (bytes : ℕ) → read line (drop place text) ≡ Token kind bytes → Goes text place bytes
   token-goes kind bytes is =
       let here = reads-token line (drop place text) kind bytes rest_some is in
       record { some = here.some; within = omega (arith, here.within, length-drop place text) }
 
-  pub token-reached : (tokens : List Seen) (kind : Lexeme) (bytes : ℕ) → Reaches text place line tokens → read line (drop place text) ≡ Token kind bytes →
-      Reaches text (place + bytes) Used (tokens ++ record { kind = kind; bytes = take bytes (drop place text); start = place } ∷ [])
-  token-reached tokens kind bytes reached is = token kind bytes reached (reads-token line (drop place text) kind bytes rest_some is)
+  pub token-reached : (tokens : List Seen) (kind : Lexeme) (bytes : ℕ) → Arrives text place line tokens → read line (drop place text) ≡ Token kind bytes →
+      Arrives text (place + bytes) Used (tokens ++ record { kind = kind; bytes = take bytes (drop place text); start = place } ∷ [])
+  token-reached tokens kind bytes here is =
+      let token_is = reads-token line (drop place text) kind bytes rest_some is in
+      record {
+        reached = token kind bytes here.reached token_is (sound_token text tokens place line here.standing kind bytes is);
+        standing = standing-token text tokens place bytes kind token_is.within;
+      }
 
   pub fault-within : (what : Faults) (offset : ℕ) → read line (drop place text) ≡ Fault what offset → place + offset ≤ length text
   fault-within what offset is = omega (arith, fault-fits line (drop place text) what offset rest_some is, length-drop place text)
 
-  pub fault-first : (tokens : List Seen) (what : Faults) (offset : ℕ) → Reaches text place line tokens → read line (drop place text) ≡ Fault what offset → FirstFault text what (place + offset)
-  fault-first tokens what offset reached is =
-      record { place = place; line = line; tokens = tokens; offset = offset; reached = reached; faulty = read-fault line (drop place text) what offset rest_some is; there = refl }
+  pub fault-first : (tokens : List Seen) (what : Faults) (offset : ℕ) → Arrives text place line tokens → read line (drop place text) ≡ Fault what offset → FirstFault text what (place + offset)
+  fault-first tokens what offset here is = record {
+    place = place;
+    tokens = tokens;
+    offset = offset;
+    reached = here.reached;
+    faulty = faulty_read text tokens place line here.standing what offset rest_some is;
+    there = refl;
+  }

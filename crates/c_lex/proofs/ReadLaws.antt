@@ -24,6 +24,7 @@ use Rattle.c_lex.proofs.Tells.{IsToken, Tells}
 use Rattle.c_lex.proofs.WordReads.{word-tells, number-tells, punctuator-tells}
 use Rattle.c_lex.proofs.QuotedReads.{character-tells, text-tells}
 use Rattle.c_lex.proofs.DirectiveReads.{directive-tells}
+use Rattle.c_lex.proofs.LineFaults.{FaultOn}
 use Rattle.c_lex.proofs.FaultReads.{read-fault, fault-read}
 
 -- ---- one token
@@ -192,7 +193,7 @@ fault-fits line (b ∷ rest) what place some h =
     (gives_fault (is_white b) (begins_line_comment (b ∷ rest)) (begins_block_comment (b ∷ rest)) _ _ (read_token line b (b ∷ rest)) what place h)
 
 -- what is read as a token is one
-pub reads-token : (line : Line) (rest : List ℕ) (kind : Lexeme) (n : ℕ) → 0 < length rest → read line rest ≡ Token kind n → TokenAt line rest kind n
+pub reads-token : (line : Line) (rest : List ℕ) (kind : Lexeme) (n : ℕ) → 0 < length rest → read line rest ≡ Token kind n → TokenAt rest kind n
 unfolding read
 reads-token line [] kind n some h = absurd (omega arith)
 reads-token line (b ∷ rest) kind n some h =
@@ -204,12 +205,16 @@ reads-token line (b ∷ rest) kind n some h =
       spells = token.spells;
       longest = token.longest;
       apart = chosen.0;
-      sound = λ what place fault. let clash : Token kind n ≡ Fault what place = sym h ∙ fault-read line (b ∷ rest) what place fault in cc;
     }
 
+-- and there stands no fault
+pub token-sound : (line : Line) (rest : List ℕ) (kind : Lexeme) (n : ℕ) → read line rest ≡ Token kind n → (what : Faults) (place : ℕ) → FaultOn line rest what place → ⊥
+token-sound line rest kind n is what place fault =
+    let clash : Token kind n ≡ Fault what place = sym is ∙ fault-read line rest what place fault in cc
+
 -- of two tokens at one place neither is longer
-same_bytes : (line : Line) (rest : List ℕ) (kind other : Lexeme) (n m : ℕ) → TokenAt line rest kind n → TokenAt line rest other m → n ≡ m
-same_bytes line rest kind other n m token also =
+same_bytes : (rest : List ℕ) (kind other : Lexeme) (n m : ℕ) → TokenAt rest kind n → TokenAt rest other m → n ≡ m
+same_bytes rest kind other n m token also =
     ⊎_elim (λ shorter. absurd (token.longest m other shorter also.within also.spells))
     (λ not_shorter. ⊎_elim (λ longer. absurd (also.longest n kind longer token.within token.spells)) (λ not_longer. omega arith) (cases_lt m n))
     (cases_lt n m)
@@ -224,18 +229,18 @@ gap_not_token (b ∷ rest) n m kind gap apart never = by_tests (is_white b) refl
     by_tests false is false true gap apart = cc
     by_tests false is false false gap apart = cc
 
-by_reading : (line : Line) (rest : List ℕ) (kind : Lexeme) (n : ℕ) → TokenAt line rest kind n → (found : Reading) → read line rest ≡ found → read line rest ≡ Token kind n
-by_reading line rest kind n token (Gap m) is =
+by_reading : (line : Line) (rest : List ℕ) (kind : Lexeme) (n : ℕ) → TokenAt rest kind n → ((what : Faults) (place : ℕ) → FaultOn line rest what place → ⊥) → (found : Reading) → read line rest ≡ found → read line rest ≡ Token kind n
+by_reading line rest kind n token sound (Gap m) is =
     absurd (gap_not_token rest m n kind (reads-gap line rest m (omega (arith, token.some, token.within)) is) token.apart
     (front-not_white rest n kind token.some token.spells))
-by_reading line rest kind n token (Fault what place) is = absurd (token.sound what place (read-fault line rest what place (omega (arith, token.some, token.within)) is))
-by_reading line rest kind n token (Token other m) is =
-    let also : TokenAt line rest other m = reads-token line rest other m (omega (arith, token.some, token.within)) is in
-    let bytes : n ≡ m = same_bytes line rest kind other n m token also in
+by_reading line rest kind n token sound (Fault what place) is = absurd (sound what place (read-fault line rest what place (omega (arith, token.some, token.within)) is))
+by_reading line rest kind n token sound (Token other m) is =
+    let also : TokenAt rest other m = reads-token line rest other m (omega (arith, token.some, token.within)) is in
+    let bytes : n ≡ m = same_bytes rest kind other n m token also in
     let spelled : Spells other (take n rest) = rw bytes also.spells in
     let same : kind ≡ other = Spells-one kind other (take n rest) token.spells spelled in
     rw (is, same, bytes) refl
 
--- a token is read as one
-pub token-reads : (line : Line) (rest : List ℕ) (kind : Lexeme) (n : ℕ) → TokenAt line rest kind n → read line rest ≡ Token kind n
-token-reads line rest kind n token = by_reading line rest kind n token (read line rest) refl
+-- a token where no fault stands is read as one
+pub token-reads : (line : Line) (rest : List ℕ) (kind : Lexeme) (n : ℕ) → TokenAt rest kind n → ((what : Faults) (place : ℕ) → FaultOn line rest what place → ⊥) → read line rest ≡ Token kind n
+token-reads line rest kind n token sound = by_reading line rest kind n token sound (read line rest) refl

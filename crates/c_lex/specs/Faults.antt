@@ -1,18 +1,18 @@
 -- The faults of a text, one rule for each: what stands where neither a gap nor a token begins, and at which byte.
-use Rattle.std.specs.Prelude.{◌≡◌, ◌≢◌, ℕ, ◌+◌, ◌<◌, ◌≤◌, Bool, true, false, ◌||◌, ◌&&◌, ◌==◌, nat_lt, List, [], ◌∷◌, length, take, drop, slice_index, None}
+use Rattle.std.specs.Prelude.{◌≡◌, ◌≢◌, ℕ, IsTrue, ◌+◌, ◌<◌, ◌≤◌, Bool, true, false, ◌||◌, ◌&&◌, ◌==◌, nat_lt, List, [], ◌∷◌, length, take, drop, slice_index, None}
 use Rattle.std.specs.Char.{is_ascii_digit}
+use Rattle.c_ast.specs.Seen.{Seen}
 use Rattle.c_ast.specs.Words.{punctuator_of}
 use Rattle.c_lex.specs.declared.fault.Fault.{Fault}
 use Rattle.c_lex.specs.declared.fault.Fault.TheVariants.{BadByte, UnclosedText, UnclosedComment, NumberTooLarge, BadDirective}
 use Rattle.c_lex.specs.declared.escape.Item.TheVariants.{Byte}
-use Rattle.c_lex.specs.declared.reading.Line.{Line}
-use Rattle.c_lex.specs.declared.reading.Line.TheVariants.{Clear, Spaced, Used}
 use Rattle.c_lex.specs.Bytes.{is_white, is_letter}
 use Rattle.c_lex.specs.Digits.{value_of}
 use Rattle.c_lex.specs.Numeral.{numeral_at, is_numeral, fitting_bytes, numeral_type}
 use Rattle.c_lex.specs.Escape.{simple_escape, octal_count, hex_count, is_plain, item_at}
 use Rattle.c_lex.specs.Directive.{is_include_line}
 use Rattle.c_lex.specs.Gap.{begins_line_comment, begins_block_comment, block_comment}
+use Rattle.c_lex.specs.Lines.{IsFirstOnLine, IsBehindBlanks}
 
 -- a newline, or the end
 abbrev pub is_cut_off : List ℕ → Bool
@@ -43,38 +43,45 @@ pub data AreItems (quote : ℕ) (rest : List ℕ) : ℕ → Type 0 where
 abbrev pub begins_other : ℕ → Bool
 begins_other b = is_white b || (is_letter b || (is_ascii_digit b || (b == 39 || (b == 34 || b == 35))))
 
--- At the front stands this fault, at the byte of this number; the line says what stands on the line before it.
-pub data FaultAt (line : Line) (rest : List ℕ) : Fault → ℕ → Type 0 where
+-- The bytes from a place on are this fault, at the byte of this number.
+pub data FaultAt (rest : List ℕ) : Fault → ℕ → Type 0 where
   -- a byte that begins nothing
   stray : 0 < length rest → begins_other (slice_index rest 0) ≡ false → (begins_line_comment rest || begins_block_comment rest) ≡ false →
-      ((bytes : ℕ) → bytes ≤ length rest → punctuator_of (take bytes rest) ≡ None) → FaultAt line rest BadByte 0
+      ((bytes : ℕ) → bytes ≤ length rest → punctuator_of (take bytes rest) ≡ None) → FaultAt rest BadByte 0
   -- `/*` and no `*/` behind it
-  unclosed_comment : begins_block_comment rest ≡ true → block_comment rest ≡ None → FaultAt line rest UnclosedComment 0
+  unclosed_comment : begins_block_comment rest ≡ true → block_comment rest ≡ None → FaultAt rest UnclosedComment 0
   -- a number, at its first byte that does not fit, which is the place behind `0x` where no digit follows
-  unfit_number : is_ascii_digit (slice_index rest 0) ≡ true → is_numeral (numeral_at rest) ≡ false → FaultAt line rest BadByte (fitting_bytes (numeral_at rest))
+  unfit_number : is_ascii_digit (slice_index rest 0) ≡ true → is_numeral (numeral_at rest) ≡ false → FaultAt rest BadByte (fitting_bytes (numeral_at rest))
   -- a number that no type of its list holds
   large_number : is_ascii_digit (slice_index rest 0) ≡ true → is_numeral (numeral_at rest) ≡ true → numeral_type (numeral_at rest) ≡ None →
-      FaultAt line rest NumberTooLarge 0
+      FaultAt rest NumberTooLarge 0
   -- a string, at the first place behind its items that holds what may not stand there
   wrong_in_text : {what : Fault} {place : ℕ} → slice_index rest 0 ≡ 34 → AreItems 34 (drop 1 rest) place → IsWrong 34 (drop (1 + place) rest) what →
-      FaultAt line rest what (1 + place)
+      FaultAt rest what (1 + place)
   -- a string that a newline or the end cuts off behind its items
   unclosed_text : {place : ℕ} → slice_index rest 0 ≡ 34 → AreItems 34 (drop 1 rest) place → is_cut_off (drop (1 + place) rest) ≡ true →
-      FaultAt line rest UnclosedText 0
+      FaultAt rest UnclosedText 0
   -- a character with no item
-  empty_character : slice_index rest 0 ≡ 39 → slice_index rest 1 ≡ 39 → FaultAt line rest BadByte 1
+  empty_character : slice_index rest 0 ≡ 39 → slice_index rest 1 ≡ 39 → FaultAt rest BadByte 1
   -- a character whose item may not stand there
-  wrong_in_character : {what : Fault} → slice_index rest 0 ≡ 39 → IsWrong 39 (drop 1 rest) what → FaultAt line rest what 1
+  wrong_in_character : {what : Fault} → slice_index rest 0 ≡ 39 → IsWrong 39 (drop 1 rest) what → FaultAt rest what 1
   -- a character of more than one item, at the second
   long_character : {value bytes : ℕ} → slice_index rest 0 ≡ 39 → item_at 39 (drop 1 rest) ≡ Byte value bytes → slice_index rest (1 + bytes) ≢ 39 →
-      is_cut_off (drop (1 + bytes) rest) ≡ false → FaultAt line rest BadByte (1 + bytes)
+      is_cut_off (drop (1 + bytes) rest) ≡ false → FaultAt rest BadByte (1 + bytes)
   -- a character that a newline or the end cuts off before its item, or behind it
-  unclosed_quote : slice_index rest 0 ≡ 39 → is_cut_off (drop 1 rest) ≡ true → FaultAt line rest UnclosedText 0
+  unclosed_quote : slice_index rest 0 ≡ 39 → is_cut_off (drop 1 rest) ≡ true → FaultAt rest UnclosedText 0
   unclosed_character : {value bytes : ℕ} → slice_index rest 0 ≡ 39 → item_at 39 (drop 1 rest) ≡ Byte value bytes → is_cut_off (drop (1 + bytes) rest) ≡ true →
-      FaultAt line rest UnclosedText 0
+      FaultAt rest UnclosedText 0
+
+-- the line with a `#` at this place, behind these tokens, is the directive
+abbrev pub IsDirective : List ℕ → List Seen → ℕ → Type 0
+IsDirective text tokens place = IsBehindBlanks text tokens place × IsTrue (is_include_line (drop place text))
+
+-- At this place of a text, behind these tokens, stands this fault, so many bytes behind the place.
+pub data Faulty (text : List ℕ) (tokens : List Seen) (place : ℕ) : Fault → ℕ → Type 0 where
+  -- what the bytes from the place on say
+  by_bytes : {what : Fault} {offset : ℕ} → FaultAt (drop place text) what offset → Faulty text tokens place what offset
   -- a `#` that is the first token of its line, where the line is not the directive
-  not_directive : slice_index rest 0 ≡ 35 → line ≡ Clear → is_include_line rest ≡ false → FaultAt line rest BadDirective 0
-  -- a `#` that is the first token of its line, behind more than spaces and tabs
-  spaced_directive : slice_index rest 0 ≡ 35 → line ≡ Spaced → FaultAt line rest BadDirective 0
+  not_directive : slice_index (drop place text) 0 ≡ 35 → IsFirstOnLine text tokens place → ¬ IsDirective text tokens place → Faulty text tokens place BadDirective 0
   -- a `#` behind a token of its line
-  late_hash : slice_index rest 0 ≡ 35 → line ≡ Used → FaultAt line rest BadByte 0
+  late_hash : slice_index (drop place text) 0 ≡ 35 → ¬ IsFirstOnLine text tokens place → Faulty text tokens place BadByte 0

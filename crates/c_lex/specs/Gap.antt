@@ -2,9 +2,7 @@
 use Rattle.std.specs.Prelude.{ℕ, ◌+◌, suc, Bool, ◌&&◌, if◌then◌else◌, ◌==◌, List, [], ◌∷◌, drop, slice_index, Option, Some, None}
 use Rattle.std.specs.List.{prefix_len}
 use Rattle.std.specs.Option.{option_map}
-use Rattle.c_lex.specs.declared.reading.Line.{Line}
-use Rattle.c_lex.specs.declared.reading.Line.TheVariants.{Clear, Spaced, Used}
-use Rattle.c_lex.specs.Bytes.{is_white, is_blank, is_in_line}
+use Rattle.c_lex.specs.Bytes.{is_white, is_in_line}
 
 -- `//` stands at the front
 abbrev pub begins_line_comment : List ℕ → Bool
@@ -31,13 +29,3 @@ gap_bytes (b ∷ rest) =
     if is_white b then Some 1
     else (if begins_line_comment (b ∷ rest) then Some (prefix_len is_in_line (b ∷ rest))
     else (if begins_block_comment (b ∷ rest) then block_comment (b ∷ rest) else None))
-
--- something that is no space or tab stands on the line now, and it is no token
-abbrev pub spaced : Line → Line
-spaced Used = Used
-spaced _ = Spaced
-
--- What stands on the line behind a gap that begins with this byte. A comment stands for one space, and its newlines
--- end no line (C11 5.1.1.2 paragraph 1, phase 3).
-abbrev pub line_behind : Line → ℕ → Line
-line_behind line b = if b == 10 then Clear else (if is_blank b then line else spaced line)

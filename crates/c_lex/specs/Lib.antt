@@ -5,6 +5,7 @@ pub mod Escape
 pub mod Quoted
 pub mod Directive
 pub mod Gap
+pub mod Lines
 pub mod Spelling
 pub mod Faults
 pub mod Scanner

@@ -1,48 +1,46 @@
 -- The tokens of a text, and its first fault.
-use Rattle.std.specs.Prelude.{◌≡◌, ℕ, IsTrue, ◌+◌, ◌<◌, ◌≤◌, false, ◌||◌, ◌⊎◌, List, [], ◌∷◌, ◌++◌, length, take, drop, slice_index, Some}
+use Rattle.std.specs.Prelude.{◌≡◌, ℕ, IsTrue, ◌+◌, ◌<◌, ◌≤◌, false, ◌||◌, ◌⊎◌, List, [], ◌∷◌, ◌++◌, length, take, drop, Some}
 use Rattle.c_ast.specs.declared.token.Lexeme.{Lexeme}
 use Rattle.c_ast.specs.declared.token.Lexeme.TheVariants as lexeme
 use Rattle.c_ast.specs.Seen.{Seen}
 use Rattle.c_lex.specs.declared.fault.Fault.{Fault}
-use Rattle.c_lex.specs.declared.reading.Line.{Line}
-use Rattle.c_lex.specs.declared.reading.Line.TheVariants.{Clear, Used}
-use Rattle.c_lex.specs.Gap.{begins_line_comment, begins_block_comment, gap_bytes, line_behind}
+use Rattle.c_lex.specs.Gap.{begins_line_comment, begins_block_comment, gap_bytes}
 use Rattle.c_lex.specs.Numeral.{greatest, is_constant_type}
 use Rattle.c_lex.specs.Spelling.{Spells}
-use Rattle.c_lex.specs.Faults.{FaultAt}
+use Rattle.c_lex.specs.Faults.{Faulty}
 
--- the first bytes of a text are a token: they spell it, no longer slice from the same start is a token, no comment
--- begins there, and there stands no fault
-pub record TokenAt (line : Line) (rest : List ℕ) (kind : Lexeme) (bytes : ℕ) : Type 0 where
+-- the first bytes of a text are a token: they spell it, no longer slice from the same start is a token, and no comment
+-- begins there
+pub record TokenAt (rest : List ℕ) (kind : Lexeme) (bytes : ℕ) : Type 0 where
   pub some : 0 < bytes
   pub within : bytes ≤ length rest
   pub spells : Spells kind (take bytes rest)
   pub longest : (more : ℕ) (other : Lexeme) → bytes < more → more ≤ length rest → ¬ Spells other (take more rest)
   pub apart : (begins_line_comment rest || begins_block_comment rest) ≡ false
-  pub sound : (what : Fault) (place : ℕ) → ¬ FaultAt line rest what place
 
--- the text before a place is gaps and tokens in turn, with what stands on the place's line before it
-pub data Reaches (text : List ℕ) : ℕ → Line → List Seen → Type 0 where
-  start : Reaches text 0 Clear []
-  gap : {place : ℕ} {line : Line} {tokens : List Seen} (bytes : ℕ) →
-      Reaches text place line tokens → gap_bytes (drop place text) ≡ Some bytes →
-      Reaches text (place + bytes) (line_behind line (slice_index (drop place text) 0)) tokens
-  token : {place : ℕ} {line : Line} {tokens : List Seen} (kind : Lexeme) (bytes : ℕ) →
-      Reaches text place line tokens → TokenAt line (drop place text) kind bytes →
-      Reaches text (place + bytes) Used (tokens ++ record { kind = kind; bytes = take bytes (drop place text); start = place } ∷ [])
+-- no fault stands at this place, behind these tokens
+abbrev pub IsSound : List ℕ → List Seen → ℕ → Type 0
+IsSound text tokens place = (what : Fault) (offset : ℕ) → ¬ Faulty text tokens place what offset
+
+-- the text before a place is gaps and these tokens in turn, and no fault stands where a token starts
+pub data Reaches (text : List ℕ) : ℕ → List Seen → Type 0 where
+  start : Reaches text 0 []
+  gap : {place : ℕ} {tokens : List Seen} (bytes : ℕ) → Reaches text place tokens → gap_bytes (drop place text) ≡ Some bytes → Reaches text (place + bytes) tokens
+  token : {place : ℕ} {tokens : List Seen} (kind : Lexeme) (bytes : ℕ) →
+      Reaches text place tokens → TokenAt (drop place text) kind bytes → IsSound text tokens place →
+      Reaches text (place + bytes) (tokens ++ record { kind = kind; bytes = take bytes (drop place text); start = place } ∷ [])
 
 -- the whole text is gaps and these tokens in turn
 abbrev pub Tokens : List ℕ → List Seen → Type 0
-Tokens text tokens = (line : Line) × Reaches text (length text) line tokens
+Tokens text tokens = Reaches text (length text) tokens
 
 -- the text before some place is gaps and tokens in turn, and at that place stands this fault, at this byte of the text
 pub record FirstFault (text : List ℕ) (what : Fault) (at : ℕ) : Type 0 where
   pub place : ℕ
-  pub line : Line
   pub tokens : List Seen
   pub offset : ℕ
-  pub reached : Reaches text place line tokens
-  pub faulty : FaultAt line (drop place text) what offset
+  pub reached : Reaches text place tokens
+  pub faulty : Faulty text tokens place what offset
   pub there : at ≡ place + offset
 
 -- a text is read in one way: it has tokens or a first fault, never both, and one of each at most

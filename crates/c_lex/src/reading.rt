@@ -2,7 +2,7 @@
 
 ghost use Rattle.std.specs.Prelude.{◌≡◌, ◌<◌, length, slice_index, IfOk};
 ghost use Rattle.c_lex.specs.Reading as spec;
-ghost use Rattle.c_lex.specs.Gap.{line_behind};
+ghost use Rattle.c_lex.specs.Scanner.{line_behind};
 
 use crate::bytes::{Kind, is_blank, is_letter, is_white, run};
 use crate::directive::read_directive;

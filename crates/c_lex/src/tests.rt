@@ -1,10 +1,15 @@
-//! Texts with the tokens or the fault that C11 6.4 gives them. Boundaries were read off clang's token dump, types and
-//! values off programs that clang compiled.
+//! Texts with the tokens or the fault that C11 6.4 gives them. `tools/check_tokens.py` holds the rows against clang: the
+//! boundaries and kinds against its token dump, types and values against a program that it compiles.
+
+mod faults;
+mod tokens;
 
 use crate::{LexRefusal, lex, reads_one_way, tokens_are_in_text};
 use c_ast::{IntType, Lexeme, Token};
+use faults::FAULTS;
 use std::alloc::{AllocError, Global};
 use std::test::Fail;
+use tokens::{NUMBERS, TOKENS};
 
 /// The name of a number's type.
 fn type_name(ty: IntType) -> &'static str {
@@ -82,144 +87,35 @@ fn words_and_punctuators_have_their_numbers(rt: HostRuntime) -> Result<(), Fail>
 
 #[test]
 fn texts_have_these_tokens(rt: HostRuntime) -> Result<(), Fail> {
-    let rows: [(&[u8], &str); 51] = [
-        (b"", ""),
-        (b" \t\n\x0b\x0c\r", ""),
-        (b"a+++b", " 0+1:n 1+2:p10 3+1:p14 4+1:n"),
-        (b"x<<=y", " 0+1:n 1+3:p40 4+1:n"),
-        (b">>=", " 0+3:p41"),
-        (b">>>=", " 0+2:p21 2+2:p25"),
-        (b"->--", " 0+2:p9 2+2:p11"),
-        (b"a-->b", " 0+1:n 1+2:p11 3+1:p23 4+1:n"),
-        (b"x&&&y", " 0+1:n 1+2:p30 3+1:p12 4+1:n"),
-        (b"a|=|b", " 0+1:n 1+2:p44 3+1:p29 4+1:n"),
-        (b"...", " 0+1:p8 1+1:p8 2+1:p8"),
-        (b"<:%>", " 0+1:p22 1+1:p33 2+1:p19 3+1:p23"),
-        (b"_x9 if9 If sizeof", " 0+3:n 4+3:n 8+2:n 11+6:k24"),
-        (b"0 00 0x0", " 0+1:0int 2+2:0int 5+3:0int"),
-        (b"2147483647", " 0+10:2147483647int"),
-        (b"2147483648", " 0+10:2147483648long"),
-        (b"0x7fffffff", " 0+10:2147483647int"),
-        (b"0x80000000", " 0+10:2147483648uint"),
-        (b"0Xffffffff", " 0+10:4294967295uint"),
-        (b"0x100000000", " 0+11:4294967296long"),
-        (b"017777777777", " 0+12:2147483647int"),
-        (b"037777777777", " 0+12:4294967295uint"),
-        (b"4294967295u", " 0+11:4294967295uint"),
-        (b"4294967296U", " 0+11:4294967296ulong"),
-        (b"1l 1L 1u", " 0+2:1long 3+2:1long 6+2:1uint"),
-        (
-            b"1ul 1lu 1Lu 1UL",
-            " 0+3:1ulong 4+3:1ulong 8+3:1ulong 12+3:1ulong",
-        ),
-        (b"9223372036854775807", " 0+19:9223372036854775807long"),
-        (b"9223372036854775808u", " 0+20:9223372036854775808ulong"),
-        (b"0x8000000000000000", " 0+18:9223372036854775808ulong"),
-        (b"0x7fffffffffffffffL", " 0+19:9223372036854775807long"),
-        (b"0x8000000000000000L", " 0+19:9223372036854775808ulong"),
-        (b"18446744073709551615u", " 0+21:18446744073709551615ulong"),
-        (
-            b"01777777777777777777777",
-            " 0+23:18446744073709551615ulong",
-        ),
-        (b"1-.5", " 0+1:1int 1+1:p15 2+1:p8 3+1:5int"),
-        (b"'a' '\"' ' ' '~'", " 0+3:c97 4+3:c34 8+3:c32 12+3:c126"),
-        (
-            b"'\\0' '\\377' '\\xff' '\\x0041'",
-            " 0+4:c0 5+6:c255 12+6:c255 19+8:c65",
-        ),
-        (
-            b"'\\a' '\\b' '\\f' '\\n' '\\r' '\\t' '\\v'",
-            " 0+4:c7 5+4:c8 10+4:c12 15+4:c10 20+4:c13 25+4:c9 30+4:c11",
-        ),
-        (
-            b"'\\\\' '\\'' '\\\"' '\\?'",
-            " 0+4:c92 5+4:c39 10+4:c34 15+4:c63",
-        ),
-        (b"\"\" \"hi\"\"'\"", " 0+2:t[] 3+4:t[104, 105] 7+3:t[39]"),
-        (b"\"\\1234\\x41\\\"\"", " 0+13:t[83, 52, 65, 34]"),
-        (b"\"\x80\xff\"", " 0+4:t[128, 255]"),
-        (b"a/**/b//c", " 0+1:n 5+1:n"),
-        (b"/***/x/* * / **/y", " 5+1:n 16+1:n"),
-        (b"//\n/ /", " 3+1:p18 5+1:p18"),
-        (b"\"/*\"//\"\n'/'", " 0+4:t[47, 42] 8+3:c47"),
-        (b"#include <stdio.h>", " 0+18:#"),
-        (b"#include<stdio.h>\r\n x", " 0+17:# 20+1:n"),
-        (b"\n\t # include\t<stdio.h> \t\nx", " 3+19:# 25+1:n"),
-        (b"x\n#include <stdio.h>\n", " 0+1:n 2+18:#"),
-        (b"/*\n*/\n#include <stdio.h>", " 6+18:#"),
-        (
-            b"include <stdio.h>",
-            " 0+7:n 8+1:p22 9+5:n 14+1:p8 15+1:n 16+1:p23",
-        ),
-    ];
-    for (text, expected) in rows {
+    for (text, expected) in &TOKENS {
         let found = shown(rt.alloc(), text)?;
-        assert_eq!(rt; found.as_str(), expected, "at {text:?}");
+        assert_eq!(rt; found.as_str(), *expected, "at {text:?}");
+    }
+    Ok(())
+}
+
+#[test]
+fn numbers_have_the_first_type_that_holds_them(rt: HostRuntime) -> Result<(), Fail> {
+    for (number, expected, types) in &NUMBERS {
+        let text = format!(in rt.alloc(); "{number} {number}u {number}l {number}ul {number}lu")?;
+        let mut found = String::new(rt.alloc());
+        for token in lex(rt.alloc(), text.as_bytes())? {
+            assert!(rt; matches!(token.kind, Lexeme::Number(value, _) if value == *expected));
+            if let Lexeme::Number(_, ty) = token.kind {
+                found.push_str(type_name(ty))?;
+                found.push_str(" ")?;
+            }
+        }
+        assert_eq!(rt; found.trim_end(), *types, "at {number}");
     }
     Ok(())
 }
 
 #[test]
 fn texts_have_these_faults(rt: HostRuntime) -> Result<(), Fail> {
-    let rows: [(&[u8], &str); 53] = [
-        (b"@", "BadByte 0"),
-        (b"a $", "BadByte 2"),
-        (b"`", "BadByte 0"),
-        (b"x\x00", "BadByte 1"),
-        (b"\\", "BadByte 0"),
-        (b"\x80", "BadByte 0"),
-        (b"\x7f", "BadByte 0"),
-        (b"08", "BadByte 1"),
-        (b"09.5", "BadByte 1"),
-        (b"0x", "BadByte 2"),
-        (b"0x;", "BadByte 2"),
-        (b"0xg", "BadByte 2"),
-        (b"0xu", "BadByte 2"),
-        (b"1.5", "BadByte 1"),
-        (b"1e3", "BadByte 1"),
-        (b"1_0", "BadByte 1"),
-        (b"12uu", "BadByte 3"),
-        (b"1ll", "BadByte 2"),
-        (b"1ulu", "BadByte 3"),
-        (b"0x1.8", "BadByte 3"),
-        (b"99999999999999999999x", "BadByte 20"),
-        (b"9223372036854775808", "NumberTooLarge 0"),
-        (b" 18446744073709551616", "NumberTooLarge 1"),
-        (b"18446744073709551616u", "NumberTooLarge 0"),
-        (b"9223372036854775808l", "NumberTooLarge 0"),
-        (b"0x10000000000000000", "NumberTooLarge 0"),
-        (b"''", "BadByte 1"),
-        (b"'ab'", "BadByte 2"),
-        (b"'\\400'", "NumberTooLarge 1"),
-        (b"'\\x100'", "NumberTooLarge 1"),
-        (b"\"ab\\x123\"", "NumberTooLarge 3"),
-        (b"'\\q'", "BadByte 1"),
-        (b"\"\\xg\"", "BadByte 1"),
-        (b"\"\\8\"", "BadByte 1"),
-        (b"'\x80'", "BadByte 1"),
-        (b"\"\t\"", "BadByte 1"),
-        (b"\"\x7f\"", "BadByte 1"),
-        (b"x \"ab", "UnclosedText 2"),
-        (b"\"ab\n\"", "UnclosedText 0"),
-        (b"'a", "UnclosedText 0"),
-        (b"'\n'", "UnclosedText 0"),
-        (b"'", "UnclosedText 0"),
-        (b"\"a\\\n\"", "BadByte 2"),
-        (b"\"a\\", "BadByte 2"),
-        (b"x/*/", "UnclosedComment 1"),
-        (b"/* * /", "UnclosedComment 0"),
-        (b"#include <stdio.h> x", "BadDirective 0"),
-        (b"#include <stdio.h> #include <stdio.h>", "BadDirective 0"),
-        (b"#include <stdio.h> // c", "BadDirective 0"),
-        (b"/**/#include <stdio.h>", "BadDirective 4"),
-        (b"\n #define X", "BadDirective 2"),
-        (b"x #include <stdio.h>", "BadByte 2"),
-        (b"x /*\n*/ #include <stdio.h>", "BadByte 8"),
-    ];
-    for (text, expected) in rows {
+    for (text, expected) in &FAULTS {
         let found = shown(rt.alloc(), text)?;
-        assert_eq!(rt; found.as_str(), expected, "at {text:?}");
+        assert_eq!(rt; found.as_str(), *expected, "at {text:?}");
     }
     Ok(())
 }

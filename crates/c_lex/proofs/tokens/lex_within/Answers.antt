@@ -1,12 +1,11 @@
 use Rattle.std.proofs.Common.{arith, sym, ◌∙◌, length-take-le, length-drop, drop}
 use Rattle.std.proofs.lemmas.List.{take_rest, map_push}
-use Rattle.c_lex.specs.Tokens.{start}
 use Rattle.c_lex.proofs.LexLaws.{refusal-cause}
-use Rattle.c_lex.proofs.LoopLaws.{gap-goes, gap-reached, token-goes, token-reached, fault-within, fault-first}
+use Rattle.c_lex.proofs.LoopLaws.{arrives-start, gap-goes, gap-reached, token-goes, token-reached, fault-within, fault-first}
 use Rattle.c_lex.proofs.tokens.lex_within.Goals as goal
 
 pub loop-place-init : goal.loop-place-init
-loop-place-init c = record { reached = rw c.new-tokens.ensures.items start; within = omega arith }
+loop-place-init c = record { reached = rw c.new-tokens.ensures.items (arrives-start c.args.text.now); within = omega arith }
 
 pub overflow_add-place : goal.overflow_add-place
 overflow_add-place c =

@@ -1,0 +1,280 @@
+-- The languages of expressions, and facts on their words.
+use Rattle.std.specs.Prelude.{◌≡◌, ℕ, zero, suc, ◌<◌, ◌≤◌, Bool, true, false, ◌||◌, nat_lt, List, [], ◌∷◌, ◌++◌, None, refl, ◌==◌}
+use Rattle.std.proofs.Common.{sym, ◌∙◌, ap, arith}
+use Rattle.std.proofs.lemmas.Bool.Decides.{nat_tests}
+use Rattle.c_ast.specs.declared.token.Span.{Span}
+use Rattle.c_ast.specs.declared.token.Token.{Token}
+use Rattle.c_ast.specs.declared.token.Lexeme.TheVariants as lexeme
+use Rattle.c_ast.specs.declared.int_type.IntType.TheVariants as integer
+use Rattle.c_ast.specs.declared.expr.Expr.{Expr}
+use Rattle.c_ast.specs.declared.expr.Node.TheVariants as node
+use Rattle.c_ast.specs.declared.operator.Step.{Step}
+use Rattle.c_ast.specs.declared.operator.Step.TheVariants as step
+use Rattle.c_ast.specs.declared.operator.UnaryOperator.{UnaryOperator}
+use Rattle.c_ast.specs.declared.operator.UnaryOperator.TheVariants as operator
+use Rattle.c_ast.specs.declared.punctuator.Punctuator.TheVariants as mark
+use Rattle.c_grammar.specs.Operators.{UnaryWord, StepWord, Before}
+use Rattle.c_grammar.specs.Words.{word_of, lexeme_word, punctuator, span_of, last_end}
+use Rattle.c_grammar.specs.Expressions.{spelled, Texts, one_text, more_text}
+use Rattle.c_reader.specs.Good.{Language, Begins, StartsIn, Good}
+use Rattle.c_reader.specs.Lists.{starts_append}
+use Rattle.c_reader.specs.SpanLaws.{last_end_append}
+use Rattle.c_reader.specs.WordGood.{token_of}
+use Rattle.c_reader.specs.Words.{is}
+use Rattle.c_expressions.specs.declared.measured.Measured.{Measured}
+use Rattle.c_expressions.specs.Operators.{operator_word}
+use Rattle.c_expressions.specs.OperatorLaws.{up_to}
+use Rattle.c_expressions.specs.WordLists.{one_word, among, is_at, or_false, within_words}
+use Rattle.c_expressions.specs.Expressions.{Expressions, suffix_words}
+use Rattle.c_expressions.specs.Sums as spells
+use Rattle.c_expressions.specs.Sums.{Expression, Conditional, Primary, Postfix, Unary, Binary}
+
+-- at most this many levels stand below the expression
+abbrev pub Low : ℕ → Measured → Type 0
+Low d v = v.height ≤ d
+
+abbrev pub height_of : Measured → ℕ
+height_of v = v.height
+
+abbrev pub measured : Expr → ℕ → Measured
+measured e h = record { tree = e; height = h }
+
+abbrev pub PrimaryWord : Language Token Measured
+PrimaryWord v w = Primary v.height v.tree w
+
+abbrev pub PostfixWord : Language Token Measured
+PostfixWord v w = Postfix v.height v.tree w
+
+abbrev pub UnaryWords : Language Token Measured
+UnaryWords v w = Unary v.height v.tree w
+
+abbrev pub BinaryWords : ℕ → Language Token Measured
+BinaryWords n v w = Binary n v.height v.tree w
+
+-- whole expressions
+abbrev pub ExpressionWord : Language Token Measured
+ExpressionWord v w = Expression v.height v.tree w
+
+abbrev pub ConditionalWord : Language Token Measured
+ConditionalWord v w = Conditional v.height v.tree w
+
+-- the words with which a primary expression begins
+abbrev pub primary_words : List ℕ
+primary_words = 1 ∷ 2 ∷ 3 ∷ 4 ∷ punctuator mark.LeftParen ∷ []
+
+-- the tokens with which a primary expression begins
+abbrev pub opens : Token → Bool
+opens = among primary_words
+
+-- the words that stand before an operand
+abbrev pub step_words : List ℕ
+step_words = punctuator mark.PlusPlus ∷ punctuator mark.MinusMinus ∷ []
+
+abbrev pub unary_words : List ℕ
+unary_words = punctuator mark.Ampersand ∷ punctuator mark.Star ∷ punctuator mark.Plus ∷ punctuator mark.Minus ∷ punctuator mark.Tilde ∷ punctuator mark.Exclamation ∷ []
+
+-- the words with which an expression begins
+abbrev pub begin_words : List ℕ
+begin_words = step_words ++ (unary_words ++ primary_words)
+
+-- the tokens with which an expression begins
+abbrev pub begins : Token → Bool
+begins = among begin_words
+
+-- the words that go on behind an operand
+abbrev pub operand_words : List ℕ
+operand_words = 4 ∷ suffix_words
+
+-- the words that go on behind an expression of a tier
+abbrev pub goes_on_word : ℕ → ℕ → Bool
+goes_on_word n w = one_word operand_words w || up_to n (operator_word w)
+
+abbrev pub goes_on : ℕ → Measured → Token → Bool
+goes_on n a t = goes_on_word n (word_of t)
+
+-- the words that go on behind a conditional expression
+abbrev pub conditional_word : ℕ → Bool
+conditional_word w = goes_on_word 10 w || (w == punctuator mark.Question)
+
+abbrev pub conditional_on : Measured → Token → Bool
+conditional_on a t = conditional_word (word_of t)
+
+-- the words of assignment
+abbrev pub assign_words : List ℕ
+assign_words = punctuator mark.Equal ∷ punctuator mark.PlusEqual ∷ punctuator mark.MinusEqual ∷ punctuator mark.StarEqual ∷ punctuator mark.SlashEqual ∷ punctuator mark.PercentEqual ∷
+    punctuator mark.ShiftLeftEqual ∷ punctuator mark.ShiftRightEqual ∷ punctuator mark.AmpersandEqual ∷ punctuator mark.CaretEqual ∷ punctuator mark.BarEqual ∷ []
+
+-- the words that go on behind an expression
+abbrev pub expression_on : Measured → Token → Bool
+expression_on a t = conditional_on a t || among assign_words t
+
+-- the parsers of a level read the language
+pub record GoodExpressions (d : ℕ) (e : Expressions) : Type 0 where
+  pub expression : Good e.expression ExpressionWord (Low d) begins expression_on
+  pub conditional : Good e.conditional ConditionalWord (Low d) begins conditional_on
+  pub unary : Good e.unary UnaryWords (Low d) begins (λ _ t. among operand_words t)
+  pub operand : Good (e.binary 0) (BinaryWords 0) (Low d) begins (λ _ t. among operand_words t)
+  pub binary : (n : ℕ) → n ≤ 10 → Good (e.binary n) (BinaryWords n) (Low d) begins (goes_on n)
+
+-- ---- tests
+
+pub below_is : (m n : ℕ) → nat_lt m n ≡ true → m < n
+below_is m n h = grind (arith, nat_tests)
+
+pub is_below : (m n : ℕ) → m < n → nat_lt m n ≡ true
+is_below m n h = grind (arith, nat_tests)
+
+-- a word that is no operator and behind no operand does not go on
+pub closes : (n : ℕ) (a : Measured) (w : ℕ) (t : Token) → one_word operand_words w ≡ false → operator_word w ≡ None → is w t ≡ true → goes_on n a t ≡ false
+closes n a w t apart none e = is_at (goes_on_word n) w t e ∙ or_false (one_word operand_words w) (up_to n (operator_word w)) apart (ap (up_to n) none)
+
+-- a word that is none of these does not go on behind an expression
+pub closes_all : (a : Measured) (w : ℕ) (t : Token) → one_word operand_words w ≡ false → operator_word w ≡ None → (w == punctuator mark.Question) ≡ false → one_word assign_words w ≡ false →
+    is w t ≡ true → expression_on a t ≡ false
+closes_all a w t apart none no_choice no_assign e =
+    or_false (conditional_on a t) (among assign_words t)
+    (or_false (goes_on 10 a t) (is (punctuator mark.Question) t) (closes 10 a w t apart none e) (is_at (λ w. w == punctuator mark.Question) w t e ∙ no_choice))
+    (is_at (one_word assign_words) w t e ∙ no_assign)
+
+-- ---- spans and first tokens of words
+
+pub opens_at : (w : ℕ) (t : Token) → word_of t ≡ w → one_word primary_words w ≡ true → opens t ≡ true
+opens_at w t e h = ap (one_word primary_words) e ∙ h
+
+starts_one : (t : Token) (w : ℕ) (u : List Token) → word_of t ≡ w → one_word primary_words w ≡ true → StartsIn opens (t ∷ u)
+starts_one t w u e h = record { head = t; tail = u; parts = refl; is_first = opens_at w t e h }
+
+pub starts_texts : (bytes : List ℕ) (w : List Token) → Texts bytes w → StartsIn opens w
+starts_texts bytes w (one_text t e) = starts_one t 4 [] (ap lexeme_word e) refl
+starts_texts bytes w (more_text {before = before} {w = u} t m e) = starts_append opens u (t ∷ []) (starts_texts before u m)
+
+pub starts_primary : (h : ℕ) (e : Expr) (w : List Token) → Primary h e w → StartsIn opens w
+starts_primary h e w (spells.variable t is) = starts_one t 1 [] (ap lexeme_word is) refl
+starts_primary h e w (spells.number t is) = starts_one t 2 [] (ap lexeme_word is) refl
+starts_primary h e w (spells.character t is) = starts_one t 3 [] (ap lexeme_word is) refl
+starts_primary h e w (spells.text {bytes = bytes} m) = starts_texts bytes w m
+starts_primary h e w (spells.paren {u = u} l r isl m isr) = starts_one l (punctuator mark.LeftParen) (u ++ r ∷ []) isl refl
+
+pub starts_postfix : (h : ℕ) (e : Expr) (w : List Token) → Postfix h e w → StartsIn opens w
+starts_postfix h e w (spells.primary p) = starts_primary h e w p
+starts_postfix h e w (spells.index {h = k} {e = a} {u = u} {v = v} l r p isl m isr) = starts_append opens u (l ∷ v ++ r ∷ []) (starts_postfix k a u p)
+starts_postfix h e w (spells.call {h = k} {e = a} {u = u} {v = v} l r p isl m isr) = starts_append opens u (l ∷ v ++ r ∷ []) (starts_postfix k a u p)
+starts_postfix h e w (spells.member {h = k} {e = a} {u = u} d t p isd ist) = starts_append opens u (d ∷ t ∷ []) (starts_postfix k a u p)
+starts_postfix h e w (spells.arrow {h = k} {e = a} {u = u} d t p isd ist) = starts_append opens u (d ∷ t ∷ []) (starts_postfix k a u p)
+starts_postfix h e w (spells.step_behind {h = k} {e = a} {u = u} t p ist) = starts_append opens u (t ∷ []) (starts_postfix k a u p)
+
+-- what opens begins
+starts_more : (w : List Token) → StartsIn opens w → StartsIn begins w
+starts_more w s = record { head = s.head; tail = s.tail; parts = s.parts; is_first = within_words primary_words begin_words refl (word_of s.head) s.is_first }
+
+step_begins : (t : Token) (s : Step) → StepWord Before s t → begins t ≡ true
+step_begins t step.PreIncrement h = ap (one_word begin_words) h.1
+step_begins t step.PreDecrement h = ap (one_word begin_words) h.1
+step_begins t step.PostIncrement h = let bad = h.0 in cc
+step_begins t step.PostDecrement h = let bad = h.0 in cc
+
+operator_begins : (t : Token) (o : UnaryOperator) → UnaryWord o t → begins t ≡ true
+operator_begins t operator.AddressOf h = ap (one_word begin_words) h
+operator_begins t operator.Dereference h = ap (one_word begin_words) h
+operator_begins t operator.Plus h = ap (one_word begin_words) h
+operator_begins t operator.Minus h = ap (one_word begin_words) h
+operator_begins t operator.Complement h = ap (one_word begin_words) h
+operator_begins t operator.Not h = ap (one_word begin_words) h
+
+pub starts_unary : (h : ℕ) (e : Expr) (w : List Token) → Unary h e w → StartsIn begins w
+starts_unary h e w (spells.postfix p) = starts_more w (starts_postfix h e w p)
+starts_unary h e w (spells.step_before {s = s} {u = u} t is m) = record { head = t; tail = u; parts = refl; is_first = step_begins t s is }
+starts_unary h e w (spells.operated {o = o} {u = u} t is m) = record { head = t; tail = u; parts = refl; is_first = operator_begins t o is }
+
+pub starts_binary : (n h : ℕ) (e : Expr) (w : List Token) → Binary n h e w → StartsIn begins w
+starts_binary n h e w (spells.operand {h = k} (spells.unary p)) = starts_unary k e w p
+starts_binary n h e w (spells.tighter {n = k} b) = starts_binary k h e w b
+starts_binary n h e w (spells.operation {n = k} {h = i} {a = a} {u = u} {v = v} t l op r) = starts_append begins u (t ∷ v) (starts_binary (suc k) i a u l)
+
+primary_span : (h : ℕ) (e : Expr) (w : List Token) → Primary h e w → e.span ≡ span_of w
+primary_span h e w (spells.variable t is) = refl
+primary_span h e w (spells.number t is) = refl
+primary_span h e w (spells.character t is) = refl
+primary_span h e w (spells.text m) = refl
+primary_span h e w (spells.paren l r isl m isr) = refl
+
+pub postfix_span : (h : ℕ) (e : Expr) (w : List Token) → Postfix h e w → e.span ≡ span_of w
+postfix_span h e w (spells.primary p) = primary_span h e w p
+postfix_span h e w (spells.index l r p isl m isr) = refl
+postfix_span h e w (spells.call l r p isl m isr) = refl
+postfix_span h e w (spells.member d t p isd ist) = refl
+postfix_span h e w (spells.arrow d t p isd ist) = refl
+postfix_span h e w (spells.step_behind t p ist) = refl
+
+pub unary_span : (h : ℕ) (e : Expr) (w : List Token) → Unary h e w → e.span ≡ span_of w
+unary_span h e w (spells.postfix p) = postfix_span h e w p
+unary_span h e w (spells.step_before t is m) = refl
+unary_span h e w (spells.operated t is m) = refl
+
+pub binary_span : (n h : ℕ) (e : Expr) (w : List Token) → Binary n h e w → e.span ≡ span_of w
+binary_span n h e w (spells.operand {h = k} (spells.unary p)) = unary_span k e w p
+binary_span n h e w (spells.tighter {n = k} b) = binary_span k h e w b
+binary_span n h e w (spells.operation t a is b) = refl
+
+abbrev pub reach : ℕ → ℕ → Span
+reach start end = record { start = start; end = end }
+
+-- a word with more tokens behind it
+pub span_behind : (first : Token → Bool) (u : List Token) (t : Token) (v : List Token) (end : ℕ) → StartsIn first u → last_end t v ≡ end →
+    span_of (u ++ t ∷ v) ≡ reach (span_of u).start end
+span_behind first u t v end s e =
+    ap (λ u. span_of (u ++ t ∷ v)) s.parts ∙ ap (reach s.head.start) (last_end_append s.head s.tail t v ∙ e)
+    ∙ ap (λ u. reach (span_of u).start end) (sym s.parts)
+
+-- a token with a word behind it
+pub span_before : (first : Token → Bool) (t : Token) (u : List Token) → StartsIn first u → span_of (t ∷ u) ≡ reach t.start (span_of u).end
+span_before first t u s = ap (λ u. span_of (t ∷ u)) s.parts ∙ ap (λ u. reach t.start (span_of u).end) (sym s.parts)
+
+-- ---- what can always be written
+
+abbrev pub example_token : Token
+example_token = token_of (lexeme.Number 0 integer.Int)
+
+unfoldable pub example : Measured
+example = record { tree = spelled (example_token ∷ []) (node.Constant 0 integer.Int); height = 0 }
+
+pub example_unary : Unary example.height example.tree (example_token ∷ [])
+unfolding example
+example_unary = spells.postfix (spells.primary (spells.number example_token refl))
+
+-- the smallest expression of each tier
+pub example_binary : (n : ℕ) → BinaryWords n example (example_token ∷ [])
+unfolding example
+example_binary zero = spells.operand (spells.unary example_unary)
+example_binary (suc n) = spells.tighter (example_binary n)
+
+pub binary_begins : (n : ℕ) → Begins (BinaryWords n) []
+binary_begins n = record { value = example; more = example_token ∷ []; whole = example_binary n }
+
+pub example_conditional : ConditionalWord example (example_token ∷ [])
+example_conditional = spells.binary (example_binary 10)
+
+pub example_expression : ExpressionWord example (example_token ∷ [])
+example_expression = spells.conditional example_conditional
+
+pub expression_begins : Begins ExpressionWord []
+expression_begins = record { value = example; more = example_token ∷ []; whole = example_expression }
+
+pub conditional_begins : Begins ConditionalWord []
+conditional_begins = record { value = example; more = example_token ∷ []; whole = example_conditional }
+
+pub starts_conditional : (h : ℕ) (e : Expr) (w : List Token) → Conditional h e w → StartsIn begins w
+starts_conditional h e w (spells.binary b) = starts_binary 10 h e w b
+starts_conditional h e w (spells.choice {h = k} {c = c} {u = u} {v = v} {w = x} q s b isq m iss n) = starts_append begins u (q ∷ v ++ s ∷ x) (starts_binary 10 k c u b)
+
+pub starts_expression : (h : ℕ) (e : Expr) (w : List Token) → Expression h e w → StartsIn begins w
+starts_expression h e w (spells.conditional c) = starts_conditional h e w c
+starts_expression h e w (spells.assignment {h = k} {a = a} {u = u} {v = v} t m is n) = starts_append begins u (t ∷ v) (starts_unary k a u m)
+
+pub conditional_span : (h : ℕ) (e : Expr) (w : List Token) → Conditional h e w → e.span ≡ span_of w
+conditional_span h e w (spells.binary b) = binary_span 10 h e w b
+conditional_span h e w (spells.choice q s b isq m iss n) = refl
+
+pub expression_span : (h : ℕ) (e : Expr) (w : List Token) → Expression h e w → e.span ≡ span_of w
+expression_span h e w (spells.conditional c) = conditional_span h e w c
+expression_span h e w (spells.assignment t m is n) = refl

@@ -1,0 +1,16 @@
+pub mod Operators
+pub mod OperatorLaws
+pub mod WordLists
+pub mod Nodes
+pub mod Sums
+pub mod Expressions
+pub mod Levels
+pub mod PrimaryLaws
+pub mod SuffixLaws
+pub mod UnaryLaws
+pub mod ChoiceLaws
+pub mod ExpressionLaws
+pub mod Growth
+pub mod WholeCode
+pub mod WordCode
+pub mod Code

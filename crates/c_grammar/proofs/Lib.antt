@@ -1,0 +1,6 @@
+mod Examples
+mod MainExample
+mod DepthExample
+mod StructExample
+mod StatementExamples
+mod Refused

@@ -1,0 +1,12 @@
+pub mod Words
+pub mod Operators
+pub mod Types
+pub mod Expressions
+pub mod Declarators
+pub mod Objects
+pub mod Structs
+pub mod Parameters
+pub mod Statements
+pub mod EndingLaws
+pub mod Externals
+pub mod Spells

@@ -1,0 +1,11 @@
+mod Lists
+mod Made
+mod TypeSpelled
+mod ExpressionSpelled
+mod DeclaratorSpelled
+mod ObjectSpelled
+mod StructSpelled
+mod ParameterSpelled
+mod StatementSpelled
+mod ProgramSpelled
+mod Answers

@@ -1,0 +1,8 @@
+use Rattle.std.proofs.Common.{◌≡◌, ◌++◌, map, take}
+use Rattle.c_print.specs.Words.{with_commas}
+use Rattle.c_print.specs.Declarations.{parameter_of}
+use Rattle.c_print.proofs.parameter.print_parameter_list.Given as goal
+
+-- the parameters passed are printed
+abbrev pub invariant-loop-index : goal.invariant-loop-index
+invariant-loop-index l = l.out.items ≡ l.initial.out.items ++ with_commas (map parameter_of (take l.index l.decls))

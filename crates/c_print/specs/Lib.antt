@@ -1,0 +1,7 @@
+pub mod Words
+pub mod Tokens
+pub mod Expressions
+pub mod Declarations
+pub mod Statements
+pub mod Program
+pub mod Spans

@@ -1,0 +1,14 @@
+//! Lexemes that spell a program.
+#![tactic(auto)]
+
+mod declaration;
+mod expr;
+mod parameter;
+mod program;
+mod statement;
+#[cfg(test)]
+mod tests;
+mod types;
+mod words;
+
+pub use program::print;

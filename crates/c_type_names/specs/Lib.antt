@@ -1,0 +1,9 @@
+pub mod TypeWords
+pub mod TypeNames
+pub mod NameLaws
+pub mod TypeWordLaws
+pub mod TypeOrders
+pub mod TypeNameLaws
+pub mod Growth
+pub mod Code
+pub mod WholeCode

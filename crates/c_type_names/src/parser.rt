@@ -1,0 +1,167 @@
+//! Type names.
+
+ghost use Rattle.std.specs.Prelude.{◌≡◌, ◌<◌, ◌≤◌, ◌+◌, ◌^◌, IfOk};
+ghost use Rattle.c_reader.specs.Answer.{sees};
+ghost use Rattle.c_reader.specs.Reading.{Answers};
+ghost use Rattle.c_reader.specs.WordLaws.{next_value};
+ghost use Rattle.c_type_names.specs.TypeNames as spec;
+
+use crate::type_read::TypeRead;
+use crate::type_words::{TypeWords, next_first, next_size};
+use c_ast::{CType, Keyword, Punctuator, Span};
+use c_reader::{Cursor, Fault, Named, Stop, place_of};
+use sqlite_items::Boxed;
+use std::alloc::{AllocError, Global};
+
+/// The first word of an integer type.
+fn first_word(cursor: &mut Cursor<'_, '_>) -> Result<TypeWords, Stop>
+    ensures { Answers (spec.first_word cursor.old) result cursor.new }
+{
+    let Some(word) = next_first(cursor) else {
+        return Err(Stop::Fault(Fault::Unexpected));
+    };
+    let place = cursor.take()?;
+    Ok(TypeWords::first(word, place.end))
+}
+
+/// A first word, and perhaps a size.
+fn sized(cursor: &mut Cursor<'_, '_>) -> Result<TypeWords, Stop>
+    ensures { Answers (spec.sized cursor.old) result cursor.new }
+{
+    let first = first_word(cursor)?;
+    let Some(size) = next_size(cursor) else {
+        return Ok(first);
+    };
+    if !first.takes_size {
+        return Err(Stop::Fault(Fault::Unexpected));
+    }
+    let place = cursor.take()?;
+    Ok(first.sized(size, place.end))
+}
+
+/// All words of an integer type.
+fn type_words(cursor: &mut Cursor<'_, '_>) -> Result<TypeWords, Stop>
+    ensures { Answers (spec.type_words cursor.old) result cursor.new }
+{
+    let words = sized(cursor)?;
+    if !cursor.sees_keyword(Keyword::Int) {
+        return Ok(words);
+    }
+    if !words.takes_int {
+        return Err(Stop::Fault(Fault::Unexpected));
+    }
+    let place = cursor.expect_keyword(Keyword::Int)?;
+    Ok(words.int(place))
+}
+
+/// An integer type.
+fn integer(cursor: &mut Cursor<'_, '_>) -> Result<TypeRead, Stop>
+    ensures answers { Answers (spec.integer cursor.old) result cursor.new }
+    ensures low { IfOk result (λ read. read.height ≡ 0) }
+{
+    let words = type_words(cursor)?;
+    Ok(TypeRead {
+        ty: CType::Int(words.ty),
+        height: 0,
+        end: words.end,
+    })
+}
+
+/// `void`
+fn void_type(cursor: &mut Cursor<'_, '_>) -> Result<TypeRead, Stop>
+    ensures answers { Answers (spec.void_type cursor.old) result cursor.new }
+    ensures low { IfOk result (λ read. read.height ≡ 0) }
+{
+    let place = cursor.expect_keyword(Keyword::Void)?;
+    Ok(TypeRead {
+        ty: CType::Void,
+        height: 0,
+        end: place.end,
+    })
+}
+
+/// The struct of a tag.
+fn tagged(tag: Named) -> TypeRead
+    ensures { result ≡ spec.tagged tag }
+{
+    TypeRead {
+        ty: CType::Struct(tag.name),
+        height: 0,
+        end: tag.place.end,
+    }
+}
+
+/// `struct` and a tag.
+fn struct_type(alloc: Global, cursor: &mut Cursor<'_, '_>) -> Result<TypeRead, Stop>
+    ensures answers { Answers (spec.struct_type cursor.old) result cursor.new }
+    ensures low { IfOk result (λ read. read.height ≡ 0) }
+{
+    cursor.expect_keyword(Keyword::Struct)?;
+    let tag = cursor.name(alloc)?;
+    Ok(tagged(tag))
+}
+
+/// What stars can stand behind: integer types, `void` and structs (C11 6.7.2).
+pub fn base(alloc: Global, cursor: &mut Cursor<'_, '_>) -> Result<TypeRead, Stop>
+    ensures answers { Answers (spec.base cursor.old) result cursor.new }
+    ensures low { IfOk result (λ read. read.height ≡ 0) }
+{
+    if cursor.sees_keyword(Keyword::Struct) {
+        return struct_type(alloc, cursor);
+    }
+    if cursor.sees_keyword(Keyword::Void) {
+        return void_type(cursor);
+    }
+    integer(cursor)
+}
+
+/// Where a star stands that comes next.
+#[tactic(auto, using(crate::specs::Code::star_seen, crate::specs::Code::star_unseen, crate::specs::Code::star_at_end))]
+fn next_star(cursor: &Cursor<'_, '_>) -> Option<Span>
+    ensures { result ≡ next_value spec.pick_star cursor.now }
+{
+    let Some(token) = cursor.peek() else {
+        return None;
+    };
+    if !cursor.sees(Punctuator::Star) {
+        return None;
+    }
+    Some(place_of(token))
+}
+
+/// A star behind a type.
+fn star(alloc: Global, read: TypeRead, place: Span) -> Result<TypeRead, AllocError>
+    requires { read.height + 1 < 2 ^ 32 }
+    ensures { IfOk result (λ made. made ≡ spec.star_of read place) }
+{
+    Ok(TypeRead {
+        ty: CType::Pointer(Boxed::new(alloc, read.ty)?),
+        height: read.height + 1,
+        end: place.end,
+    })
+}
+
+/// A type name with at most this many stars (C11 6.7.7).
+pub fn type_name(alloc: Global, cursor: &mut Cursor<'_, '_>, depth: u32) -> Result<TypeRead, Stop>
+    ensures answers { Answers (spec.type_name depth cursor.old) result cursor.new }
+    ensures low { IfOk result (λ read. read.height ≤ depth) }
+{
+    let mut read = base(alloc, cursor)?;
+    while let Some(place) = next_star(cursor) {
+        if read.height >= depth {
+            return Err(Stop::Fault(Fault::TooDeep));
+        }
+        cursor.skip();
+        read = star(alloc, read, place)?;
+    }
+    Ok(read)
+}
+
+/// Whether the next token begins a type.
+pub fn begins_type(cursor: &Cursor<'_, '_>) -> bool
+    ensures { result ≡ sees spec.begins_type cursor.now }
+{
+    cursor.sees_keyword(Keyword::Struct)
+        || cursor.sees_keyword(Keyword::Void)
+        || next_first(cursor).is_some()
+}
