@@ -11,15 +11,35 @@ import re
 import sys
 
 SOURCE = pathlib.Path(__file__).parent.parent / "crates/a64_code/src"
-ROW = re.compile(r"row!\(\w+ [XW] (0x[0-9A-F_]+) (0x[0-9A-F_]+) ")
+LINE = re.compile(r"^ +[A-Z]\w* (0x[0-9A-F_]+)(?: (0x[0-9A-F_]+))? \{(.*)\}$", re.M)
+PLACE = re.compile(r"^pub const (\w+): Place = (\w+)!\(([^)]*)\);$", re.M)
 UPPER = 0xFF80_0000
+
+
+def places():
+    """The lowest bit of each place, and its numbers of bits in the form on 64 bits and in that on 32."""
+    found = {}
+    for name, kind, words in PLACE.findall((SOURCE / "place.rt").read_text()):
+        numbers = [int(word) for word in words.split(", ") if word.isdigit()]
+        widths = [5] if kind == "register" else numbers[1:]
+        found[name] = (numbers[0], widths[0], widths[-1])
+    return found
+
+
+def rows():
+    """The base word of each row, and the bits where no field stands: the forms on 64 bits, and then those on 32."""
+    lines = LINE.findall((SOURCE / "table.rt").read_text())
+    of = places()
+    mask = lambda fields, form: sum(((1 << of[name][form]) - 1) << of[name][0] for name in re.findall(r"= (\w+)", fields))
+    row = lambda base, fields, form: (int(base, 16), 0xFFFF_FFFF ^ mask(fields, form))
+    return [row(x, fields, 1) for x, _, fields in lines] + [row(w, fields, 2) for _, w, fields in lines if w]
 
 
 def first_rows():
     """For each value of a word's upper nine bits, the first row that such a word may fit, or the number of rows."""
-    rows = [(int(base, 16), int(fixed, 16)) for base, fixed in ROW.findall((SOURCE / "table.rt").read_text())]
+    all_rows = rows()
     fits = lambda upper, row: (upper << 23) & row[1] & UPPER == row[0] & UPPER
-    return [next((place for place, row in enumerate(rows) if fits(upper, row)), len(rows)) for upper in range(512)]
+    return [next((place for place, row in enumerate(all_rows) if fits(upper, row)), len(all_rows)) for upper in range(512)]
 
 
 def main():

@@ -1,103 +1,89 @@
--- What holds of every row: each fact is computed, instruction by instruction.
-use Rattle.std.proofs.Common.{◌≡◌, ℕ, ◌+◌, ◌==◌, Bool, true, false, not, ◌&&◌, cond, List, [], ◌∷◌, map, Some, None, refl, bit_and, IsTrue}
+-- What holds of every row: each fact is computed, instruction by instruction or over the list of all rows.
+use Rattle.std.proofs.Common.{◌≡◌, ℕ, ◌+◌, ◌==◌, Bool, true, false, not, ◌&&◌, ◌||◌, cond, List, [], ◌∷◌, map, length, Some, None, refl, ap, ◌∙◌, bit_and, IsTrue, slice_index_or}
 use Rattle.std.specs.List.{slice_get, list_all}
 use denote.Enum.Declared.{tag_of}
-use Rattle.a64_code.specs.contracts.op.Op.{the_type}
+use Rattle.a64_code.specs.contracts.instr.Instr.{the_type}
 use Rattle.a64_code.specs.declared.instr.Instr.{Instr}
 use Rattle.a64_code.specs.declared.instr.Instr.TheVariants.{Svc}
-use Rattle.a64_code.specs.declared.op.Op.{Op}
-use Rattle.a64_code.specs.declared.op.Op.TheVariants as op
-use Rattle.a64_code.specs.Field.{Field, values, fields_of, bits_beside}
-use Rattle.a64_code.specs.Sound.{are_apart, is_sound}
-use Rattle.a64_code.specs.Table.{encoding, row, by_width}
-use Rattle.a64_code.specs.Listed.{has_room, listed as listed_row, filled, four_values, field_at}
-use Rattle.a64_code.specs.declared.table.TheConstants.{ROWS}
-use Rattle.a64_code.specs.declared.table.Row.{Row as ListedRow}
-use Rattle.a64_code.specs.Parts.{made, Kind, kind, kind_of, kinds, is_kind}
-use Rattle.a64_code.specs.Decoded.{blank, reading}
+use Rattle.a64_code.specs.declared.rows.TheConstants.{ROWS}
+use Rattle.a64_code.specs.Field.{Field, at, values, fields_of, bits_beside}
+use Rattle.a64_code.specs.Sound.{is_sound}
+use Rattle.a64_code.specs.Line.{by_width, has_narrow}
+use Rattle.a64_code.specs.Entry.{Form, form, made}
+use Rattle.a64_code.specs.Table.{table, entry, encoding}
+use Rattle.a64_code.specs.Decoded.{forms, blank, reading}
+use Rattle.a64_code.specs.Listed.{listed, listed_line, base_of, filled, four_values, has_room}
 
--- An instruction is made again from its name, its width and the values of its fields.
-pub made-values : (i : Instr) → made (kind_of i).op (kind_of i).wide (values (encoding i).fields) ≡ i
+-- An instruction is made again from its row and the values of its fields.
+pub made-values : (i : Instr) → made (entry i).form (values (encoding i).fields) ≡ i
 made-values (Svc imm16) = refl
 made-values _ = refl
 
-pub encoding-reading : (op : Op) (wide : Bool) (word : ℕ) → encoding (reading word (kind op wide)) ≡ row (blank (kind op wide)).base (fields_of word (blank (kind op wide)).fields)
-encoding-reading op.Svc wide word = refl
-encoding-reading _ wide word = refl
+-- What is read of a word by the row of an instruction has that row, and the fields of the word.
+pub encoding-reading : (i : Instr) (word : ℕ) →
+    encoding (reading word (entry i).form) ≡ record { base = (blank (entry i).form).base; fields = fields_of word (blank (entry i).form).fields }
+encoding-reading (Svc imm16) word = refl
+encoding-reading _ word = refl
 
-pub fields_of-kind_of : (i : Instr) (word : ℕ) → fields_of word (encoding i).fields ≡ fields_of word (blank (kind_of i)).fields
-fields_of-kind_of (Svc imm16) word = refl
-fields_of-kind_of _ word = refl
-
-pub base-kind_of : (i : Instr) → (encoding i).base ≡ (blank (kind_of i)).base
-base-kind_of (Svc imm16) = refl
-base-kind_of _ = refl
-
-pub bits_beside-kind_of : (i : Instr) → bits_beside 32 (encoding i).fields ≡ bits_beside 32 (blank (kind_of i)).fields
-bits_beside-kind_of (Svc imm16) = refl
-bits_beside-kind_of _ = refl
-
-pub are_apart-kind_of : (i : Instr) → are_apart 32 (encoding i).base (encoding i).fields ≡ are_apart 32 (blank (kind_of i)).base (blank (kind_of i)).fields
-are_apart-kind_of (Svc imm16) = refl
-are_apart-kind_of _ = refl
-
-sound_wide : (op : Op) → IsTrue (is_sound (blank (kind op true)).base (blank (kind op true)).fields)
-sound_wide op.Svc = refl
-sound_wide _ = refl
-
-sound_narrow : (op : Op) → IsTrue (is_sound (blank (kind op false)).base (blank (kind op false)).fields)
-sound_narrow op.Svc = refl
-sound_narrow _ = refl
-
-pub sound : (k : Kind) → IsTrue (is_sound (blank k).base (blank k).fields)
-sound k = elim k.wide as (λ w. IsTrue (is_sound (blank (kind k.op w)).base (blank (kind k.op w)).fields)) [ true ↦ sound_wide k.op | false ↦ sound_narrow k.op ]
+-- Each row is that of its own instruction.
+pub own_rows : map (λ f. (entry (made f [])).form) forms ≡ forms
+own_rows = refl
 
 -- Each row has its place in the table.
-abbrev pub place_of : Kind → ℕ
-place_of k = by_width k.wide (tag_of the_type k.op) (50 + tag_of the_type k.op)
+abbrev pub place_of : Instr → ℕ
+place_of i = by_width (entry i).form.wide (tag_of the_type i) (length table + tag_of the_type i)
 
-listed_wide : (op : Op) → slice_get kinds (place_of (kind op true)) ≡ cond (is_kind (kind op true)) (Some (kind op true)) None
-listed_wide op.Svc = refl
+listed_wide : (i : Instr) → slice_get forms (tag_of the_type i) ≡ cond (has_narrow (entry i).form.line || true) (Some (form true (entry i).form.line)) None
+listed_wide (Svc imm16) = refl
 listed_wide _ = refl
 
-listed_narrow : (op : Op) → slice_get kinds (place_of (kind op false)) ≡ cond (is_kind (kind op false)) (Some (kind op false)) None
-listed_narrow op.Svc = refl
+listed_narrow : (i : Instr) → slice_get forms (length table + tag_of the_type i) ≡ cond (has_narrow (entry i).form.line || false) (Some (form false (entry i).form.line)) None
+listed_narrow (Svc imm16) = refl
 listed_narrow _ = refl
 
-pub listed : (k : Kind) → slice_get kinds (place_of k) ≡ cond (is_kind k) (Some k) None
-listed k = elim k.wide as (λ w. slice_get kinds (place_of (kind k.op w)) ≡ cond (is_kind (kind k.op w)) (Some (kind k.op w)) None) [ true ↦ listed_wide k.op | false ↦ listed_narrow k.op ]
+listed_by : (i : Instr) (wide : Bool) → slice_get forms (by_width wide (tag_of the_type i) (length table + tag_of the_type i))
+    ≡ cond (has_narrow (entry i).form.line || wide) (Some (form wide (entry i).form.line)) None
+listed_by i true = listed_wide i
+listed_by i false = listed_narrow i
 
-pub is_kind-kind_of : (i : Instr) → IsTrue (is_kind (kind_of i))
-is_kind-kind_of (Svc imm16) = refl
-is_kind-kind_of _ = refl
+is_listed : (i : Instr) → has_narrow (entry i).form.line || (entry i).form.wide ≡ true
+is_listed (Svc imm16) = refl
+is_listed _ = refl
+
+own_form : (i : Instr) → form (entry i).form.wide (entry i).form.line ≡ (entry i).form
+own_form (Svc imm16) = refl
+own_form _ = refl
+
+pub place_of-form : (i : Instr) → slice_get forms (place_of i) ≡ Some (entry i).form
+place_of-form i = listed_by i (entry i).form.wide ∙ rw (is_listed i) (ap (λ f. Some f) (own_form i))
+
+-- The fields of a row stand apart.
+abbrev pub form_sound : Form → Bool
+form_sound f = is_sound (blank f).base (blank f).fields
+
+pub all_sound : list_all form_sound forms ≡ true
+all_sound = refl
 
 -- Two rows differ in a bit that both have fixed.
-abbrev pub mask_of : Kind → ℕ
-mask_of k = bits_beside 32 (blank k).fields
+abbrev pub mask_of : Form → ℕ
+mask_of f = bits_beside 32 (blank f).fields
 
-abbrev pub differ : Kind → Kind → Bool
-differ j k = not (bit_and (blank j).base (mask_of k) == bit_and (blank k).base (mask_of j))
+abbrev pub differ : Form → Form → Bool
+differ f g = not (bit_and (blank f).base (mask_of g) == bit_and (blank g).base (mask_of f))
 
-abbrev pub all_differ : List Kind → Bool
+abbrev pub all_differ : List Form → Bool
 all_differ [] = true
-all_differ (k ∷ ks) = list_all (differ k) ks && all_differ ks
+all_differ (f ∷ fs) = list_all (differ f) fs && all_differ fs
 
-pub kinds_differ : IsTrue (all_differ kinds)
-kinds_differ = refl
+pub forms_differ : IsTrue (all_differ forms)
+forms_differ = refl
 
-room_wide : (op : Op) → IsTrue (has_room (listed_row (kind op true)))
-room_wide op.Svc = refl
-room_wide _ = refl
+-- The program's lines have room.
+abbrev pub form_has_room : Form → Bool
+form_has_room f = let l = listed_line f.line in has_room (base_of l f.wide) (filled l f.wide (0, 0, 0, 0))
 
-room_narrow : (op : Op) → IsTrue (has_room (listed_row (kind op false)))
-room_narrow op.Svc = refl
-room_narrow _ = refl
-
-room : (k : Kind) → IsTrue (has_room (listed_row k))
-room k = elim k.wide as (λ w. IsTrue (has_room (listed_row (kind k.op w)))) [ true ↦ room_wide k.op | false ↦ room_narrow k.op ]
-
-pub has_room-listed : (r : ListedRow) (k : Kind) → r ≡ listed_row k → IsTrue (has_room r)
-has_room-listed r k e = rw e (room k)
+pub all_have_room : list_all form_has_room forms ≡ true
+all_have_room = refl
 
 -- No instruction has more than four fields.
 abbrev pub IsShort : List Field → Type 0
@@ -108,12 +94,18 @@ pub is_short : (i : Instr) → IsShort (encoding i).fields
 is_short (Svc imm16) = tt
 is_short _ = tt
 
-abbrev pub four : List Field → List Field
-four fs = field_at fs 0 ∷ field_at fs 1 ∷ field_at fs 2 ∷ field_at fs 3 ∷ []
+-- Up to four fields, and as many that hold nothing as are wanting.
+abbrev pub four : Bool → List Field → List Field
+four wide fs = let none = at 0 (by_width wide 0 0) 0 in
+    slice_index_or fs 0 none ∷ slice_index_or fs 1 none ∷ slice_index_or fs 2 none ∷ slice_index_or fs 3 none ∷ []
 
-pub filled-four_values : (i : Instr) → filled (listed_row (kind_of i)) (four_values (encoding i).fields) ≡ four (encoding i).fields
-filled-four_values (Svc imm16) = refl
-filled-four_values _ = refl
+pub filled-four : (i : Instr) → filled (listed_line (entry i).form.line) (entry i).form.wide (four_values (entry i).values) ≡ four (entry i).form.wide (encoding i).fields
+filled-four (Svc imm16) = refl
+filled-four _ = refl
 
-pub table_is : ROWS ≡ map listed_row kinds
+pub base-same : (i : Instr) → base_of (listed_line (entry i).form.line) (entry i).form.wide ≡ (encoding i).base
+base-same (Svc imm16) = refl
+base-same _ = refl
+
+pub table_is : ROWS ≡ map listed forms
 table_is = refl

@@ -1,19 +1,43 @@
--- The state that an instruction reads and changes: the registers and the memory of a process (Arm ARM, the AArch64
--- application level programmers' model), with memory seen as a function of the address.
-use Rattle.std.specs.Prelude.{ℕ, ◌+◌, ◌%◌, ◌^◌, ◌==◌, Bool, nat_lt, if◌then◌else◌, Option}
+-- The state that an instruction reads and changes: the registers, the flags and the memory of a process (Arm ARM, the
+-- AArch64 application level programmers' model), with memory seen as functions of the address, and what the outside has.
+use Rattle.std.specs.Prelude.{ℕ, ◌+◌, ◌%◌, ◌^◌, ◌==◌, Bool, true, false, not, ◌&&◌, nat_lt, if◌then◌else◌, List}
+use Rattle.mt_base.specs.Memory.{Span, Extent}
+use Rattle.a64_alu.specs.declared.flags.Flags.{Flags}
+pub use Rattle.a64_alu.specs.Width.{of_width}
 use Rattle.a64_code.specs.declared.instr.Reg.{Reg}
+use Rattle.a64_code.specs.Outside.{Outside}
 
+-- The numbers have no bounds here; `IsInRange` says which they keep: those in registers are below 2 ^ 64, bytes below 2 ^ 8,
+-- and tags and choices below 16.
 pub record State : Type 0 where
-  -- X0 to X30 by number; those of a machine are below 2 ^ 64
+  -- X0 to X30 by number
   pub register : ℕ → ℕ
+  -- the stack pointer
+  pub sp : ℕ
   -- the address of the instruction that comes next
   pub pc : ℕ
-  -- the word that can be fetched at an address, where one can
-  pub word : ℕ → Option ℕ
+  -- N, Z, C and V of PSTATE
+  pub flags : Flags
+  -- the byte at an address, and the allocation tag of the granule with a number
+  pub byte : ℕ → ℕ
+  pub tag : ℕ → ℕ
+  -- where memory is, with its rights, and the addresses that no access may touch; no step changes them
+  pub regions : List Extent
+  pub guard : Span
+  -- the random tags, of which each IRG draws one, and how many were drawn, modulo the length of the list
+  pub choices : List ℕ
+  pub drawn : ℕ
+  pub outside : Outside
 
--- a general register, where the number 31 reads as zero (X[n] of the Arm ARM)
+-- ---- registers
+
+-- a general register, where the number 31 reads as zero (`X[n]` of the Arm ARM)
 abbrev pub general : State → Reg → ℕ
 general s r = if nat_lt r.0 31 then s.register r.0 else 0
+
+-- a general register, or the stack pointer where the number is 31 (`X[n]` and `SP[]`)
+abbrev pub general_or_sp : State → Reg → ℕ
+general_or_sp s r = if nat_lt r.0 31 then s.register r.0 else s.sp
 
 -- the numbers with another one at a place
 abbrev pub with_value : (ℕ → ℕ) → ℕ → ℕ → ℕ → ℕ
@@ -23,14 +47,30 @@ with_value f place value = λ i. if i == place then value else f i
 abbrev pub with_general : Reg → ℕ → State → State
 with_general r value s = if nat_lt r.0 31 then record s { register = with_value s.register r.0 value } else s
 
--- a number of 64 bits, or its lower 32 where an instruction is not wide
-abbrev pub of_width : Bool → ℕ → ℕ
-of_width wide value = if wide then value else value % 2 ^ 32
+-- the state with this number in a general register, or in the stack pointer where the number is 31
+abbrev pub with_general_or_sp : Reg → ℕ → State → State
+with_general_or_sp r value s =
+    if nat_lt r.0 31 then record s { register = with_value s.register r.0 value } else record s { sp = value }
 
--- the state with the result of an instruction in a general register, where one of 32 bits clears the upper half
-abbrev pub with_result : Bool → Reg → ℕ → State → State
-with_result wide r value s = with_general r (of_width wide value) s
+-- the register of a field that takes the number 31 for the stack pointer, or of one that does not
+abbrev pub operand : Bool → State → Reg → ℕ
+operand true = general_or_sp
+operand false = general
+
+abbrev pub with_operand : Bool → Reg → ℕ → State → State
+with_operand true = with_general_or_sp
+with_operand false = with_general
+
+-- the register of such a field is the stack pointer
+abbrev pub is_sp : Bool → Reg → Bool
+is_sp takes r = takes && not (nat_lt r.0 31)
+
+-- ---- the next instruction
+
+-- the state at this address
+abbrev pub at_pc : ℕ → State → State
+at_pc address s = record s { pc = address }
 
 -- the state at the next instruction, four bytes on, modulo 2 ^ 64
 abbrev pub advanced : State → State
-advanced s = record s { pc = (s.pc + 4) % 2 ^ 64 }
+advanced s = at_pc ((s.pc + 4) % 2 ^ 64) s

@@ -11,7 +11,7 @@ pub fn encode(instr: Instr) -> Option<u32>
     ensures none { IfNone result ((word : ℕ) → ¬ Row word instr) }
 {
     let parts = instr.parts();
-    parts.op.row(parts.wide).word(parts.values)
+    parts.line.word(parts.wide, parts.values)
 }
 
 /// The instruction of a word; None exactly where no row fits.
@@ -22,5 +22,5 @@ pub fn decode(word: u32) -> Option<Instr>
     ensures instruction { result ≡ instruction_of word }
 {
     let row = row_of(word)?;
-    Some(row.op.reading(row.wide, word))
+    Some(row.blank.reading(word))
 }

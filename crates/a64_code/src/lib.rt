@@ -6,11 +6,12 @@ mod end;
 mod find;
 mod first_rows;
 mod instr;
-mod op;
+mod line;
 mod parts;
 mod place;
 mod reading;
 mod register;
+mod rows;
 mod table;
 
 pub use code::{decode, encode};

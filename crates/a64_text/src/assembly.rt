@@ -1,6 +1,5 @@
-use crate::mnemonic::mnemonic;
+use crate::line::line_of;
 use crate::operand::Operand;
-use crate::operands::operands;
 use a64_code::Instr;
 use std::fmt;
 
@@ -10,9 +9,10 @@ pub struct Assembly(pub Instr);
 
 impl fmt::Display for Assembly {
     fn fmt<W: fmt::Write>(&self, f: &mut fmt::Formatter<W>) -> fmt::Result {
-        f.write_str(mnemonic(self.0))?;
+        let line = line_of(self.0);
+        f.write_str(line.mnemonic)?;
         let mut before = " ";
-        for operand in &operands(self.0) {
+        for operand in &line.operands {
             if !matches!(operand, Operand::None) {
                 write!(f, "{before}{operand}")?;
                 before = ", ";

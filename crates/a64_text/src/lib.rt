@@ -2,7 +2,8 @@
 #![tactic(auto)]
 
 mod assembly;
-mod mnemonic;
+mod condition;
+mod line;
 mod operand;
 mod operands;
 

@@ -1,6 +1,6 @@
 ghost use Rattle.std.specs.Prelude.{◌≤◌, ◌<◌};
 
-use crate::mnemonic::CONDITIONS;
+use crate::condition::CONDITIONS;
 use std::fmt;
 
 /// A number with a sign.

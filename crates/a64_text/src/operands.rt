@@ -1,242 +1,161 @@
+// The operands of a line, by the shapes that instructions share. No line has more than four.
 ghost use Rattle.std.specs.Prelude.{◌<◌, ◌≤◌};
 
 use crate::operand::{Operand, Signed};
-use a64_code::{Instr, Reg, RegisterField};
+use a64_code::Reg;
 
-/// The operands of an instruction, in the order of a line, and no more than four.
-pub fn operands(instr: Instr) -> [Operand; 4] {
-    let rd_sp = instr.takes_sp(RegisterField::Rd);
-    let rn_sp = instr.takes_sp(RegisterField::Rn);
-    let rt_sp = instr.takes_sp(RegisterField::Rt);
-    match instr {
-        Instr::Movz {
-            wide,
-            hw,
-            imm16,
-            rd,
-        }
-        | Instr::Movk {
-            wide,
-            hw,
-            imm16,
-            rd,
-        }
-        | Instr::Movn {
-            wide,
-            hw,
-            imm16,
-            rd,
-        } => [
-            zr(wide, rd),
-            number(imm16 as u64),
-            shift(16 * hw as u64),
-            Operand::None,
-        ],
-        Instr::AddImm {
-            wide,
-            sh,
-            imm12,
-            rn,
-            rd,
-        }
-        | Instr::SubImm {
-            wide,
-            sh,
-            imm12,
-            rn,
-            rd,
-        }
-        | Instr::SubsImm {
-            wide,
-            sh,
-            imm12,
-            rn,
-            rd,
-        } => [
-            reg(wide, rd, rd_sp),
-            reg(wide, rn, rn_sp),
-            number(imm12 as u64),
-            shift(12 * sh as u64),
-        ],
-        Instr::AddReg { wide, rm, rn, rd }
-        | Instr::SubReg { wide, rm, rn, rd }
-        | Instr::SubsReg { wide, rm, rn, rd }
-        | Instr::AndReg { wide, rm, rn, rd }
-        | Instr::OrrReg { wide, rm, rn, rd }
-        | Instr::EorReg { wide, rm, rn, rd }
-        | Instr::Lslv { wide, rm, rn, rd }
-        | Instr::Lsrv { wide, rm, rn, rd }
-        | Instr::Asrv { wide, rm, rn, rd }
-        | Instr::Udiv { wide, rm, rn, rd }
-        | Instr::Sdiv { wide, rm, rn, rd } => [
-            zr(wide, rd),
-            zr(wide, rn),
-            zr(wide, rm),
-            Operand::None,
-        ],
-        Instr::Madd {
-            wide,
-            rm,
-            ra,
-            rn,
-            rd,
-        }
-        | Instr::Msub {
-            wide,
-            rm,
-            ra,
-            rn,
-            rd,
-        } => [zr(wide, rd), zr(wide, rn), zr(wide, rm), zr(wide, ra)],
-        Instr::Sbfm {
-            wide,
-            immr,
-            imms,
-            rn,
-            rd,
-        }
-        | Instr::Ubfm {
-            wide,
-            immr,
-            imms,
-            rn,
-            rd,
-        } => [
-            zr(wide, rd),
-            zr(wide, rn),
-            number(immr as u64),
-            number(imms as u64),
-        ],
-        Instr::Csinc {
-            wide,
-            rm,
-            cond,
-            rn,
-            rd,
-        } => [
-            zr(wide, rd),
-            zr(wide, rn),
-            zr(wide, rm),
-            Operand::Condition(cond),
-        ],
-        Instr::Cbz { wide, imm19, rt } | Instr::Cbnz { wide, imm19, rt } => [
-            zr(wide, rt),
-            offset(imm19, 19, 2),
-            Operand::None,
-            Operand::None,
-        ],
-        Instr::Ldr {
-            wide,
-            imm12,
-            rn,
-            rt,
-        }
-        | Instr::Str {
-            wide,
-            imm12,
-            rn,
-            rt,
-        } => [
-            zr(wide, rt),
-            memory(rn, (imm12 as u64) << if wide { 3 } else { 2 }),
-            Operand::None,
-            Operand::None,
-        ],
-        Instr::Ldrb { imm12, rn, rt } | Instr::Strb { imm12, rn, rt } => [
-            zr(false, rt),
-            memory(rn, imm12 as u64),
-            Operand::None,
-            Operand::None,
-        ],
-        Instr::Ldrh { imm12, rn, rt } | Instr::Strh { imm12, rn, rt } => [
-            zr(false, rt),
-            memory(rn, 2 * imm12 as u64),
-            Operand::None,
-            Operand::None,
-        ],
-        Instr::Ldrsb { imm12, rn, rt } => [
-            zr(true, rt),
-            memory(rn, imm12 as u64),
-            Operand::None,
-            Operand::None,
-        ],
-        Instr::Ldrsh { imm12, rn, rt } => [
-            zr(true, rt),
-            memory(rn, 2 * imm12 as u64),
-            Operand::None,
-            Operand::None,
-        ],
-        Instr::Ldrsw { imm12, rn, rt } => [
-            zr(true, rt),
-            memory(rn, 4 * imm12 as u64),
-            Operand::None,
-            Operand::None,
-        ],
-        Instr::Stp { imm7, rt2, rn, rt } | Instr::Ldp { imm7, rt2, rn, rt } => [
-            zr(true, rt),
-            zr(true, rt2),
-            Operand::Memory(rn.0, Signed::new(imm7 as u32, 7, 3)),
-            Operand::None,
-        ],
-        Instr::B { imm26 } | Instr::Bl { imm26 } => [
-            offset(imm26, 26, 2),
-            Operand::None,
-            Operand::None,
-            Operand::None,
-        ],
-        Instr::BCond { imm19, .. } => [
-            offset(imm19, 19, 2),
-            Operand::None,
-            Operand::None,
-            Operand::None,
-        ],
-        Instr::Adrp { immlo, immhi, rd } => [
-            zr(true, rd),
-            offset(immhi << 2 | immlo as u32, 21, 12),
-            Operand::None,
-            Operand::None,
-        ],
-        Instr::Ret | Instr::Nop => [Operand::None, Operand::None, Operand::None, Operand::None],
-        Instr::Svc { imm16 } => [
-            number(imm16 as u64),
-            Operand::None,
-            Operand::None,
-            Operand::None,
-        ],
-        Instr::Addg {
-            uimm6,
-            uimm4,
-            rn,
-            rd,
-        }
-        | Instr::Subg {
-            uimm6,
-            uimm4,
-            rn,
-            rd,
-        } => [
-            reg(true, rd, rd_sp),
-            reg(true, rn, rn_sp),
-            number(16 * uimm6 as u64),
-            number(uimm4 as u64),
-        ],
-        Instr::Irg { rm, rn, rd } => [
-            reg(true, rd, rd_sp),
-            reg(true, rn, rn_sp),
-            zr(true, rm),
-            Operand::None,
-        ],
-        Instr::Stg { simm9, rn, rt }
-        | Instr::Stzg { simm9, rn, rt }
-        | Instr::St2g { simm9, rn, rt }
-        | Instr::Stz2g { simm9, rn, rt }
-        | Instr::Ldg { simm9, rn, rt } => [
-            reg(true, rt, rt_sp),
-            Operand::Memory(rn.0, Signed::new(simm9 as u32, 9, 4)),
-            Operand::None,
-            Operand::None,
-        ],
-    }
+/// In which fields of an instruction the number 31 is the stack pointer.
+#[derive(Clone, Copy)]
+pub struct Sp {
+    pub rd: bool,
+    pub rn: bool,
+    pub rt: bool,
+}
+
+pub fn nothing() -> [Operand; 4] {
+    [Operand::None, Operand::None, Operand::None, Operand::None]
+}
+
+/// A halfword and its place, in halfwords.
+pub fn halfword(wide: bool, rd: Reg, imm16: u16, hw: u8) -> [Operand; 4] {
+    [
+        zr(wide, rd),
+        Operand::Number(imm16 as u64),
+        shift(16 * hw as u64),
+        Operand::None,
+    ]
+}
+
+/// A register and a number, shifted by 12 bits or not.
+pub fn immediate(wide: bool, sp: Sp, rd: Reg, rn: Reg, imm12: u16, sh: u8) -> [Operand; 4] {
+    [
+        reg(wide, rd, sp.rd),
+        reg(wide, rn, sp.rn),
+        Operand::Number(imm12 as u64),
+        shift(12 * sh as u64),
+    ]
+}
+
+pub fn three(wide: bool, rd: Reg, rn: Reg, rm: Reg) -> [Operand; 4] {
+    [zr(wide, rd), zr(wide, rn), zr(wide, rm), Operand::None]
+}
+
+pub fn four(wide: bool, rd: Reg, rn: Reg, rm: Reg, ra: Reg) -> [Operand; 4] {
+    [zr(wide, rd), zr(wide, rn), zr(wide, rm), zr(wide, ra)]
+}
+
+pub fn bit_field(wide: bool, rd: Reg, rn: Reg, immr: u8, imms: u8) -> [Operand; 4] {
+    [
+        zr(wide, rd),
+        zr(wide, rn),
+        Operand::Number(immr as u64),
+        Operand::Number(imms as u64),
+    ]
+}
+
+/// Two registers of which a condition selects one.
+pub fn select(wide: bool, rd: Reg, rn: Reg, rm: Reg, cond: u8) -> [Operand; 4] {
+    [
+        zr(wide, rd),
+        zr(wide, rn),
+        zr(wide, rm),
+        Operand::Condition(cond),
+    ]
+}
+
+/// A branch on whether a register is zero.
+pub fn branch_on(wide: bool, rt: Reg, imm19: u32) -> [Operand; 4] {
+    [
+        zr(wide, rt),
+        Operand::Offset(Signed::new(imm19, 19, 2)),
+        Operand::None,
+        Operand::None,
+    ]
+}
+
+/// A branch to a distance of `width` bits, in words.
+pub fn branch(distance: u32, width: u32) -> [Operand; 4]
+    requires width { 0 < width }
+    requires narrow { width ≤ 26 }
+{
+    [
+        Operand::Offset(Signed::new(distance, width, 2)),
+        Operand::None,
+        Operand::None,
+        Operand::None,
+    ]
+}
+
+/// A distance in pages.
+pub fn page(rd: Reg, immhi: u32, immlo: u8) -> [Operand; 4] {
+    [
+        zr(true, rd),
+        Operand::Offset(Signed::new(immhi << 2 | immlo as u32, 21, 12)),
+        Operand::None,
+        Operand::None,
+    ]
+}
+
+/// A load or a store at an offset in units of so many bytes.
+pub fn access(wide: bool, rt: Reg, rn: Reg, imm12: u16, bytes: u16) -> [Operand; 4] {
+    let offset = Signed {
+        negative: false,
+        magnitude: bytes as u64 * imm12 as u64,
+    };
+    [
+        zr(wide, rt),
+        Operand::Memory(rn.0, offset),
+        Operand::None,
+        Operand::None,
+    ]
+}
+
+/// A load or a store of two registers, at an offset in units of 8 bytes.
+pub fn pair(rt: Reg, rt2: Reg, rn: Reg, imm7: u8) -> [Operand; 4] {
+    [
+        zr(true, rt),
+        zr(true, rt2),
+        Operand::Memory(rn.0, Signed::new(imm7 as u32, 7, 3)),
+        Operand::None,
+    ]
+}
+
+pub fn service(imm16: u16) -> [Operand; 4] {
+    [
+        Operand::Number(imm16 as u64),
+        Operand::None,
+        Operand::None,
+        Operand::None,
+    ]
+}
+
+/// An address with a distance in granules and one of tags.
+pub fn tagged(sp: Sp, rd: Reg, rn: Reg, uimm6: u8, uimm4: u8) -> [Operand; 4] {
+    [
+        reg(true, rd, sp.rd),
+        reg(true, rn, sp.rn),
+        Operand::Number(16 * uimm6 as u64),
+        Operand::Number(uimm4 as u64),
+    ]
+}
+
+pub fn random_tag(sp: Sp, rd: Reg, rn: Reg, rm: Reg) -> [Operand; 4] {
+    [
+        reg(true, rd, sp.rd),
+        reg(true, rn, sp.rn),
+        zr(true, rm),
+        Operand::None,
+    ]
+}
+
+/// A load or a store of tags, at an offset in granules.
+pub fn tag_access(sp: Sp, rt: Reg, rn: Reg, simm9: u16) -> [Operand; 4] {
+    [
+        reg(true, rt, sp.rt),
+        Operand::Memory(rn.0, Signed::new(simm9 as u32, 9, 4)),
+        Operand::None,
+        Operand::None,
+    ]
 }
 
 /// A register whose number 31 is the stack pointer or zero.
@@ -249,16 +168,8 @@ fn reg(wide: bool, reg: Reg, sp: bool) -> Operand {
 }
 
 /// A register whose number 31 is zero.
-fn zr(wide: bool, reg: Reg) -> Operand {
-    Operand::Register {
-        wide,
-        number: reg.0,
-        sp: false,
-    }
-}
-
-fn number(value: u64) -> Operand {
-    Operand::Number(value)
+fn zr(wide: bool, register: Reg) -> Operand {
+    reg(wide, register, false)
 }
 
 /// A shift to the left, which is not written where it is zero.
@@ -268,23 +179,4 @@ fn shift(bits: u64) -> Operand {
     } else {
         Operand::Shift(bits)
     }
-}
-
-/// A branch's target, as a distance from here.
-fn offset(value: u32, width: u32, scale: u32) -> Operand
-    requires width { 0 < width }
-    requires narrow { width ≤ 26 }
-    requires scale { scale ≤ 12 }
-{
-    Operand::Offset(Signed::new(value, width, scale))
-}
-
-fn memory(base: Reg, offset: u64) -> Operand {
-    Operand::Memory(
-        base.0,
-        Signed {
-            negative: false,
-            magnitude: offset,
-        },
-    )
 }

@@ -1,10 +1,8 @@
 -- The parts of an image follow one another.
 use Rattle.std.proofs.Common.{◌≡◌, ℕ, ◌+◌, ◌*◌, ◌≤◌, length, refl, arith}
+use Rattle.mt_base.specs.Granules.{round16-covers}
 use Rattle.elf_image.specs.Image.{Image}
-use Rattle.elf_image.specs.Places.{IsValid, round16, round_page, dynamic_count, descriptors_place, rodata_place, rodata_end, code_place, code_end, dynamic_place, dynamic_end, filled_place, file_end, memory_end}
-
-le-round16 : (x : ℕ) → x ≤ round16 x
-le-round16 x = omega arith
+use Rattle.elf_image.specs.Places.{IsValid, round_page, dynamic_count, descriptors_place, rodata_place, rodata_end, code_place, code_end, dynamic_place, dynamic_end, filled_place, file_end, memory_end}
 
 le-round_page : (x : ℕ) → x ≤ round_page x
 le-round_page x = omega arith
@@ -25,13 +23,13 @@ pub in_order : (p : Image) → InOrder p
 unfolding descriptors_place rodata_place rodata_end code_place code_end dynamic_place dynamic_end filled_place file_end memory_end
 in_order p = record {
   relocs = refl;
-  descriptors = le-round16 (descriptors_place p + length p.descriptors);
+  descriptors = round16-covers (descriptors_place p + length p.descriptors);
   rodata = refl;
   code = le-round_page (rodata_end p);
   words = refl;
   dynamic = le-round_page (code_end p);
   entries = refl;
-  filled = le-round16 (dynamic_end p);
+  filled = round16-covers (dynamic_end p);
   file = refl;
   memory = refl;
 }

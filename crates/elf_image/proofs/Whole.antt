@@ -19,7 +19,7 @@ length-relocs : (rs : List RelativeReloc) → length (flat_map reloc_bytes rs) �
 length-relocs [] = refl
 length-relocs (r ∷ rs) = omega (arith, length-append (reloc_bytes r) (flat_map reloc_bytes rs), length-reloc_bytes r, length-relocs rs)
 
-length-word_bytes : (w : ℕ) → length (word_bytes w) ≡ 4
+pub length-word_bytes : (w : ℕ) → length (word_bytes w) ≡ 4
 length-word_bytes w = simp (length-append, length-number)
 
 pub length-words : (ws : List ℕ) → length (flat_map word_bytes ws) ≡ 4 * length ws

@@ -3,6 +3,7 @@ pub mod Places
 pub mod Pieces
 pub mod ImageFile
 pub mod OneFile
+pub mod FileBytes
 pub mod Constant
 pub mod Laying
 pub mod FirstWords

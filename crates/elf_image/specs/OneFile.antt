@@ -8,7 +8,7 @@ use Rattle.elf_image.specs.Pieces.{Piece, pieces}
 use Rattle.elf_image.specs.ImageFile.{AllStand, IsGap, IsLaidOut, ImageFile}
 
 -- a byte of what stands at a place
-byte_of : (file : List ℕ) (at : ℕ) (bytes : List ℕ) (i : ℕ) → StandsAt file at bytes → at ≤ i → i < at + length bytes → get_or file i 0 ≡ get_or bytes (i - at) 0
+pub byte_of : (file : List ℕ) (at : ℕ) (bytes : List ℕ) (i : ℕ) → StandsAt file at bytes → at ≤ i → i < at + length bytes → get_or file i 0 ≡ get_or bytes (i - at) 0
 byte_of file at bytes i h low high =
     let within = get_or-take (length bytes) (drop at file) (i - at) 0 (omega arith) in
     let from = get_or-drop at file (i - at) 0 in

@@ -1,10 +1,7 @@
 -- Where each part of an image lies. A byte's place in the file is its address in the image (this project's own).
 use Rattle.std.specs.Prelude.{◌≡◌, ℕ, ◌+◌, ◌*◌, ◌/◌, ◌%◌, ◌≤◌, List, [], ◌∷◌, length}
+use Rattle.mt_base.specs.Granules.{round16}
 use Rattle.elf_image.specs.Image.{Image}
-
--- the least multiple of 16 that is at least x
-abbrev pub round16 : ℕ → ℕ
-round16 x = (x + 15) / 16 * 16
 
 -- the least multiple of the page size, 4,096, that is at least x
 abbrev pub round_page : ℕ → ℕ

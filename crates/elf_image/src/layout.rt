@@ -1,8 +1,9 @@
 ghost use Rattle.std.specs.Prelude.{◌≡◌, ◌+◌, ◌-◌, ◌*◌, ◌<◌, ◌≤◌, ◌^◌, length};
 ghost use Rattle.elf_image.specs.Image.{image_of};
-ghost use Rattle.elf_image.specs.Places.{IsValid, round16, round_page, dynamic_count, descriptors_place, rodata_place, rodata_end, code_place, code_end, dynamic_place, dynamic_end, filled_place, file_end, memory_end};
+ghost use Rattle.elf_image.specs.Places.{IsValid, round_page, dynamic_count, descriptors_place, rodata_place, rodata_end, code_place, code_end, dynamic_place, dynamic_end, filled_place, file_end, memory_end};
 
 use crate::parts::ImageParts;
+use mt_base::round16;
 
 // The place of the symbol table, with the string table at its end.
 pub(crate) const SYMBOLS_PLACE: u64 = 0x120;
@@ -12,13 +13,6 @@ pub(crate) const STRINGS_PLACE: u64 = 0x138;
 
 // The place of the Rela records.
 pub(crate) const RELOCS_PLACE: u64 = 0x140;
-
-fn round16(place: u64) -> u64
-    requires { place < 2 ^ 32 }
-    ensures { result ≡ round16 place }
-{
-    (place + 15) / 16 * 16
-}
 
 fn round_page(place: u64) -> u64
     requires { place < 2 ^ 32 }
@@ -46,7 +40,7 @@ impl ImageParts {
     }
 
     #[tactic(auto, unfolding(crate::specs::Places::rodata_end))]
-    pub(crate) fn rodata_end(&self) -> u64
+    pub fn rodata_end(&self) -> u64
         requires { IsValid (image_of self.now) }
         ensures { result ≡ rodata_end (image_of self.now) }
     {
@@ -69,7 +63,7 @@ impl ImageParts {
     }
 
     #[tactic(auto, unfolding(crate::specs::Places::code_end))]
-    pub(crate) fn code_end(&self) -> u64
+    pub fn code_end(&self) -> u64
         requires { IsValid (image_of self.now) }
         ensures { result ≡ code_end (image_of self.now) }
     {
@@ -77,7 +71,7 @@ impl ImageParts {
     }
 
     #[tactic(auto, unfolding(crate::specs::Places::dynamic_place))]
-    pub(crate) fn dynamic_place(&self) -> u64
+    pub fn dynamic_place(&self) -> u64
         requires { IsValid (image_of self.now) }
         ensures { result ≡ dynamic_place (image_of self.now) }
     {
@@ -118,7 +112,7 @@ impl ImageParts {
     }
 
     #[tactic(auto, unfolding(crate::specs::Places::memory_end))]
-    pub(crate) fn memory_end(&self) -> u64
+    pub fn memory_end(&self) -> u64
         requires { IsValid (image_of self.now) }
         ensures { result ≡ memory_end (image_of self.now) }
     {

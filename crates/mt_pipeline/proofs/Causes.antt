@@ -1,9 +1,10 @@
 -- The answers of the commands, from what their parts say.
-use Rattle.std.proofs.Common.{◌≡◌, ◌⊎◌, ◌≤◌, ℕ, ◌%◌, List, Option, Some, None, IfSome, refl, sym, ap, ◌∙◌, subst, inl, inr}
+use Rattle.std.proofs.Common.{◌≡◌, ◌⊎◌, ◌≤◌, ℕ, ◌%◌, List, [], Option, Some, None, IfSome, refl, sym, ap, ◌∙◌, subst, inl, inr}
 use Rattle.std.proofs.lemmas.Option.{same_Some, none-some}
 use Rattle.mt_outside.specs.Files.{Contents}
+use Rattle.a64_code.specs.Outside.{Outside, outside_of}
 use Rattle.a64_code.specs.declared.end.MachineEnd.{MachineEnd}
-use Rattle.a64_code.specs.declared.end.MachineEnd.TheVariants.{Exited as ExitedSo, OutOfSteps as StepsOver, BadCode as BadCodeAt}
+use Rattle.a64_code.specs.declared.end.MachineEnd.TheVariants.{Exited as ExitedSo, OutOfSteps as StepsOver}
 use Rattle.elf_image.specs.Constant.{IsConstantFile, constant_image}
 use Rattle.elf_image.specs.Image.{Image}
 use Rattle.elf_image.specs.declared.refusal.ImageRefusal.TheVariants.{NotYet}
@@ -15,17 +16,17 @@ use Rattle.mt_pipeline.specs.declared.ended.Ended.{Ended}
 use Rattle.mt_pipeline.specs.declared.refusal.RunRefusal.{RunRefusal}
 use Rattle.mt_pipeline.specs.declared.refusal.RunRefusal.TheVariants.{Image as RefusesImage, NoMemory as WantsMemory}
 use Rattle.mt_pipeline.specs.declared.ended.Why.{Why}
-use Rattle.mt_pipeline.specs.declared.ended.Why.TheVariants.{Done, Exited, Usage, Refused, NoFile, BadImage, NoMemory, WriteFault, ReadFault, BadCode, OutOfSteps}
+use Rattle.mt_pipeline.specs.declared.ended.Why.TheVariants.{Done, Exited, Usage, Refused, NoFile, BadImage, NoMemory, WriteFault, OutputFault, ReadFault, InputFault, TagFault, MemoryFault, AlignFault, StackFault, BadCode, Divide, OutOfSteps}
 use Rattle.mt_pipeline.specs.Answer.{ended_of}
 use Rattle.mt_pipeline.specs.Build.{BuildAnswers, CauseOfBuild}
 use Rattle.mt_pipeline.specs.Constant.{ReturnsConstant}
 use Rattle.mt_pipeline.specs.Defaults.{default_choices, default_stack}
-use Rattle.mt_pipeline.specs.Go.{GoAnswers, CauseOfGo, IsNoProgram, run_answer}
+use Rattle.mt_pipeline.specs.Go.{GoAnswers, CauseOfGo, IsNoProgram, IsRunAnswer}
 use Rattle.mt_pipeline.specs.Read.{CauseOfNoBytes}
 use Rattle.mt_pipeline.specs.Run.{RunAnswers, CauseOfRun}
 use Rattle.mt_pipeline.specs.Seen.{Seen, bytes_of, HoldsSome, ReadFailed, WriteFailed, SameFiles, IsSilent}
 use Rattle.mt_pipeline.specs.Status.{ended_by}
-use Rattle.mt_pipeline.proofs.ConstantRun.{constant_ends}
+use Rattle.mt_pipeline.proofs.ConstantRun.{constant_ends, either}
 use Rattle.mt_pipeline.proofs.Line.{same_constant}
 
 -- where the files are told, bytes that were read of a file are those that it holds
@@ -38,12 +39,12 @@ not_absent None file bytes holds absent = none-some bytes holds
 not_absent (Some files) file bytes holds absent = none-some bytes (sym absent ∙ holds)
 
 -- the answer to the run of a constant's image is that of the constant which the file holds
-same_run : {S K : Type 0} (file : List ℕ) (steps : ℕ) (before : Seen S K) (ended : Ended) → HoldsSome before.files file (λ bytes. (n : ℕ) × ReturnsConstant bytes n × (ended ≡ run_answer (constant_image n) steps)) →
-    (bytes : List ℕ) (n : ℕ) → bytes_of before.files file ≡ Some bytes → ReturnsConstant bytes n → ended ≡ run_answer (constant_image n) steps
+same_run : {S K : Type 0} (file : List ℕ) (steps : ℕ) (before : Seen S K) (ended : Ended) → HoldsSome before.files file (λ bytes. (n : ℕ) × ReturnsConstant bytes n × IsRunAnswer (constant_image n) steps ended) →
+    (bytes : List ℕ) (n : ℕ) → bytes_of before.files file ≡ Some bytes → ReturnsConstant bytes n → IsRunAnswer (constant_image n) steps ended
 same_run file steps before ended cause bytes n holds returns =
     let same : cause.0 ≡ bytes = same_bytes before.files file bytes cause.0 holds cause.1 in
     let constant : cause.2.0 ≡ n = same_constant cause.2.0 n (subst (λ b. ReturnsConstant b cause.2.0) same cause.2.1) returns in
-    cause.2.2 ∙ ap (λ m. run_answer (constant_image m) steps) constant
+    subst (λ m. IsRunAnswer (constant_image m) steps ended) constant cause.2.2
 
 no_program : {S K : Type 0} (file : List ℕ) (before : Seen S K) → HoldsSome before.files file IsNoProgram →
     (bytes : List ℕ) (n : ℕ) → bytes_of before.files file ≡ Some bytes → ReturnsConstant bytes n → ⊥
@@ -52,7 +53,7 @@ no_program file before cause bytes n holds returns =
 
 -- The program runs where the file holds the text of a constant and no read failed: the other answers have no cause then.
 go_runs : {S K : Type 0} (file : List ℕ) (steps : ℕ) (before after : Seen S K) (ended : Ended) (why : Why) → CauseOfGo file steps before after ended why →
-    (bytes : List ℕ) (n : ℕ) → bytes_of before.files file ≡ Some bytes → ReturnsConstant bytes n → ¬ ReadFailed before after → (ended ≡ run_answer (constant_image n) steps) ⊎ (why ≡ NoMemory)
+    (bytes : List ℕ) (n : ℕ) → bytes_of before.files file ≡ Some bytes → ReturnsConstant bytes n → ¬ ReadFailed before after → (IsRunAnswer (constant_image n) steps ended) ⊎ (why ≡ NoMemory)
 go_runs file steps before after ended Exited cause bytes n holds returns no_fault = inl (same_run file steps before ended cause bytes n holds returns)
 go_runs file steps before after ended OutOfSteps cause bytes n holds returns no_fault = inl (same_run file steps before ended cause bytes n holds returns)
 go_runs file steps before after ended (Refused place number byte) cause bytes n holds returns no_fault = absurd (no_program file before cause.3 bytes n holds returns)
@@ -64,10 +65,19 @@ go_runs file steps before after ended Usage cause bytes n holds returns no_fault
 go_runs file steps before after ended (BadImage place number byte) cause bytes n holds returns no_fault = absurd cause
 go_runs file steps before after ended (WriteFault place) cause bytes n holds returns no_fault = absurd cause
 go_runs file steps before after ended (BadCode at) cause bytes n holds returns no_fault = absurd cause
+go_runs file steps before after ended OutputFault cause bytes n holds returns no_fault = absurd cause
+go_runs file steps before after ended InputFault cause bytes n holds returns no_fault = absurd cause
+go_runs file steps before after ended (TagFault at pointer_tag memory_tag) cause bytes n holds returns no_fault = absurd cause
+go_runs file steps before after ended (MemoryFault at) cause bytes n holds returns no_fault = absurd cause
+go_runs file steps before after ended (AlignFault at) cause bytes n holds returns no_fault = absurd cause
+go_runs file steps before after ended StackFault cause bytes n holds returns no_fault = absurd cause
+go_runs file steps before after ended Divide cause bytes n holds returns no_fault = absurd cause
 
-go_exits : (n steps : ℕ) (ended : Ended) → n ≤ 2147483647 → 3 ≤ steps → (ended ≡ run_answer (constant_image n) steps) ⊎ (ended.why ≡ NoMemory) →
+go_exits : (n steps : ℕ) (ended : Ended) → n ≤ 2147483647 → 3 ≤ steps → (IsRunAnswer (constant_image n) steps ended) ⊎ (ended.why ≡ NoMemory) →
     (ended ≡ record { status = n % 256; why = Exited }) ⊎ (ended.why ≡ NoMemory)
-go_exits n steps ended within enough (inl ran) = inl (ran ∙ ap ended_by ((constant_ends n steps default_choices default_stack within).late enough))
+go_exits n steps ended within enough (inl ran) =
+    let run = constant_ends n steps default_choices default_stack within in
+    inl (ran (outside_of []) ∙ ap ended_by (run.ends (outside_of []) ∙ run.late enough))
 go_exits n steps ended within enough (inr wanting) = inr wanting
 
 -- A cause is the whole of the answer.
@@ -119,23 +129,28 @@ build_no_bytes file out before after (AnswersRefused place refusal) cause files 
 build_no_bytes file out before after (AnswersBadImage place refusal) cause files = absurd cause
 build_no_bytes file out before after (AnswersWriteFault place) cause files = absurd cause
 
--- a run that exits or is out of steps does not end for bad code
-no_bad_code : (at status : ℕ) (end : MachineEnd) → BadCodeAt at ≡ end → (end ≡ ExitedSo status) ⊎ (end ≡ StepsOver) → ⊥
-no_bad_code at status end is (inl ends) = let differ : BadCodeAt at ≡ ExitedSo status = is ∙ ends in cc
-no_bad_code at status end is (inr ends) = let differ : BadCodeAt at ≡ StepsOver = is ∙ ends in cc
+-- the end of a constant's run is one of two
+constant_soon : (n steps : ℕ) (end : MachineEnd) → n ≤ 2147483647 → ((outside : Outside) → end ≡ end_of (run steps (loaded (constant_image n) default_choices default_stack outside))) →
+    (end ≡ ExitedSo (n % 256)) ⊎ (end ≡ StepsOver)
+constant_soon n steps end within ran =
+    let run = constant_ends n steps default_choices default_stack within in
+    either run.end (n % 256) (ran (outside_of []) ∙ run.ends (outside_of [])) run.soon
 
--- the end of a constant's run is one of the two that `go` may answer
+-- an end that is one of the two is answered by one of two reasons
+ends_so : (Cause : Ended → Why → Type 0) (end : MachineEnd) (status : ℕ) → Cause (ended_by end) Exited → Cause (ended_by end) OutOfSteps →
+    (end ≡ ExitedSo status) ⊎ (end ≡ StepsOver) → Cause (ended_by end) (ended_by end).why
+ends_so Cause end status exits over (inl is) = subst (λ e. Cause (ended_by end) (ended_by e).why) (sym is) exits
+ends_so Cause end status exits over (inr is) = subst (λ e. Cause (ended_by end) (ended_by e).why) (sym is) over
+
+-- how a constant's run ends is the cause of its answer
 pub go_ran : {S K : Type 0} (file : List ℕ) (steps : ℕ) (before after : Seen S K) (n : ℕ) (end : MachineEnd) → n ≤ 2147483647 →
-    HoldsSome before.files file (λ bytes. ReturnsConstant bytes n) → end ≡ end_of (run steps (loaded (constant_image n) default_choices default_stack)) →
-    CauseOfGo file steps before after (ended_of (Ran end)) (ended_of (Ran end)).why
-go_ran {S} {K} file steps before after n end within holds ran = by_end end ran (constant_ends n steps default_choices default_stack within).soon
-  where
-    by_end : (e : MachineEnd) → e ≡ end_of (run steps (loaded (constant_image n) default_choices default_stack)) →
-        (end_of (run steps (loaded (constant_image n) default_choices default_stack)) ≡ ExitedSo (n % 256)) ⊎ (end_of (run steps (loaded (constant_image n) default_choices default_stack)) ≡ StepsOver) →
-        CauseOfGo file steps before after (ended_of (Ran e)) (ended_of (Ran e)).why
-    by_end (ExitedSo status) is ends = (holds.0, holds.1, (n, holds.2, ap ended_by is))
-    by_end StepsOver is ends = (holds.0, holds.1, (n, holds.2, ap ended_by is))
-    by_end (BadCodeAt at) is ends = absurd (no_bad_code at (n % 256) _ is ends)
+    HoldsSome before.files file (λ bytes. ReturnsConstant bytes n) → ((outside : Outside) → end ≡ end_of (run steps (loaded (constant_image n) default_choices default_stack outside))) →
+    CauseOfGo file steps before after (ended_by end) (ended_by end).why
+go_ran file steps before after n end within holds ran =
+    ends_so (CauseOfGo file steps before after) end (n % 256)
+    (holds.0, holds.1, (n, holds.2, λ outside. ap ended_by (ran outside)))
+    (holds.0, holds.1, (n, holds.2, λ outside. ap ended_by (ran outside)))
+    (constant_soon n steps end within ran)
 
 -- `build` is done where the file holds the text of a constant and nothing failed
 build_done : {S K : Type 0} (file out : List ℕ) (before after : Seen S K) (why : Why) → CauseOfBuild file out before after why →
@@ -150,6 +165,13 @@ build_done file out before after Exited cause bytes n holds returns reads writes
 build_done file out before after Usage cause bytes n holds returns reads writes = absurd cause
 build_done file out before after (BadImage place number byte) cause bytes n holds returns reads writes = absurd cause
 build_done file out before after (BadCode at) cause bytes n holds returns reads writes = absurd cause
+build_done file out before after OutputFault cause bytes n holds returns reads writes = absurd cause
+build_done file out before after InputFault cause bytes n holds returns reads writes = absurd cause
+build_done file out before after (TagFault at pointer_tag memory_tag) cause bytes n holds returns reads writes = absurd cause
+build_done file out before after (MemoryFault at) cause bytes n holds returns reads writes = absurd cause
+build_done file out before after (AlignFault at) cause bytes n holds returns reads writes = absurd cause
+build_done file out before after StackFault cause bytes n holds returns reads writes = absurd cause
+build_done file out before after Divide cause bytes n holds returns reads writes = absurd cause
 build_done file out before after OutOfSteps cause bytes n holds returns reads writes = absurd cause
 
 pub build_answers : {S K : Type 0} (file out : List ℕ) (before after : Seen S K) (ended : Ended) → CauseOfBuild file out before after ended.why → IsSilent before after → BuildAnswers file out before after ended
@@ -161,14 +183,14 @@ build_answers file out before after ended cause silent = record {
 
 -- what is answered to the image that was read, where it is one
 run_runs : {S K : Type 0} (file read : List ℕ) (steps : ℕ) (before after : Seen S K) (ended : Ended) (why : Why) → CauseOfRun file steps before after ended why →
-    IfSome before.files (λ files. files file ≡ Some read) → ((image : Image) → IsConstantFile image read → ended ≡ run_answer image steps) →
-    (bytes : List ℕ) (image : Image) → bytes_of before.files file ≡ Some bytes → IsConstantFile image bytes → ended ≡ run_answer image steps
+    IfSome before.files (λ files. files file ≡ Some read) → ((image : Image) → IsConstantFile image read → IsRunAnswer image steps ended) →
+    (bytes : List ℕ) (image : Image) → bytes_of before.files file ≡ Some bytes → IsConstantFile image bytes → IsRunAnswer image steps ended
 run_runs file read steps before after ended why cause is runs bytes image holds constant =
     runs image (subst (λ b. IsConstantFile image b) (sym (same_bytes before.files file bytes read holds is)) constant)
 
 run_answers : {S K : Type 0} (file : List ℕ) (steps : ℕ) (before after : Seen S K) (ended : Ended) → CauseOfRun file steps before after ended ended.why →
     IsSilent before after → SameFiles before.files after.files →
-    ((bytes : List ℕ) (image : Image) → bytes_of before.files file ≡ Some bytes → IsConstantFile image bytes → ¬ ReadFailed before after → (ended ≡ run_answer image steps) ⊎ (ended.why ≡ NoMemory)) →
+    ((bytes : List ℕ) (image : Image) → bytes_of before.files file ≡ Some bytes → IsConstantFile image bytes → ¬ ReadFailed before after → (IsRunAnswer image steps ended) ⊎ (ended.why ≡ NoMemory)) →
     RunAnswers file steps before after ended
 run_answers file steps before after ended cause silent files runs = record {
   runs = runs;
@@ -181,7 +203,7 @@ run_answers file steps before after ended cause silent files runs = record {
 
 -- the answers to an image that was read: it runs, or it is none
 pub run_answers_ran : {S K : Type 0} (file read : List ℕ) (steps : ℕ) (before after : Seen S K) (ended : Ended) → CauseOfRun file steps before after ended ended.why →
-    IsSilent before after → SameFiles before.files after.files → IfSome before.files (λ files. files file ≡ Some read) → ((image : Image) → IsConstantFile image read → ended ≡ run_answer image steps) →
+    IsSilent before after → SameFiles before.files after.files → IfSome before.files (λ files. files file ≡ Some read) → ((image : Image) → IsConstantFile image read → IsRunAnswer image steps ended) →
     RunAnswers file steps before after ended
 run_answers_ran file read steps before after ended cause silent files is runs =
     run_answers file steps before after ended cause silent files
@@ -197,16 +219,16 @@ same_files before after same = subst (λ told. SameFiles before told) (sym same)
 
 -- the image that was read ran
 pub run_ran : {S K : Type 0} (file read : List ℕ) (steps : ℕ) (before after : Seen S K) (end : MachineEnd) (image : Image) → IfSome before.files (λ files. files file ≡ Some read) →
-    IsConstantFile image read → end ≡ end_of (run steps (loaded image default_choices default_stack)) → CauseOfRun file steps before after (ended_by end) (ended_by end).why
-run_ran file read steps before after (ExitedSo status) image is constant ran = (read, is, (image, constant, ap ended_by ran))
-run_ran file read steps before after (BadCodeAt at) image is constant ran =
-    absurd (no_bad_code at (constant.constant % 256) _ (ran ∙ ap (λ i. end_of (run steps (loaded i default_choices default_stack))) constant.image)
-    (constant_ends constant.constant steps default_choices default_stack constant.fits).soon)
-run_ran file read steps before after StepsOver image is constant ran = (read, is, (image, constant, ap ended_by ran))
+    IsConstantFile image read → ((outside : Outside) → end ≡ end_of (run steps (loaded image default_choices default_stack outside))) → CauseOfRun file steps before after (ended_by end) (ended_by end).why
+run_ran file read steps before after end image is constant ran =
+    ends_so (CauseOfRun file steps before after) end (constant.constant % 256)
+    (read, is, (image, constant, λ outside. ap ended_by (ran outside)))
+    (read, is, (image, constant, λ outside. ap ended_by (ran outside)))
+    (constant_soon constant.constant steps end constant.fits (λ outside. ran outside ∙ ap (λ i. end_of (run steps (loaded i default_choices default_stack outside))) constant.image))
 
 -- where there are no bytes, no image is there and no read failed, memory is wanting
 run_no_image : {S K : Type 0} (file : List ℕ) (steps : ℕ) (before after : Seen S K) (answer : Answer) → CauseOfNoBytes before.files file before.read_faults after.read_faults answer →
-    (bytes : List ℕ) (image : Image) → bytes_of before.files file ≡ Some bytes → ¬ ReadFailed before after → (ended_of answer ≡ run_answer image steps) ⊎ ((ended_of answer).why ≡ NoMemory)
+    (bytes : List ℕ) (image : Image) → bytes_of before.files file ≡ Some bytes → ¬ ReadFailed before after → (IsRunAnswer image steps (ended_of answer)) ⊎ ((ended_of answer).why ≡ NoMemory)
 run_no_image file steps before after (AnswersNoFile place) cause bytes image holds no_fault = absurd (not_absent before.files file bytes holds cause.1)
 run_no_image file steps before after (AnswersReadFault place) cause bytes image holds no_fault = absurd (no_fault cause.1)
 run_no_image file steps before after AnswersNoMemory cause bytes image holds no_fault = inr refl

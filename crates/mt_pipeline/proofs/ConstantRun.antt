@@ -1,106 +1,178 @@
 -- The run of the image of a constant.
-use Rattle.std.proofs.Common.{◌≡◌, ◌<◌, ◌≤◌, ◌⊎◌, ℕ, zero, suc, ◌+◌, ◌*◌, ◌/◌, ◌%◌, ◌^◌, Bool, true, false, nat_lt, if◌then◌else◌, List, [], ◌∷◌, Some, refl, ap, sym, ◌∙◌, subst, inl, inr, arith}
-use Rattle.std.proofs.lemmas.Bool.{ltb-false}
-use Rattle.std.specs.Option.{option_and_then}
+use Rattle.std.proofs.Common.{◌≡◌, ◌≢◌, ◌<◌, ◌≤◌, ◌⊎◌, ℕ, zero, suc, ◌+◌, ◌*◌, ◌/◌, ◌%◌, ◌^◌, false, List, [], ◌∷◌, length, get_or, refl, ap, sym, ◌∙◌, subst, inl, inr, arith}
+use mathlib.Core.Path.{fun_ext}
+use Rattle.std.proofs.lemmas.Bool.{cases_lt}
 use Rattle.a64_code.specs.declared.instr.Instr.{Instr}
-use Rattle.a64_code.specs.declared.end.MachineEnd.TheVariants.{Exited, OutOfSteps}
+use Rattle.a64_code.specs.declared.end.MachineEnd.{MachineEnd}
+use Rattle.a64_code.specs.declared.end.MachineEnd.TheVariants.{Exited, OutOfSteps, InputFault, OutputFault}
+use Rattle.a64_code.specs.Effect.{effect}
 use Rattle.a64_code.specs.Instruction.{instruction_of}
+use Rattle.a64_code.specs.Outside.{Outside}
+use Rattle.a64_code.specs.Results.{with_halfword}
 use Rattle.a64_code.specs.Row.{Row}
+use Rattle.a64_code.specs.State.{State, general, of_width, with_general, advanced}
+use Rattle.a64_code.specs.Step.{carried_out, step}
+use Rattle.a64_code.specs.Stepped.{Ends}
+use Rattle.a64_code.proofs.Decoding.{Row-below}
 use Rattle.a64_code.proofs.WordLaws.{Row-instruction}
-use Rattle.a64_code.specs.State.{State, general, of_width, with_result, advanced}
-use Rattle.a64_code.specs.Step.{Ends, step, effect, carried_out, with_halfword}
-use Rattle.elf_image.specs.Constant.{constant_code, constant_image, movz_word, movk_word, svc_word}
-use Rattle.mte_machine.specs.Machine.{initial_state}
-use Rattle.mte_machine.specs.Run.{Run, run, end_of, Steps}
+use Rattle.elf_image.specs.Constant.{IsConstantFile, constant_code, constant_image, movz_word, movk_word, svc_word}
+use Rattle.elf_image.specs.Image.{Image}
+use Rattle.elf_image.specs.ConstantLaws.{constant_place, constant_valid}
+use Rattle.mte_machine.specs.Answers.{RunAnswers as MachineAnswers}
+use Rattle.mte_machine.specs.Objects.{Objects, without_input, without_output}
+use Rattle.mte_machine.specs.Run.{run, end_of, Steps}
 use Rattle.mte_machine.specs.Steps.{Steps-one, Steps-add, run-ends}
-use Rattle.tag_startup.specs.Loaded.{HoldsCodeAlone, loaded}
-use Rattle.tag_startup.proofs.CodePlace.{code_place-alone}
+use Rattle.tag_startup.specs.Loaded.{loaded, loaded_byte, loaded_regions}
+use Rattle.tag_startup.proofs.CodeInMemory.{code_fetched}
 use Rattle.mt_pipeline.specs.Built.{ExitsAlways}
 use Rattle.mt_pipeline.specs.Code.{status_register, movz_row, movk_row, svc_row}
+use Rattle.mt_pipeline.proofs.Encoded.{constant_code-short, constant_code-long}
 
--- One step carries out the instruction of the word at PC.
-step-at : (s : State) (word : ℕ) (instr : Instr) → s.word s.pc ≡ Some word → Row word instr → step s ≡ effect instr s
-step-at s word instr stands row =
-    ap (λ w. carried_out (option_and_then instruction_of w) s) stands ∙ ap (λ i. carried_out i s) (Row-instruction word instr row)
+-- ---- a step
 
--- the state before the first instruction, and behind each one
-abbrev at_start : List ℕ → State
-at_start words = initial_state words 0x10001000 0x10001000
+-- the state has the memory of the constant's image, and PC is at the k-th word of the code
+record IsAt (n stack k : ℕ) (s : State) : Type 0 where
+  regions : s.regions ≡ loaded_regions (constant_image n) stack
+  byte : s.byte ≡ loaded_byte (constant_image n) stack
+  pc : s.pc ≡ 0x10001000 + 4 * k
 
-abbrev with_low : ℕ → List ℕ → State
-with_low n words = advanced (with_result false status_register (n % 65536 * 2 ^ (16 * 0)) (at_start words))
+-- a step from there carries out the instruction of that word
+step-at : (n stack k : ℕ) (s : State) (word : ℕ) (instr : Instr) → IsAt n stack k s → k < length (constant_code n) → get_or (constant_code n) k 0 ≡ word → Row word instr → step s ≡ effect instr s
+step-at n stack k s word instr at within is row =
+    ap (λ found. carried_out found s)
+    (code_fetched (constant_image n) stack k s (constant_valid n) within (rw is (Row-below word instr row)) at.regions at.byte (omega (arith, at.pc, constant_place n))
+    ∙ ap instruction_of is ∙ Row-instruction word instr row)
 
-abbrev with_high : ℕ → List ℕ → State
-with_high n words = advanced (with_result false status_register
-    (with_halfword (16 * 1) (n / 65536) (of_width false (general (with_low n words) status_register))) (with_low n words))
+-- the state behind each move of a half
+abbrev low_moved : ℕ → State → State
+low_moved n s = advanced (with_general status_register (of_width false (n % 65536 * 2 ^ (16 * 0))) s)
 
--- How a run of so many steps ends: with this status, or sooner out of steps.
-pub record EndsWith (status steps : ℕ) (r : Run) : Type 0 where
-  pub late : 3 ≤ steps → end_of r ≡ Exited status
-  pub soon : (end_of r ≡ Exited status) ⊎ (end_of r ≡ OutOfSteps)
+abbrev high_moved : ℕ → State → State
+high_moved n s = advanced (with_general status_register (of_width false (with_halfword (16 * 1) (n / 65536) (of_width false (general s status_register)))) s)
 
-late_end : (status steps : ℕ) (r : Run) → end_of r ≡ Exited status → EndsWith status steps r
-late_end status steps r ends = record { late = λ enough. ends; soon = inl ends }
+abbrev at_start : ℕ → List ℕ → ℕ → Outside → State
+at_start n choices stack w = loaded (constant_image n) choices stack w
 
-soon_end : (status steps : ℕ) (r : Run) → steps < 3 → end_of r ≡ OutOfSteps → EndsWith status steps r
-soon_end status steps r few ends = record { late = λ enough. absurd (omega arith); soon = inr ends }
+-- ---- runs
+
+-- How a run of so many steps ends over any outside: with this status, or sooner out of steps.
+pub record EndsWith (status steps : ℕ) (start : Outside → State) : Type 0 where
+  pub end : MachineEnd
+  pub ends : (w : Outside) → end_of (run steps (start w)) ≡ end
+  pub late : 3 ≤ steps → end ≡ Exited status
+  pub soon : (end ≡ Exited status) ⊎ (end ≡ OutOfSteps)
+
+late_end : (status steps : ℕ) (start : Outside → State) → ((w : Outside) → end_of (run steps (start w)) ≡ Exited status) → EndsWith status steps start
+late_end status steps start ends = record { end = Exited status; ends = ends; late = λ enough. refl; soon = inl refl }
+
+soon_end : (status steps : ℕ) (start : Outside → State) → steps < 3 → ((w : Outside) → end_of (run steps (start w)) ≡ OutOfSteps) → EndsWith status steps start
+soon_end status steps start few ends = record { end = OutOfSteps; ends = ends; late = λ enough. absurd (omega arith); soon = inr refl }
+
+-- the first step moves the lower half
+first_step : (n : ℕ) (choices : List ℕ) (stack : ℕ) (w : Outside) → 0 < length (constant_code n) → get_or (constant_code n) 0 0 ≡ movz_word (n % 65536) → Steps 1 (at_start n choices stack w) (low_moved n (at_start n choices stack w))
+first_step n choices stack w within is =
+    Steps-one _ _ (step-at n stack 0 (at_start n choices stack w) (movz_word (n % 65536)) _ (record { regions = refl; byte = refl; pc = refl }) within is (movz_row (n % 65536) (omega arith)))
 
 -- the lower half alone, where the constant has no other
-short_run : (n steps : ℕ) → n < 65536 → EndsWith (n % 256) steps (run steps (at_start (movz_word (n % 65536) ∷ svc_word ∷ [])))
-short_run n zero short = soon_end _ zero _ (omega arith) refl
-short_run n (suc zero) short =
-    let words : List ℕ = movz_word (n % 65536) ∷ svc_word ∷ [] in
-    let first : Steps 1 (at_start words) (with_low n words) = Steps-one _ _ (step-at (at_start words) (movz_word (n % 65536)) _ refl (movz_row (n % 65536) (omega arith))) in
-    soon_end _ 1 _ (omega arith) (ap end_of first.runs)
-short_run n (suc (suc more)) short =
-    let words : List ℕ = movz_word (n % 65536) ∷ svc_word ∷ [] in
-    let first : Steps 1 (at_start words) (with_low n words) = Steps-one _ _ (step-at (at_start words) (movz_word (n % 65536)) _ refl (movz_row (n % 65536) (omega arith))) in
-    let last : step (with_low n words) ≡ Ends (Exited (n % 65536 * 2 ^ (16 * 0) % 2 ^ 32 % 2 ^ 8)) = step-at (with_low n words) svc_word _ refl svc_row in
+short_run : (n : ℕ) (choices : List ℕ) (stack steps : ℕ) → n < 65536 → EndsWith (n % 256) steps (at_start n choices stack)
+short_run n choices stack zero short = soon_end _ zero _ (omega arith) (λ w. refl)
+short_run n choices stack (suc zero) short =
+    let code : constant_code n ≡ movz_word (n % 65536) ∷ svc_word ∷ [] = constant_code-short n (omega (arith, short)) in
+    soon_end _ 1 _ (omega arith) (λ w. ap end_of (first_step n choices stack w (rw code (omega arith)) (rw code refl)).runs)
+short_run n choices stack (suc (suc more)) short =
+    let code : constant_code n ≡ movz_word (n % 65536) ∷ svc_word ∷ [] = constant_code-short n (omega (arith, short)) in
+    late_end _ (suc (suc more)) _ (λ w.
+    let s : State = low_moved n (at_start n choices stack w) in
+    let first : Steps 1 (at_start n choices stack w) s = first_step n choices stack w (rw code (omega arith)) (rw code refl) in
+    let last : step s ≡ Ends (Exited (n % 65536 * 2 ^ (16 * 0) % 2 ^ 32 % 2 ^ 8)) =
+    step-at n stack 1 s svc_word _ (record { regions = refl; byte = refl; pc = refl }) (rw code (omega arith)) (rw code refl) svc_row in
     let value : n % 65536 * 2 ^ (16 * 0) % 2 ^ 32 % 2 ^ 8 ≡ n % 256 = omega arith in
-    late_end _ (suc (suc more)) _ (ap end_of (run-ends (suc (suc more)) first last (omega arith)) ∙ ap Exited value)
+    ap end_of (run-ends (suc (suc more)) first last (omega arith)) ∙ ap Exited value)
+
+-- the second step moves the upper half
+second_step : (n : ℕ) (choices : List ℕ) (stack : ℕ) (w : Outside) → n ≤ 2147483647 → constant_code n ≡ movz_word (n % 65536) ∷ movk_word (n / 65536) ∷ svc_word ∷ [] →
+    Steps 2 (at_start n choices stack w) (high_moved n (low_moved n (at_start n choices stack w)))
+second_step n choices stack w within code =
+    let s : State = low_moved n (at_start n choices stack w) in
+    let first : Steps 1 (at_start n choices stack w) s = first_step n choices stack w (rw code (omega arith)) (rw code refl) in
+    let second : Steps 1 s (high_moved n s) =
+    Steps-one _ _ (step-at n stack 1 s (movk_word (n / 65536)) _ (record { regions = refl; byte = refl; pc = refl }) (rw code (omega arith)) (rw code refl) (movk_row (n / 65536) (omega (arith, within)))) in
+    Steps-add first second
 
 -- both halves
-long_run : (n steps : ℕ) → n ≤ 2147483647 → EndsWith (n % 256) steps (run steps (at_start (movz_word (n % 65536) ∷ movk_word (n / 65536) ∷ svc_word ∷ [])))
-long_run n zero within = soon_end _ zero _ (omega arith) refl
-long_run n (suc zero) within =
-    let words : List ℕ = movz_word (n % 65536) ∷ movk_word (n / 65536) ∷ svc_word ∷ [] in
-    let first : Steps 1 (at_start words) (with_low n words) = Steps-one _ _ (step-at (at_start words) (movz_word (n % 65536)) _ refl (movz_row (n % 65536) (omega arith))) in
-    soon_end _ 1 _ (omega arith) (ap end_of first.runs)
-long_run n (suc (suc zero)) within =
-    let words : List ℕ = movz_word (n % 65536) ∷ movk_word (n / 65536) ∷ svc_word ∷ [] in
-    let first : Steps 1 (at_start words) (with_low n words) = Steps-one _ _ (step-at (at_start words) (movz_word (n % 65536)) _ refl (movz_row (n % 65536) (omega arith))) in
-    let second : Steps 1 (with_low n words) (with_high n words) = Steps-one _ _ (step-at (with_low n words) (movk_word (n / 65536)) _ refl (movk_row (n / 65536) (omega arith))) in
-    let both : Steps 2 (at_start words) (with_high n words) = Steps-add first second in
-    soon_end _ 2 _ (omega arith) (ap end_of both.runs)
-long_run n (suc (suc (suc more))) within =
-    let words : List ℕ = movz_word (n % 65536) ∷ movk_word (n / 65536) ∷ svc_word ∷ [] in
-    let first : Steps 1 (at_start words) (with_low n words) = Steps-one _ _ (step-at (at_start words) (movz_word (n % 65536)) _ refl (movz_row (n % 65536) (omega arith))) in
-    let second : Steps 1 (with_low n words) (with_high n words) = Steps-one _ _ (step-at (with_low n words) (movk_word (n / 65536)) _ refl (movk_row (n / 65536) (omega arith))) in
-    let both : Steps 2 (at_start words) (with_high n words) = Steps-add first second in
-    let last : step (with_high n words) ≡ Ends (Exited (with_halfword (16 * 1) (n / 65536) (n % 65536 * 2 ^ (16 * 0) % 2 ^ 32 % 2 ^ 32) % 2 ^ 32 % 2 ^ 8)) = step-at (with_high n words) svc_word _ refl svc_row in
+long_run : (n : ℕ) (choices : List ℕ) (stack steps : ℕ) → 65535 < n → n ≤ 2147483647 → EndsWith (n % 256) steps (at_start n choices stack)
+long_run n choices stack zero long within = soon_end _ zero _ (omega arith) (λ w. refl)
+long_run n choices stack (suc zero) long within =
+    let code : constant_code n ≡ movz_word (n % 65536) ∷ movk_word (n / 65536) ∷ svc_word ∷ [] = constant_code-long n long in
+    soon_end _ 1 _ (omega arith) (λ w. ap end_of (first_step n choices stack w (rw code (omega arith)) (rw code refl)).runs)
+long_run n choices stack (suc (suc zero)) long within =
+    soon_end _ 2 _ (omega arith) (λ w. ap end_of (second_step n choices stack w within (constant_code-long n long)).runs)
+long_run n choices stack (suc (suc (suc more))) long within =
+    let code : constant_code n ≡ movz_word (n % 65536) ∷ movk_word (n / 65536) ∷ svc_word ∷ [] = constant_code-long n long in
+    late_end _ (suc (suc (suc more))) _ (λ w.
+    let s : State = high_moved n (low_moved n (at_start n choices stack w)) in
+    let both : Steps 2 (at_start n choices stack w) s = second_step n choices stack w within code in
+    let last : step s ≡ Ends (Exited (with_halfword (16 * 1) (n / 65536) (n % 65536 * 2 ^ (16 * 0) % 2 ^ 32 % 2 ^ 32) % 2 ^ 32 % 2 ^ 8)) =
+    step-at n stack 2 s svc_word _ (record { regions = refl; byte = refl; pc = refl }) (rw code (omega arith)) (rw code refl) svc_row in
     let value : with_halfword (16 * 1) (n / 65536) (n % 65536 * 2 ^ (16 * 0) % 2 ^ 32 % 2 ^ 32) % 2 ^ 32 % 2 ^ 8 ≡ n % 256 = omega arith in
-    late_end _ (suc (suc (suc more))) _ (ap end_of (run-ends (suc (suc (suc more))) both last (omega arith)) ∙ ap Exited value)
+    ap end_of (run-ends (suc (suc (suc more))) both last (omega arith)) ∙ ap Exited value)
 
-by_halves : (n steps : ℕ) (long : Bool) → nat_lt 65535 n ≡ long → n ≤ 2147483647 →
-    EndsWith (n % 256) steps (run steps (at_start (if long then movz_word (n % 65536) ∷ movk_word (n / 65536) ∷ svc_word ∷ [] else movz_word (n % 65536) ∷ svc_word ∷ [])))
-by_halves n steps true is within = long_run n steps within
-by_halves n steps false is within = short_run n steps (omega (arith, ltb-false 65535 n is))
+-- Its run exits with the constant modulo 256, or is out of steps before, whatever the outside is.
+pub constant_ends : (n steps : ℕ) (choices : List ℕ) (stack : ℕ) → n ≤ 2147483647 → EndsWith (n % 256) steps (loaded (constant_image n) choices stack)
+constant_ends n steps choices stack within = elim (cases_lt 65535 n) [
+  | inl long ↦ long_run n choices stack steps long within
+  | inr short ↦ short_run n choices stack steps (omega (arith, short))
+]
 
--- The image of a constant holds code alone, and is loaded with its words behind one page.
-pub constant_alone : (n : ℕ) → HoldsCodeAlone (constant_image n)
-constant_alone n = record { relocs = refl; descriptors = refl; rodata = refl; filled = refl; zero_bytes = refl }
-
-loaded_constant : (n : ℕ) (choices : List ℕ) (stack : ℕ) → loaded (constant_image n) choices stack ≡ at_start (constant_code n)
-loaded_constant n choices stack =
-    ap (λ place. initial_state (constant_code n) (0x10000000 + place) 0x10001000) (code_place-alone (constant_image n) (constant_alone n))
-
--- Its run exits with the constant modulo 256, or is out of steps before.
-pub constant_ends : (n steps : ℕ) (choices : List ℕ) (stack : ℕ) → n ≤ 2147483647 → EndsWith (n % 256) steps (run steps (loaded (constant_image n) choices stack))
-constant_ends n steps choices stack within =
-    subst (λ s. EndsWith (n % 256) steps (run steps s)) (sym (loaded_constant n choices stack)) (by_halves n steps (nat_lt 65535 n) refl within)
+pub either : (end : MachineEnd) (status : ℕ) → {other : MachineEnd} → other ≡ end → (end ≡ Exited status) ⊎ (end ≡ OutOfSteps) → (other ≡ Exited status) ⊎ (other ≡ OutOfSteps)
+either end status same (inl exits) = inl (same ∙ exits)
+either end status same (inr over) = inr (same ∙ over)
 
 pub constant_exits : (n : ℕ) → n ≤ 2147483647 → ExitsAlways (constant_image n) (n % 256)
 constant_exits n within = record {
-  exits = λ choices stack steps enough. (constant_ends n steps choices stack within).late enough;
-  sooner = λ choices stack steps. (constant_ends n steps choices stack within).soon;
+  exits = λ choices stack steps outside enough.
+      let ends = constant_ends n steps choices stack within in
+      ends.ends outside ∙ ends.late enough;
+  sooner = λ choices stack steps outside.
+      let ends = constant_ends n steps choices stack within in
+      either ends.end (n % 256) (ends.ends outside) ends.soon;
 }
+
+-- ---- what a run of the machine leaves
+
+-- a run from a state that is known by an equation
+pub from_start : {S K : Type 0} (steps : ℕ) (start old left : Outside → State) (before after : Objects S K) (end : MachineEnd) → ((w : Outside) → old w ≡ start w) →
+    MachineAnswers steps old left before after end → (goes : Outside → State) × MachineAnswers steps start goes before after end
+from_start steps start old left before after end same answers = (left, subst (λ from. MachineAnswers steps from left before after end) (fun_ext same) answers)
+
+-- It ends so over any outside, and leaves the source and the sink alone.
+pub record IsQuiet {S K : Type 0} (steps : ℕ) (start : Outside → State) (before after : Objects S K) (end : MachineEnd) : Type 0 where
+  pub ends : (w : Outside) → end ≡ end_of (run steps (start w))
+  pub source : after.source ≡ before.source
+  pub sink : after.sink ≡ before.sink
+
+no_input_fault : (end : MachineEnd) (status : ℕ) → (end ≡ Exited status) ⊎ (end ≡ OutOfSteps) → end ≢ InputFault
+no_input_fault end status (inl exits) = λ is. let e : Exited status ≡ InputFault = sym exits ∙ is in cc
+no_input_fault end status (inr over) = λ is. let e : OutOfSteps ≡ InputFault = sym over ∙ is in cc
+
+no_output_fault : (end : MachineEnd) (status : ℕ) → (end ≡ Exited status) ⊎ (end ≡ OutOfSteps) → end ≢ OutputFault
+no_output_fault end status (inl exits) = λ is. let e : Exited status ≡ OutputFault = sym exits ∙ is in cc
+no_output_fault end status (inr over) = λ is. let e : OutOfSteps ≡ OutputFault = sym over ∙ is in cc
+
+pub constant_quiet : {S K : Type 0} (n steps : ℕ) (choices : List ℕ) (stack : ℕ) (left : Outside → State) (before after : Objects S K) (end : MachineEnd) → n ≤ 2147483647 →
+    MachineAnswers steps (loaded (constant_image n) choices stack) left before after end → IsQuiet steps (loaded (constant_image n) choices stack) before after end
+constant_quiet n steps choices stack left before after end within answers =
+    let run = constant_ends n steps choices stack within in
+    record {
+      ends = λ w. answers.end ∙ run.ends answers.outside ∙ sym (run.ends w);
+      source = answers.source_kept (no_input_fault _ (n % 256) (either run.end (n % 256) (run.ends (without_input answers.outside)) run.soon));
+      sink = answers.sink_kept (no_output_fault _ (n % 256) (either run.end (n % 256) (run.ends (without_output answers.outside)) run.soon));
+    }
+
+-- the same of an image that is that of a constant
+pub image_quiet : {S K : Type 0} (image : Image) (bytes : List ℕ) (steps : ℕ) (choices : List ℕ) (stack : ℕ) (left : Outside → State) (before after : Objects S K) (end : MachineEnd) → IsConstantFile image bytes →
+    MachineAnswers steps (loaded image choices stack) left before after end → IsQuiet steps (loaded image choices stack) before after end
+image_quiet image bytes steps choices stack left before after end constant answers =
+    subst (λ i. IsQuiet steps (loaded i choices stack) before after end) (sym constant.image)
+    (constant_quiet constant.constant steps choices stack left before after end constant.fits
+    (subst (λ i. MachineAnswers steps (loaded i choices stack) left before after end) constant.image answers))

@@ -1,5 +1,6 @@
 -- What an image does that was built from a text (this project's own).
 use Rattle.std.specs.Prelude.{◌≡◌, ◌⊎◌, ◌≤◌, ℕ, ◌%◌, List}
+use Rattle.a64_code.specs.Outside.{Outside}
 use Rattle.a64_code.specs.declared.end.MachineEnd.TheVariants.{Exited, OutOfSteps}
 use Rattle.elf_image.specs.Constant.{constant_image}
 use Rattle.elf_image.specs.Image.{Image}
@@ -8,11 +9,11 @@ use Rattle.mte_machine.specs.Run.{run, end_of}
 use Rattle.tag_startup.specs.Loaded.{loaded}
 use Rattle.mt_pipeline.specs.Constant.{ReturnsConstant}
 
--- Whatever the choices and the stack, which no run uses yet, the image's run exits with this status where three steps may
--- run, and with it or out of steps where fewer may. No run takes input or has output yet (clauses of `Machine::run`).
+-- Whatever the choices, the stack and the outside are, the image's run exits with this status where three steps may run, and
+-- with it or out of steps where fewer may. So it asks nothing of the outside.
 pub record ExitsAlways (image : Image) (status : ℕ) : Type 0 where
-  pub exits : (choices : List ℕ) (stack steps : ℕ) → 3 ≤ steps → end_of (run steps (loaded image choices stack)) ≡ Exited status
-  pub sooner : (choices : List ℕ) (stack steps : ℕ) → (end_of (run steps (loaded image choices stack)) ≡ Exited status) ⊎ (end_of (run steps (loaded image choices stack)) ≡ OutOfSteps)
+  pub exits : (choices : List ℕ) (stack steps : ℕ) (outside : Outside) → 3 ≤ steps → end_of (run steps (loaded image choices stack outside)) ≡ Exited status
+  pub sooner : (choices : List ℕ) (stack steps : ℕ) (outside : Outside) → (end_of (run steps (loaded image choices stack outside)) ≡ Exited status) ⊎ (end_of (run steps (loaded image choices stack outside)) ≡ OutOfSteps)
 
 -- The text returns a constant, the bytes are the file of its image, and the image exits with the constant modulo 256.
 pub record IsBuilt (text file : List ℕ) : Type 0 where

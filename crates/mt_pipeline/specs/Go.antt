@@ -1,5 +1,6 @@
 -- What the command `go` answers: the end of the program's run, or another answer with its cause (this project's own).
 use Rattle.std.specs.Prelude.{◌≡◌, ◌⊎◌, ◌≤◌, ℕ, ◌%◌, List, Some, None, IfSome}
+use Rattle.a64_code.specs.Outside.{Outside}
 use Rattle.elf_image.specs.Constant.{constant_image}
 use Rattle.elf_image.specs.Image.{Image}
 use Rattle.mte_machine.specs.Run.{run, end_of}
@@ -12,9 +13,10 @@ use Rattle.mt_pipeline.specs.declared.ended.Ended.{Ended}
 use Rattle.mt_pipeline.specs.declared.ended.Why.{Why}
 use Rattle.mt_pipeline.specs.declared.ended.Why.TheVariants.{Exited, Refused, NoFile, NoMemory, ReadFault, OutOfSteps}
 
--- what is answered to the run of an image by the default choices and stack, for at most so many steps
-abbrev pub run_answer : Image → ℕ → Ended
-run_answer image steps = ended_by (end_of (run steps (loaded image default_choices default_stack)))
+-- This is answered to the run of an image by the default choices and stack, for at most so many steps: the run ends so
+-- whatever the outside is.
+abbrev pub IsRunAnswer : Image → ℕ → Ended → Type 0
+IsRunAnswer image steps ended = (outside : Outside) → ended ≡ ended_by (end_of (run steps (loaded image default_choices default_stack outside)))
 
 -- no constant is returned by a program of this text
 abbrev pub IsNoProgram : List ℕ → Type 0
@@ -23,9 +25,9 @@ IsNoProgram bytes = (n : ℕ) → ¬ ReturnsConstant bytes n
 -- The cause of an answer, by its reason. A file is named by its place among those that the job reads.
 abbrev pub CauseOfGo : {S K : Type 0} → List ℕ → ℕ → Seen S K → Seen S K → Ended → Why → Type 0
 CauseOfGo file steps before after ended Exited =
-    HoldsSome before.files file (λ bytes. (n : ℕ) × ReturnsConstant bytes n × (ended ≡ run_answer (constant_image n) steps))
+    HoldsSome before.files file (λ bytes. (n : ℕ) × ReturnsConstant bytes n × IsRunAnswer (constant_image n) steps ended)
 CauseOfGo file steps before after ended OutOfSteps =
-    HoldsSome before.files file (λ bytes. (n : ℕ) × ReturnsConstant bytes n × (ended ≡ run_answer (constant_image n) steps))
+    HoldsSome before.files file (λ bytes. (n : ℕ) × ReturnsConstant bytes n × IsRunAnswer (constant_image n) steps ended)
 CauseOfGo file steps before after ended (Refused place number byte) =
     (place ≡ 0) × (number ≡ 44) × (byte ≡ 0) × HoldsSome before.files file IsNoProgram
 CauseOfGo file steps before after ended (NoFile place) = (place ≡ 0) × IfSome before.files (λ files. files file ≡ None)
@@ -37,7 +39,7 @@ CauseOfGo file steps before after ended _ = ⊥
 pub record GoAnswers {S K : Type 0} (file : List ℕ) (steps : ℕ) (before after : Seen S K) (ended : Ended) : Type 0 where
   -- Where the file holds the text of a constant and no read failed, the program runs, or memory is wanting.
   pub runs : (bytes : List ℕ) (n : ℕ) → bytes_of before.files file ≡ Some bytes → ReturnsConstant bytes n → ¬ ReadFailed before after →
-      (ended ≡ run_answer (constant_image n) steps) ⊎ (ended.why ≡ NoMemory)
+      IsRunAnswer (constant_image n) steps ended ⊎ (ended.why ≡ NoMemory)
   -- It exits with the constant modulo 256 where three steps may run.
   pub exits : (bytes : List ℕ) (n : ℕ) → bytes_of before.files file ≡ Some bytes → ReturnsConstant bytes n → ¬ ReadFailed before after → 3 ≤ steps →
       (ended ≡ record { status = n % 256; why = Exited }) ⊎ (ended.why ≡ NoMemory)

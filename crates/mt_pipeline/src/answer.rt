@@ -1,6 +1,7 @@
 // What a command answers.
 ghost use Rattle.std.specs.Prelude.{◌≡◌};
 ghost use Rattle.mt_pipeline.specs.Answer.{ended_of};
+ghost use Rattle.mt_pipeline.specs.Status.{ended_by};
 
 use crate::ended::{Ended, Why};
 use crate::refusal::{CompileRefusal, RunRefusal};
@@ -31,9 +32,7 @@ impl Answer {
     {
         let (status, why) = match self {
             Answer::Done => (0, Why::Done),
-            Answer::Ran(MachineEnd::Exited(status)) => (*status, Why::Exited),
-            Answer::Ran(MachineEnd::BadCode { at }) => (84, Why::BadCode { at: *at }),
-            Answer::Ran(MachineEnd::OutOfSteps) => (86, Why::OutOfSteps),
+            Answer::Ran(end) => return ended_by(*end),
             Answer::Usage => (64, Why::Usage),
             Answer::Refused { file, .. } => (
                 65,
@@ -58,4 +57,34 @@ impl Answer {
         };
         Ended { status, why }
     }
+}
+
+// The status and the reason of the end of a run.
+fn ended_by(end: MachineEnd) -> Ended
+    ensures { result ≡ ended_by end }
+{
+    let (status, why) = match end {
+        MachineEnd::Exited(status) => (status, Why::Exited),
+        MachineEnd::OutputFault => (73, Why::OutputFault),
+        MachineEnd::InputFault => (74, Why::InputFault),
+        MachineEnd::TagFault {
+            at,
+            pointer_tag,
+            memory_tag,
+        } => (
+            80,
+            Why::TagFault {
+                at,
+                pointer_tag,
+                memory_tag,
+            },
+        ),
+        MachineEnd::MemoryFault { at } => (81, Why::MemoryFault { at }),
+        MachineEnd::AlignFault { at } => (82, Why::AlignFault { at }),
+        MachineEnd::StackFault => (83, Why::StackFault),
+        MachineEnd::BadCode { at } => (84, Why::BadCode { at }),
+        MachineEnd::Divide => (85, Why::Divide),
+        MachineEnd::OutOfSteps => (86, Why::OutOfSteps),
+    };
+    Ended { status, why }
 }

@@ -21,3 +21,6 @@ pub use image::build;
 pub use refusal::{CompileRefusal, RunRefusal};
 pub use runner::run_image;
 pub use source::SourceText;
+
+#[cfg(test)]
+mod tests;

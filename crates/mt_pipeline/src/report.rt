@@ -1,7 +1,7 @@
 // The line on the error sink.
 ghost use Rattle.std.specs.Prelude.{◌≡◌};
 ghost use Rattle.mt_pipeline.specs.Answer.{ended_of};
-ghost use Rattle.mt_pipeline.specs.Status.{HasNoLine};
+ghost use Rattle.mt_pipeline.specs.Status.{HasNoLine, ended_by};
 
 use crate::answer::Answer;
 use mt_outside::{PutAnswer, Sink};
@@ -24,15 +24,42 @@ impl<'a, E: Sink> Write for Line<'a, E> {
     }
 }
 
+// Puts the line of the end of a run.
+fn report_end<E: Sink>(line: &mut Line<'_, E>, end: MachineEnd) -> fmt::Result
+    ensures quiet { HasNoLine (ended_by end).why → line.new ≡ line.old }
+{
+    match end {
+        MachineEnd::Exited(_) => Ok(()),
+        MachineEnd::OutputFault => write!(line, "mtcc: output fault\n"),
+        MachineEnd::InputFault => write!(line, "mtcc: input fault\n"),
+        MachineEnd::TagFault {
+            pointer_tag,
+            memory_tag,
+            ..
+        } => {
+            let (pointer, memory) = (pointer_tag.value(), memory_tag.value());
+            write!(
+                line,
+                "mtcc: tag fault: pointer tag {pointer:x}, memory tag {memory:x}\n"
+            )
+        }
+        MachineEnd::MemoryFault { at } => write!(line, "mtcc: memory fault at 0x{at:x}\n"),
+        MachineEnd::AlignFault { at } => write!(line, "mtcc: alignment fault at 0x{at:x}\n"),
+        MachineEnd::StackFault => write!(line, "mtcc: stack fault\n"),
+        MachineEnd::BadCode { at } => write!(line, "mtcc: bad code at 0x{at:x}\n"),
+        MachineEnd::Divide => write!(line, "mtcc: division by zero\n"),
+        MachineEnd::OutOfSteps => write!(line, "mtcc: out of steps\n"),
+    }
+}
+
 /// Puts the line of an answer about this file. A fault of the sink is nobody's answer.
 pub fn report<E: Sink>(err: &mut E, file: &str, answer: &Answer)
     ensures quiet { HasNoLine (ended_of answer.now).why → err.new ≡ err.old }
 {
     let mut line = Line { sink: err };
     let _ = match answer {
-        Answer::Done | Answer::Ran(MachineEnd::Exited(_)) => Ok(()),
-        Answer::Ran(MachineEnd::BadCode { at }) => write!(line, "mtcc: bad code at 0x{at:x}\n"),
-        Answer::Ran(MachineEnd::OutOfSteps) => write!(line, "mtcc: out of steps\n"),
+        Answer::Done => Ok(()),
+        Answer::Ran(end) => report_end(&mut line, *end),
         Answer::Usage => write!(line, "mtcc: usage\n"),
         Answer::Refused { refusal, .. } => write!(line, "mtcc: {file}: {refusal}\n"),
         Answer::NoFile { .. } => write!(line, "mtcc: {file}: no such file\n"),

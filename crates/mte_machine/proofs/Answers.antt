@@ -1,7 +1,7 @@
 -- What the answer of a step tells of the step.
 use Rattle.std.proofs.Common.{◌≡◌, sym, ap}
 use Rattle.a64_code.specs.State.{State}
-use Rattle.a64_code.specs.Step.{Stepped, Leads, Ends}
+use Rattle.a64_code.specs.Stepped.{Stepped, Leads, Ends}
 use Rattle.a64_code.specs.declared.end.MachineEnd.{MachineEnd}
 use Rattle.mte_machine.specs.declared.step.Step.TheVariants.{Ran, Ended}
 use Rattle.mte_machine.specs.Run.{StepsAs}

@@ -1,34 +1,14 @@
--- No step says by itself that the steps are over.
-use Rattle.std.proofs.Common.{◌≡◌, ◌≢◌, ◌↔◌, ℕ, zero, suc, Bool, true, false, ◌==◌, if◌then◌else◌, refl, sym, ap, ◌∙◌}
+-- No run stops by itself for want of steps.
+use Rattle.std.proofs.Common.{◌≡◌, ◌≢◌, ◌↔◌, ℕ, zero, suc, refl, sym, ap, ◌∙◌}
 use Rattle.a64_code.specs.State.{State}
-use Rattle.a64_code.specs.Step.{Stepped, Leads, Ends, step, effect, carried_out, fetched}
+use Rattle.a64_code.specs.Stepped.{Stepped, Leads, Ends}
+use Rattle.a64_code.specs.Step.{step}
+use Rattle.a64_code.specs.Ends.{EndsOfItself, step_own}
 use Rattle.a64_code.specs.declared.end.MachineEnd.{MachineEnd}
-use Rattle.a64_code.specs.declared.end.MachineEnd.TheVariants.{Exited, BadCode, OutOfSteps}
-use Rattle.a64_code.specs.declared.instr.Instr.{Instr}
-use Rattle.a64_code.specs.declared.instr.Instr.TheVariants.{Movz, Movk, Svc}
-use Rattle.std.proofs.Common.{Option, Some, None}
+use Rattle.a64_code.specs.declared.end.MachineEnd.TheVariants.{OutOfSteps}
 use Rattle.mte_machine.specs.Run.{Run, Running, Stopped, run, run_after, end_of, Steps}
 
--- it has an end of its own, where it ends the run
-abbrev pub EndsOfItself : Stepped → Type 0
-EndsOfItself (Leads next) = Unit {0}
-EndsOfItself (Ends end) = end ≢ OutOfSteps
-
-service-ends : (is_exit : Bool) (status at : ℕ) → EndsOfItself (if is_exit then Ends (Exited status) else Ends (BadCode at))
-service-ends true status at = λ same. let differ : Exited status ≡ OutOfSteps = same in cc
-service-ends false status at = λ same. let differ : BadCode at ≡ OutOfSteps = same in cc
-
-effect-ends : (instr : Instr) (s : State) → EndsOfItself (effect instr s)
-effect-ends (Movz wide hw imm16 rd) s = tt
-effect-ends (Movk wide hw imm16 rd) s = tt
-effect-ends (Svc imm16) s = service-ends (imm16 == 3) _ s.pc
-effect-ends _ s = λ same. let differ : BadCode s.pc ≡ OutOfSteps = same in cc
-
-carried_out-ends : (instr : Option Instr) (s : State) → EndsOfItself (carried_out instr s)
-carried_out-ends None s = λ same. let differ : BadCode s.pc ≡ OutOfSteps = same in cc
-carried_out-ends (Some instr) s = effect-ends instr s
-
-abbrev pub StopsOfItself : Run → Type 0
+abbrev StopsOfItself : Run → Type 0
 StopsOfItself (Running s) = Unit {0}
 StopsOfItself (Stopped end s) = end ≢ OutOfSteps
 
@@ -38,7 +18,7 @@ run_after-stops (Ends end) s go first rest = first
 
 run-stops : (n : ℕ) (s : State) → StopsOfItself (run n s)
 run-stops zero s = tt
-run-stops (suc n) s = run_after-stops (step s) s (run n) (carried_out-ends (fetched s) s) (λ t. run-stops n t)
+run-stops (suc n) s = run_after-stops (step s) s (run n) (step_own s) (λ t. run-stops n t)
 
 -- A run is out of steps exactly where all of them ran.
 pub out_of_steps : (n : ℕ) (from : State) (answer : MachineEnd) → answer ≡ end_of (run n from) → (answer ≡ OutOfSteps) ↔ ((s : State) × Steps n from s)

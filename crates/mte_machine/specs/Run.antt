@@ -1,7 +1,9 @@
--- A run: steps one after another, until one ends it or no more are allowed.
-use Rattle.std.specs.Prelude.{◌≡◌, ℕ, zero, suc, ◌+◌}
+-- A run: steps one after another, until one ends it or no more are allowed (this project's own).
+use Rattle.std.specs.Prelude.{◌≡◌, ℕ, zero, suc, List, Option}
 use Rattle.a64_code.specs.State.{State}
-use Rattle.a64_code.specs.Step.{Stepped, Leads, Ends, step}
+use Rattle.a64_code.specs.Stepped.{Stepped, Leads, Ends}
+use Rattle.a64_code.specs.Step.{step}
+use Rattle.a64_code.specs.Services.{output_at}
 use Rattle.a64_code.specs.declared.end.MachineEnd.{MachineEnd}
 use Rattle.a64_code.specs.declared.end.MachineEnd.TheVariants.{OutOfSteps}
 use Rattle.mte_machine.specs.declared.step.Step.{Step}
@@ -40,3 +42,12 @@ end_of (Stopped end s) = end
 abbrev pub state_after : Run → State
 state_after (Running s) = s
 state_after (Stopped end s) = s
+
+-- what the sink has taken once a run is over, and what the source still answers
+abbrev pub output_after : Run → List ℕ
+output_after (Running s) = s.outside.output
+output_after (Stopped end s) = output_at end s
+
+abbrev pub answers_after : Run → List (Option ℕ)
+answers_after (Running s) = s.outside.answers
+answers_after (Stopped end s) = s.outside.answers

@@ -1,5 +1,5 @@
 -- The tags of regions that stand in a list for each of them.
-use Rattle.std.proofs.Common.{◌≡◌, ◌≢◌, ℕ, zero, suc, ◌-◌, ◌*◌, ◌/◌, ◌%◌, ◌<◌, true, false, cond, List, [], ◌∷◌, length, get_or, set, replicate, refl, sym, ◌∙◌, ap, ap₂, arith, inl, inr}
+use Rattle.std.proofs.Common.{◌≡◌, ◌≢◌, ℕ, zero, suc, ◌-◌, ◌*◌, ◌/◌, ◌%◌, ◌<◌, true, false, cond, List, [], ◌∷◌, length, get_or, set, replicate, refl, sym, ◌∙◌, ap, ap₂, arith, inl, inr, mod-eq_of_lt}
 use Rattle.std.specs.Global.{Vec}
 use Rattle.std.specs.List.{All, AllPairs}
 use Rattle.std.proofs.Math.Path.{fun_ext}
@@ -33,21 +33,21 @@ first_extent_not x es i e at apart below is holds = elim (cases_Bool (is_in_exte
 ]
 
 -- the tag of a granule of that extent
-pub tag_in_there : (es : List Extent) (ts : List (Vec ℕ)) (i : ℕ) (e : Extent) (t : Vec ℕ) (granule : ℕ) → AllPairs AreApart es → IsTaggedAt es ts i e t → is_in_extent e (granule * 16) ≡ true → tag_in es ts granule ≡ get_or t.items (granule - e.start / 16) 0
+pub tag_in_there : (es : List Extent) (ts : List (Vec ℕ)) (i : ℕ) (e : Extent) (t : Vec ℕ) (granule : ℕ) → AllPairs AreApart es → IsTaggedAt es ts i e t → is_in_extent e (granule * 16) ≡ true → tag_in es ts granule ≡ get_or t.items (granule - e.start / 16) 0 % 16
 tag_in_there [] ts i e t granule apart here holds = absurd (omega (arith, here.in_range))
 tag_in_there (x ∷ es) [] i e t granule apart here holds = absurd (omega (arith, here.count))
 tag_in_there (x ∷ es) (y ∷ ts) zero e t granule apart here holds =
-    rw (ap (λ z. is_in_extent z (granule * 16)) here.extent ∙ holds) (ap₂ (λ (z : Extent) (v : Vec ℕ). get_or v.items (granule - z.start / 16) 0) here.extent here.tags)
+    rw (ap (λ z. is_in_extent z (granule * 16)) here.extent ∙ holds) (ap₂ (λ (z : Extent) (v : Vec ℕ). get_or v.items (granule - z.start / 16) 0 % 16) here.extent here.tags)
 tag_in_there (x ∷ es) (y ∷ ts) (suc i) e t granule apart here holds =
     rw (first_extent_not x es i e (granule * 16) apart (omega (arith, here.in_range)) here.extent holds)
     (tag_in_there es ts i e t granule (extents_tail x es apart) (tail x es y ts i e t here) holds)
 
 -- after other tags were put for that extent
-tag_in-set_there : (es : List Extent) (ts : List (Vec ℕ)) (i : ℕ) (e : Extent) (t s : Vec ℕ) (granule : ℕ) → AllPairs AreApart es → IsTaggedAt es ts i e t → is_in_extent e (granule * 16) ≡ true → tag_in es (set ts i s) granule ≡ get_or s.items (granule - e.start / 16) 0
+tag_in-set_there : (es : List Extent) (ts : List (Vec ℕ)) (i : ℕ) (e : Extent) (t s : Vec ℕ) (granule : ℕ) → AllPairs AreApart es → IsTaggedAt es ts i e t → is_in_extent e (granule * 16) ≡ true → tag_in es (set ts i s) granule ≡ get_or s.items (granule - e.start / 16) 0 % 16
 tag_in-set_there [] ts i e t s granule apart here holds = absurd (omega (arith, here.in_range))
 tag_in-set_there (x ∷ es) [] i e t s granule apart here holds = absurd (omega (arith, here.count))
 tag_in-set_there (x ∷ es) (y ∷ ts) zero e t s granule apart here holds =
-    rw (ap (λ z. is_in_extent z (granule * 16)) here.extent ∙ holds) (ap (λ (z : Extent). get_or s.items (granule - z.start / 16) 0) here.extent)
+    rw (ap (λ z. is_in_extent z (granule * 16)) here.extent ∙ holds) (ap (λ (z : Extent). get_or s.items (granule - z.start / 16) 0 % 16) here.extent)
 tag_in-set_there (x ∷ es) (y ∷ ts) (suc i) e t s granule apart here holds =
     rw (first_extent_not x es i e (granule * 16) apart (omega (arith, here.in_range)) here.extent holds)
     (tag_in-set_there es ts i e t s granule (extents_tail x es apart) (tail x es y ts i e t here) holds)
@@ -58,7 +58,7 @@ tag_in-set_elsewhere (x ∷ es) [] i e t s granule here other = absurd (omega (a
 tag_in-set_elsewhere (x ∷ es) (y ∷ ts) zero e t s granule here other =
     rw (ap (λ z. is_in_extent z (granule * 16)) here.extent ∙ other) refl
 tag_in-set_elsewhere (x ∷ es) (y ∷ ts) (suc i) e t s granule here other =
-    ap (λ n. cond (is_in_extent x (granule * 16)) (get_or y.items (granule - x.start / 16) 0) n)
+    ap (λ n. cond (is_in_extent x (granule * 16)) (get_or y.items (granule - x.start / 16) 0 % 16) n)
     (tag_in-set_elsewhere es ts i e t s granule (tail x es y ts i e t here) other)
 
 -- an address of a whole extent, and its granule
@@ -70,19 +70,20 @@ pub granule_place : (e : Extent) (at : ℕ) → IsWhole e → is_in_extent e at 
 granule_place e at whole holds = let b = between_parts e.start e.bytes at holds in omega (arith, b.from, whole.start_whole)
 
 -- one tag that was put is the tag of its granule alone
-pub tag_in-put : (es : List Extent) (ts : List (Vec ℕ)) (i : ℕ) (e : Extent) (t s : Vec ℕ) (at tag : ℕ) → AllPairs AreApart es → IsWhole e → IsTaggedAt es ts i e t → is_in_extent e at ≡ true → (at - e.start) / 16 < length t.items → s.items ≡ set t.items ((at - e.start) / 16) tag → tag_in es (set ts i s) ≡ store_tag (tag_in es ts) at tag
-tag_in-put es ts i e t s at tag apart whole here holds room items = fun_ext (λ granule. elim (cases_eq granule (granule_of at)) [
+pub tag_in-put : (es : List Extent) (ts : List (Vec ℕ)) (i : ℕ) (e : Extent) (t s : Vec ℕ) (at tag : ℕ) → AllPairs AreApart es → IsWhole e → IsTaggedAt es ts i e t → is_in_extent e at ≡ true → (at - e.start) / 16 < length t.items → tag < 16 → s.items ≡ set t.items ((at - e.start) / 16) tag → tag_in es (set ts i s) ≡ store_tag (tag_in es ts) at tag
+tag_in-put es ts i e t s at tag apart whole here holds room small items = fun_ext (λ granule. elim (cases_eq granule (granule_of at)) [
   | inl same ↦
       ap (tag_in es (set ts i s)) same
       ∙ tag_in-set_there es ts i e t s (granule_of at) apart here (granule_within e at whole holds)
-      ∙ ap₂ (λ xs n. get_or xs n 0) items (granule_place e at whole holds)
-      ∙ get_or-set_same t.items ((at - e.start) / 16) tag 0 room
+      ∙ ap₂ (λ xs n. get_or xs n 0 % 16) items (granule_place e at whole holds)
+      ∙ ap (λ n. n % 16) (get_or-set_same t.items ((at - e.start) / 16) tag 0 room)
+      ∙ mod-eq_of_lt small
       ∙ sym (store_tag_same (tag_in es ts) at tag granule same)
   | inr other ↦ elim (cases_Bool (is_in_extent e (granule * 16))) [
     | inl inside ↦
         tag_in-set_there es ts i e t s granule apart here inside
-        ∙ ap (λ xs. get_or xs (granule - e.start / 16) 0) items
-        ∙ get_or-set_other t.items ((at - e.start) / 16) (granule - e.start / 16) tag 0 (apart_places granule other inside)
+        ∙ ap (λ xs. get_or xs (granule - e.start / 16) 0 % 16) items
+        ∙ ap (λ n. n % 16) (get_or-set_other t.items ((at - e.start) / 16) (granule - e.start / 16) tag 0 (apart_places granule other inside))
         ∙ sym (tag_in_there es ts i e t granule apart here inside)
         ∙ sym (store_tag_other (tag_in es ts) at tag granule other)
     | inr outside ↦
@@ -102,7 +103,7 @@ pub tag_in_zero : (es : List Extent) (ts : List (Vec ℕ)) (granule : ℕ) → (
 tag_in_zero [] ts granule zeros = refl
 tag_in_zero (e ∷ es) [] granule zeros = refl
 tag_in_zero (e ∷ es) (t ∷ ts) granule zeros = elim (cases_Bool (is_in_extent e (granule * 16))) [
-  | inl holds ↦ rw holds (zeros 0 t (granule - e.start / 16) (omega arith))
+  | inl holds ↦ rw holds (ap (λ n. n % 16) (zeros 0 t (granule - e.start / 16) (omega arith)))
   | inr other ↦ rw other (tag_in_zero es ts granule (λ k u n below. zeros (suc k) u n (omega (arith, below))))
 ]
 

@@ -1,19 +1,30 @@
--- What shows that regions are well placed, one after another, and that their bytes are in range.
-use Rattle.std.specs.Prelude.{◌≡◌, ℕ, zero, suc, ◌+◌, ◌≤◌, ◌%◌, ◌<◌, List, [], ◌∷◌, true}
-use Rattle.std.proofs.Common.{arith, inl, inr}
-use Rattle.std.proofs.lemmas.Bool.{cases_Bool}
+-- What shows that regions are well placed, one after another, what is known of an address where they are, and that their
+-- bytes and tags are in range.
+use Rattle.std.specs.Prelude.{◌≡◌, ℕ, zero, suc, ◌+◌, ◌≤◌, ◌*◌, ◌/◌, ◌%◌, ◌^◌, ◌<◌, List, [], ◌∷◌, true, false, refl}
+use Rattle.std.proofs.Common.{true≢false, sym, arith, inl, inr}
+use Rattle.std.proofs.lemmas.Bool.{cases_Bool, or_right}
+use Rattle.std.specs.Global.{Vec}
 use Rattle.std.specs.List.{All, AllPairs}
 use Rattle.std.proofs.lemmas.Bool.Decides.{nat_tests}
-use Rattle.std.proofs.lemmas.List.Elements.{All-nil, All-cons}
-use Rattle.mt_base.specs.Memory.{Span, Extent, is_between, is_in_extent}
+use Rattle.std.proofs.lemmas.List.Elements.{All-nil, All-cons, All-tail}
+use Rattle.mt_base.specs.Granules.{granule_of}
+use Rattle.mt_base.specs.Memory.{Span, Extent, is_between, is_in_extent, is_in_span, is_mapped}
 use Rattle.tag_mem.specs.declared.region.Region.{Region}
-use Rattle.tag_mem.specs.Regions.{extent_of, byte_in, IsWhole, AreApart, IsApartFrom, IsWellPlaced}
+use Rattle.tag_mem.specs.Regions.{extent_of, byte_in, tag_in, IsWhole, AreApart, IsApartFrom, IsWellPlaced}
 
 pub byte_in-lt : (regions : List Region) (at : ℕ) → byte_in regions at < 256
 byte_in-lt [] at = omega arith
 byte_in-lt (r ∷ rs) at = elim (cases_Bool (is_in_extent (extent_of r) at)) [
   | inl holds ↦ rw holds (omega arith)
   | inr other ↦ rw other (byte_in-lt rs at)
+]
+
+pub tag_in-lt : (regions : List Extent) (tags : List (Vec ℕ)) (granule : ℕ) → tag_in regions tags granule < 16
+tag_in-lt [] tags granule = omega arith
+tag_in-lt (e ∷ es) [] granule = omega arith
+tag_in-lt (e ∷ es) (t ∷ ts) granule = elim (cases_Bool (is_in_extent e (granule * 16))) [
+  | inl holds ↦ rw holds (omega arith)
+  | inr other ↦ rw other (tag_in-lt es ts granule)
 ]
 
 -- ---- where regions may lie
@@ -58,3 +69,44 @@ one_more guard r rs whole guarded apart placed = record {
     pairs zero (suc j) d h below = apart j d (omega (arith, below))
     pairs (suc i) zero d h below = absurd (omega (arith, h))
     pairs (suc i) (suc j) d h below = placed.apart i j d (omega (arith, h)) (omega (arith, below))
+
+-- ---- what is known of an address where regions are well placed
+
+apart_unmapped : (regions : List Extent) (guard : Span) (at : ℕ) → All (IsApartFrom guard) regions → is_in_span guard at ≡ true → is_mapped regions at ≡ false
+apart_unmapped [] guard at apart inside = refl
+apart_unmapped (r ∷ rs) guard at apart inside = elim (cases_Bool (is_in_extent r at)) [
+  | inl holds ↦ absurd (apart 0 r (omega arith) at inside holds)
+  | inr other ↦ rw other (apart_unmapped rs guard at (All-tail (IsApartFrom guard) r rs apart) inside)
+]
+
+-- no region holds an address of the guard
+pub guard_unmapped : (regions : List Extent) (guard : Span) (at : ℕ) → IsWellPlaced regions guard → is_in_span guard at ≡ true → is_mapped regions at ≡ false
+guard_unmapped regions guard at placed inside = apart_unmapped regions guard at placed.guard_apart inside
+
+whole_below : (regions : List Extent) (at : ℕ) → All IsWhole regions → is_mapped regions at ≡ true → at < 2 ^ 64
+whole_below [] at whole mapped = absurd (true≢false (sym mapped))
+whole_below (r ∷ rs) at whole mapped = elim (cases_Bool (is_in_extent r at)) [
+  | inl holds ↦ let fits = (whole 0 r (omega arith)).within in grind (arith, nat_tests)
+  | inr other ↦ whole_below rs at (All-tail IsWhole r rs whole) (rw other at mapped)
+]
+
+-- an address that one holds has 64 bits
+pub mapped_below : (regions : List Extent) (guard : Span) (at : ℕ) → IsWellPlaced regions guard → is_mapped regions at ≡ true → at < 2 ^ 64
+mapped_below regions guard at placed mapped = whole_below regions at placed.whole mapped
+
+whole_interval : (start bytes at b : ℕ) → start % 16 ≡ 0 → bytes % 16 ≡ 0 → is_between start bytes at ≡ true → at / 16 * 16 ≤ b → b < at / 16 * 16 + 16 → is_between start bytes b ≡ true
+whole_interval start bytes at b start_whole bytes_whole holds from below = grind (arith, nat_tests)
+
+granule_of_extent : (r : Extent) (at k : ℕ) → IsWhole r → k < 16 → is_in_extent r at ≡ true → is_in_extent r (granule_of at * 16 + k) ≡ true
+granule_of_extent r at k whole below holds = whole_interval r.start r.bytes at (at / 16 * 16 + k) whole.start_whole whole.bytes_whole holds (omega arith) (omega (arith, below))
+
+whole_granule : (regions : List Extent) (at k : ℕ) → All IsWhole regions → k < 16 → is_mapped regions at ≡ true → is_mapped regions (granule_of at * 16 + k) ≡ true
+whole_granule [] at k whole below mapped = absurd (true≢false (sym mapped))
+whole_granule (r ∷ rs) at k whole below mapped = elim (cases_Bool (is_in_extent r at)) [
+  | inl holds ↦ rw (granule_of_extent r at k (whole 0 r (omega arith)) below holds) refl
+  | inr other ↦ or_right (is_in_extent r (granule_of at * 16 + k)) (is_mapped rs (granule_of at * 16 + k)) (whole_granule rs at k (All-tail IsWhole r rs whole) below (rw other at mapped))
+]
+
+-- with an address they hold each of the 16 of its granule
+pub granule_mapped : (regions : List Extent) (guard : Span) (at k : ℕ) → IsWellPlaced regions guard → k < 16 → is_mapped regions at ≡ true → is_mapped regions (granule_of at * 16 + k) ≡ true
+granule_mapped regions guard at k placed below mapped = whole_granule regions at k placed.whole below mapped

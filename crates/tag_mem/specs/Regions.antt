@@ -52,7 +52,7 @@ abbrev pub tag_in : List Extent → List (Vec ℕ) → ℕ → ℕ
 tag_in [] ts granule = 0
 tag_in (e ∷ es) [] granule = 0
 tag_in (e ∷ es) (t ∷ ts) granule =
-    if is_in_extent e (granule * 16) then slice_index t.items (granule - e.start / 16) else tag_in es ts granule
+    if is_in_extent e (granule * 16) then slice_index t.items (granule - e.start / 16) % 16 else tag_in es ts granule
 
 -- each region has a tag for each of its granules
 pub record HaveTags (regions : List Extent) (tags : List (Vec ℕ)) : Type 0 where

@@ -2,6 +2,7 @@ ghost use Rattle.std.specs.Prelude.{◌≡◌, ◌≢◌, ℕ, ◌<◌, ◌↔�
 ghost use Rattle.mt_base.specs.Granules.{granule_of};
 ghost use Rattle.mt_base.specs.Memory.{Span, Extent, is_mapped, load, bytes_at, store_bytes, store_tag};
 ghost use Rattle.tag_mem.specs.Answers.{read_answer, write_answer, set_tag_answer, is_fetchable};
+ghost use Rattle.tag_mem.specs.Regions.{IsWellPlaced};
 
 use mt_base::Tag;
 
@@ -70,4 +71,11 @@ pub trait TagMemory {
 
     // a byte is below 256
     ghost byte_below: { (m : Self) (at : ℕ) → byte m at < 256 };
+
+    // a tag is below 16
+    ghost tags_below: { (m : Self) (granule : ℕ) → tags m granule < 16 };
+
+    // regions and guard have whole granules, no region goes past the last address of 64 bits, and no address is in two of
+    // them
+    ghost well_placed: { (m : Self) → IsWellPlaced (regions m) (guard m) };
 }

@@ -52,7 +52,7 @@ impl FlatMemory {
 
 impl TagMemory for FlatMemory {
     ghost use Rattle.tag_mem.specs.Regions.{extents_of, span_of, byte_in, tag_in};
-    ghost use Rattle.tag_mem.specs.RegionLaws.{byte_in-lt};
+    ghost use Rattle.tag_mem.specs.RegionLaws.{byte_in-lt, tag_in-lt};
 
     ghost byte = { λ m. byte_in m.regions.items };
 
@@ -63,6 +63,10 @@ impl TagMemory for FlatMemory {
     ghost guard = { λ m. span_of m.guard };
 
     ghost byte_below = { λ m at. byte_in-lt m.regions.items at };
+
+    ghost tags_below = { λ m granule. tag_in-lt (extents_of m.regions.items) m.tags.items granule };
+
+    ghost well_placed = { λ m. m.placed };
 
     fn read(&self, at: u64, out: &mut [u8]) -> Access {
         read_bytes(&self.regions, &self.index, self.guard, at, out)

@@ -18,7 +18,9 @@ pub fn tag_at(regions: &[Region], index: &[usize], tags: &[Vec<Tag>], at: u64) -
 {
     let place = region_at(regions, index, at)?;
     let offset = (at - regions[place].start) as usize;
-    Some(tags[place][offset / 16])
+    let tag = tags[place][offset / 16];
+    prove!(tag.value() < 16);
+    Some(tag)
 }
 
 /// Sets the tag of the granule of an address, which is in a region.
@@ -34,5 +36,6 @@ pub fn put_tag(regions: &[Region], index: &[usize], tags: &mut [Vec<Tag>], at: u
         unreachable!();
     };
     let offset = (at - regions[place].start) as usize;
+    prove!(tag.value() < 16);
     tags[place][offset / 16] = tag;
 }

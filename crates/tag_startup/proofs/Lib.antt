@@ -1,1 +1,4 @@
-pub mod CodePlace
+mod Placed
+mod Held
+mod Started
+pub mod CodeInMemory

@@ -1,6 +1,7 @@
 //! The start-up: maps an image into the machine, from which it runs.
 #![tactic(auto)]
 
+mod parts;
 mod refusal;
 mod startup;
 

@@ -1,6 +1,6 @@
 // The commands `build` and `run`.
 
-use crate::tests::call::{bad_image, call, ended, files_of, holds, others_hold};
+use crate::tests::call::{bad_image, call, ended, files_of, holds, others_hold, ran, refused};
 use mt_pipeline::Why;
 use std::test::Fail;
 
@@ -40,21 +40,19 @@ fn what_was_built_exits_with_its_constant_modulo_256(rt: HostRuntime) -> Result<
 #[test]
 fn what_was_built_takes_two_steps_or_three(rt: HostRuntime) -> Result<(), Fail> {
     let alloc = rt.alloc();
-    let out_of_steps = (ended(86, Why::OutOfSteps), "", "mtcc: out of steps\n");
-    let exited = (ended(42, Why::Exited), "", "");
     let large = "int main(void){return 65578;}";
     let cases = [
-        (ANSWER, "0", out_of_steps),
-        (ANSWER, "1", out_of_steps),
-        (ANSWER, "2", exited),
-        (large, "2", out_of_steps),
-        (large, "3", exited),
+        (ANSWER, "0", 86),
+        (ANSWER, "1", 86),
+        (ANSWER, "2", 42),
+        (large, "2", 86),
+        (large, "3", 42),
     ];
-    for (text, steps, want) in cases {
+    for (text, steps, status) in cases {
         let mut files = files_of(alloc, &[("a.c", text)], &[])?;
         call(alloc, &["build", "a.c", "--out", "x"], &mut files, &[])?;
-        let ran = call(alloc, &["run", "x", "--steps", steps], &mut files, &[])?;
-        assert_eq!(rt; ran.answer(), want, "{text} for {steps}");
+        let called = call(alloc, &["run", "x", "--steps", steps], &mut files, &[])?;
+        assert_eq!(rt; called.answer(), ran(status), "{text} for {steps}");
     }
     Ok(())
 }
@@ -62,25 +60,16 @@ fn what_was_built_takes_two_steps_or_three(rt: HostRuntime) -> Result<(), Fail> 
 #[test]
 fn a_build_that_fails_leaves_all_files(rt: HostRuntime) -> Result<(), Fail> {
     let alloc = rt.alloc();
-    let refused = Why::Refused {
-        file: 0,
-        number: 44,
-        place: 0,
-    };
-    let refused = ended(65, refused);
-    let absent = ended(66, Why::NoFile { file: 0 });
-    let read_fault = ended(74, Why::ReadFault { file: 0 });
-    let write_fault = ended(73, Why::WriteFault { file: 0 });
     let none: &[u64] = &[];
-    let cases: [(&str, &str, &[u64], _, &str); 6] = [
-        ("b.c", "x", &[], refused, "mtcc: b.c: NotYet\n"),
-        ("c.c", "x", &[], absent, "mtcc: c.c: no such file\n"),
-        ("a.c", "x", &[0], read_fault, "mtcc: a.c: read fault\n"),
-        ("a.c", "x", &[1], write_fault, "mtcc: x: write fault\n"),
-        ("a.c", "a.c", &[1], write_fault, "mtcc: a.c: write fault\n"),
-        ("a.c", "", &[1], write_fault, "mtcc: : write fault\n"),
+    let cases: [(&str, &str, &[u64], u8, &str); 6] = [
+        ("b.c", "x", &[], 65, "mtcc: b.c: NotYet\n"),
+        ("c.c", "x", &[], 66, "mtcc: c.c: no such file\n"),
+        ("a.c", "x", &[0], 74, "mtcc: a.c: read fault\n"),
+        ("a.c", "x", &[1], 73, "mtcc: x: write fault\n"),
+        ("a.c", "a.c", &[1], 73, "mtcc: a.c: write fault\n"),
+        ("a.c", "", &[1], 73, "mtcc: : write fault\n"),
     ];
-    for (file, out, failing, want, line) in cases {
+    for (file, out, failing, status, line) in cases {
         for (failing_puts, line) in [(none, line), (&[0], "")] {
             let texts = [
                 ("a.c", ANSWER),
@@ -90,7 +79,8 @@ fn a_build_that_fails_leaves_all_files(rt: HostRuntime) -> Result<(), Fail> {
             let mut files = files_of(alloc, &texts, failing)?;
             let words = ["build", file, "--out", out];
             let built = call(alloc, &words, &mut files, failing_puts)?;
-            assert_eq!(rt; built.answer(), (want, "", line), "{words:?}");
+            let want = (refused(status), "", line);
+            assert_eq!(rt; built.answer(), want, "{words:?}");
             assert!(rt; others_hold(alloc, &mut files, &texts, "none"), "{words:?}");
         }
     }

@@ -39,6 +39,29 @@ pub(crate) fn bad_image() -> Ended {
     ended(68, why)
 }
 
+/// How the program ends with this status, where no program ran and the file that it names is its first.
+pub(crate) fn refused(status: u8) -> Ended {
+    let why = match status {
+        65 => Why::Refused {
+            file: 0,
+            number: 44,
+            place: 0,
+        },
+        66 => Why::NoFile { file: 0 },
+        73 => Why::WriteFault { file: 0 },
+        _ => Why::ReadFault { file: 0 },
+    };
+    ended(status, why)
+}
+
+/// What is answered to a run that ends with this status: 86 where it is out of steps, else its own.
+pub(crate) fn ran(status: u8) -> (Ended, &'static str, &'static str) {
+    match status {
+        86 => (ended(86, Why::OutOfSteps), "", "mtcc: out of steps\n"),
+        _ => (ended(status, Why::Exited), "", ""),
+    }
+}
+
 /// Files that hold these texts by their names. Reads and writes whose numbers are given fail.
 pub(crate) fn files_of(
     alloc: Global,

@@ -1,6 +1,6 @@
 // The command `go`, and words that are no command.
 
-use crate::tests::call::{call, ended, files_of, holds};
+use crate::tests::call::{call, ended, files_of, holds, ran, refused};
 use mt_pipeline::Why;
 use std::test::Fail;
 
@@ -30,25 +30,23 @@ fn a_program_exits_with_its_constant_modulo_256(rt: HostRuntime) -> Result<(), F
 #[test]
 fn a_program_takes_two_steps_or_three(rt: HostRuntime) -> Result<(), Fail> {
     let alloc = rt.alloc();
-    let out_of_steps = (ended(86, Why::OutOfSteps), "", "mtcc: out of steps\n");
-    let exited = (ended(42, Why::Exited), "", "");
     let small = "int main(void){return 42;}";
     let large = "int main(void){return 65578;}";
     let cases = [
-        (small, "0", out_of_steps),
-        (small, "1", out_of_steps),
-        (small, "2", exited),
-        (small, "3", exited),
-        (small, "00000000000000000002", exited),
-        (small, "18446744073709551615", exited),
-        (large, "0", out_of_steps),
-        (large, "2", out_of_steps),
-        (large, "3", exited),
+        (small, "0", 86),
+        (small, "1", 86),
+        (small, "2", 42),
+        (small, "3", 42),
+        (small, "00000000000000000002", 42),
+        (small, "18446744073709551615", 42),
+        (large, "0", 86),
+        (large, "2", 86),
+        (large, "3", 42),
     ];
-    for (text, steps, want) in cases {
+    for (text, steps, status) in cases {
         let mut files = files_of(alloc, &[("a.c", text)], &[])?;
         let called = call(alloc, &["go", "a.c", "--steps", steps], &mut files, &[])?;
-        assert_eq!(rt; called.answer(), want, "{text} for {steps}");
+        assert_eq!(rt; called.answer(), ran(status), "{text} for {steps}");
     }
     Ok(())
 }
@@ -56,11 +54,6 @@ fn a_program_takes_two_steps_or_three(rt: HostRuntime) -> Result<(), Fail> {
 #[test]
 fn other_texts_are_refused_in_a_line_without_a_byte(rt: HostRuntime) -> Result<(), Fail> {
     let alloc = rt.alloc();
-    let refused = Why::Refused {
-        file: 0,
-        number: 44,
-        place: 0,
-    };
     let texts = [
         "",
         "int main(void){return 2147483648;}",
@@ -75,7 +68,7 @@ fn other_texts_are_refused_in_a_line_without_a_byte(rt: HostRuntime) -> Result<(
     for text in texts {
         let mut files = files_of(alloc, &[("a.c", text)], &[])?;
         let called = call(alloc, &["go", "a.c"], &mut files, &[])?;
-        let want = (ended(65, refused), "", "mtcc: a.c: NotYet\n");
+        let want = (refused(65), "", "mtcc: a.c: NotYet\n");
         assert_eq!(rt; called.answer(), want, "{text}");
     }
     Ok(())
@@ -86,22 +79,20 @@ fn a_file_that_is_absent_or_not_read_is_named_unless_the_error_sink_fails(
     rt: HostRuntime,
 ) -> Result<(), Fail> {
     let alloc = rt.alloc();
-    let absent = ended(66, Why::NoFile { file: 0 });
-    let fault = ended(74, Why::ReadFault { file: 0 });
     let none: &[u64] = &[];
     let first: &[u64] = &[0];
     let cases = [
-        ("a.c", none, absent, "mtcc: a.c: no such file\n"),
-        ("", none, absent, "mtcc: : no such file\n"),
-        ("a.c", first, fault, "mtcc: a.c: read fault\n"),
-        ("b.c", first, fault, "mtcc: b.c: read fault\n"),
+        ("a.c", none, 66, "mtcc: a.c: no such file\n"),
+        ("", none, 66, "mtcc: : no such file\n"),
+        ("a.c", first, 74, "mtcc: a.c: read fault\n"),
+        ("b.c", first, 74, "mtcc: b.c: read fault\n"),
     ];
-    for (name, failing, want, line) in cases {
+    for (name, failing, status, line) in cases {
         for (failing_puts, line) in [(none, line), (first, "")] {
             let texts = [("b.c", "int main(void){return 42;}")];
             let mut files = files_of(alloc, &texts, failing)?;
             let called = call(alloc, &["go", name], &mut files, failing_puts)?;
-            assert_eq!(rt; called.answer(), (want, "", line), "{name}");
+            assert_eq!(rt; called.answer(), (refused(status), "", line), "{name}");
         }
     }
     Ok(())

@@ -22,7 +22,8 @@ pub returns-in_err-row-clause-instruction : goal.returns-in_err-row-clause-instr
 returns-in_err-row-clause-instruction c = no_row c ∙ sym (instruction_of-word c.args.word c.ranges.word.fits)
 
 a_row : (c : goal.After-reading) → Some c.reading.result ≡ decoded c.args.word
-a_row c = decoded-found c.args.word c.in_ok-row.row.now c.reading.result (sym c.row_of.ensures ∙ ap option_copied c.in_ok-row.was) c.reading.ensures
+a_row c = decoded-found c.args.word c.in_ok-row.row.now c.reading.result (sym c.row_of.ensures ∙ ap option_copied c.in_ok-row.was)
+    (record { form_is = c.reading.ensures.form; fields_are = c.reading.ensures.fields })
 
 pub returns-clause-row : goal.returns-clause-row
 returns-clause-row c = decode-row _ _ c.ranges.word.fits (a_row c)

@@ -2,7 +2,7 @@ use Rattle.std.proofs.Common.{◌≡◌, ◌==◌, ◌-◌, ◌∙◌, drop, tak
 use Rattle.std.proofs.Math.Seq.{take-length}
 use Rattle.std.proofs.lemmas.List.{length-drop}
 use Rattle.std.specs.List.{find}
-use Rattle.a64_code.specs.declared.table.TheConstants.{ROWS}
+use Rattle.a64_code.specs.declared.rows.TheConstants.{ROWS}
 use Rattle.a64_code.proofs.find.first_from.Goals as goal
 
 -- To the end of the table is all that is left of it.

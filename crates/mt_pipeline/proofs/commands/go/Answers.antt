@@ -1,14 +1,15 @@
-use Rattle.std.proofs.Common.{◌≡◌, ◌∙◌, Err, ap, refl, sym, subst}
-use Rattle.elf_image.specs.Constant.{constant_image}
+use Rattle.std.proofs.Common.{Err, ap, refl, sym, subst}
 use Rattle.elf_image.specs.ConstantLaws.{constant_valid}
-use Rattle.elf_image.specs.Image.{Image}
+use Rattle.elf_image.specs.Image.{Image, image_of}
 use Rattle.elf_image.specs.Places.{IsValid}
-use Rattle.mte_machine.specs.Run.{run, end_of}
+use Rattle.mte_machine.specs.Answers.{RunAnswers as MachineAnswers}
+use Rattle.mte_machine.specs.Objects.{objects}
 use Rattle.tag_startup.specs.Loaded.{loaded}
 use Rattle.mt_pipeline.specs.Defaults.{default_choices, default_stack}
 use Rattle.mt_pipeline.specs.Seen.{seen}
 use Rattle.mt_pipeline.specs.Status.{ended_by}
 use Rattle.mt_pipeline.proofs.Causes.{go_answers, go_ran, same_files}
+use Rattle.mt_pipeline.proofs.ConstantRun.{constant_quiet}
 use Rattle.mt_pipeline.proofs.commands.go.Goals as goal
 
 pub run_parts-requires-clause-valid : goal.run_parts-requires-clause-valid
@@ -26,11 +27,15 @@ returns-in-Err-NotYet g c =
 pub returns-in-Ok-run_parts : goal.returns-in-Ok-run_parts
 returns-in-Ok-run_parts g c =
     let parts = c.in-Ok-parts_of.ensures.parts in
-    let ran : c.in-Ok-run_parts.end ≡ end_of (run c.args.steps (loaded (constant_image parts.0) default_choices default_stack)) =
-    c.in-Ok-run_parts.ensures.runs ∙ ap (λ i. end_of (run c.args.steps (loaded i default_choices default_stack))) parts.2 in
+    let runs = c.in-Ok-run_parts.ensures.runs in
+    let around = objects g.S.Source g.K.Sink c.args.input.now c.args.out.now in
+    let left = objects g.S.Source g.K.Sink c.run_parts.new.source c.run_parts.new.sink in
+    let answers = subst (λ choices. MachineAnswers c.args.steps (loaded (image_of c.in-Ok-parts_of.parts) choices default_stack) runs.0 around left c.in-Ok-run_parts.end) c.default_choices.ensures runs.1 in
+    let quiet = constant_quiet parts.0 c.args.steps default_choices default_stack runs.0 around left c.in-Ok-run_parts.end parts.1.in_range
+    (subst (λ i. MachineAnswers c.args.steps (loaded i default_choices default_stack) runs.0 around left c.in-Ok-run_parts.end) parts.2 answers) in
     let before = seen g.F.Files.told g.F.Files.read_faults g.F.Files.write_faults c.args.files.now c.args.input.now c.args.out.now in
     let after = seen g.F.Files.told g.F.Files.read_faults g.F.Files.write_faults c.read_file.new.files c.run_parts.new.source c.run_parts.new.sink in
     go_answers c.args.file.now c.args.steps before after (ended_by c.in-Ok-run_parts.end)
-    (go_ran c.args.file.now c.args.steps before after parts.0 c.in-Ok-run_parts.end parts.1.in_range (c.in-Ok.bytes.items, c.in-Ok.ensures.bytes, parts.1) ran)
-    (record { takes_nothing = c.run_parts.ensures.input; puts_nothing = c.run_parts.ensures.output })
+    (go_ran c.args.file.now c.args.steps before after parts.0 c.in-Ok-run_parts.end parts.1.in_range (c.in-Ok.bytes.items, c.in-Ok.ensures.bytes, parts.1) quiet.ends)
+    (record { takes_nothing = quiet.source; puts_nothing = quiet.sink })
     (same_files _ _ c.read_file.ensures.kept)

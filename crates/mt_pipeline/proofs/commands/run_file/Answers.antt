@@ -1,6 +1,9 @@
 use Rattle.std.proofs.Common.{◌≡◌, ◌∙◌, ap, refl, sym, subst}
 use Rattle.elf_image.specs.Constant.{IsConstantFile}
 use Rattle.elf_image.specs.Image.{Image}
+use Rattle.mte_machine.specs.Run.{run, end_of}
+use Rattle.tag_startup.specs.Loaded.{loaded}
+use Rattle.mt_pipeline.specs.Defaults.{default_stack}
 use Rattle.mt_pipeline.specs.Seen.{seen}
 use Rattle.mt_pipeline.specs.Status.{ended_by}
 use Rattle.mt_pipeline.specs.declared.refusal.RunRefusal.TheVariants.{Image as RefusesImage, Start as RefusesStart, NoMemory}
@@ -21,11 +24,14 @@ returns-in-Ok-run_image g c =
     let image = c.in-Ok-run_image.ensures.image.0 in
     let constant : IsConstantFile image read = subst (λ b. IsConstantFile image b) c.deref.ensures.value c.in-Ok-run_image.ensures.image.1 in
     run_answers_ran c.args.file.now read c.args.steps before after (ended_by c.in-Ok-run_image.end)
-    (run_ran c.args.file.now read c.args.steps before after c.in-Ok-run_image.end image c.in-Ok.ensures.bytes constant (c.in-Ok-run_image.ensures.runs image c.in-Ok-run_image.ensures.image.1))
+    (run_ran c.args.file.now read c.args.steps before after c.in-Ok-run_image.end image c.in-Ok.ensures.bytes constant
+    (λ outside. c.in-Ok-run_image.ensures.runs image c.in-Ok-run_image.ensures.image.1 outside ∙ ap (λ choices. end_of (run c.args.steps (loaded image choices default_stack outside))) c.default_choices.ensures))
     (record { takes_nothing = c.run_image.ensures.input; puts_nothing = c.run_image.ensures.output })
     (same_files _ _ c.read_file.ensures.kept)
     c.in-Ok.ensures.bytes
-    (λ other is. ap ended_by (c.in-Ok-run_image.ensures.runs other (subst (λ b. IsConstantFile other b) (sym c.deref.ensures.value) is)))
+    (λ other is outside. ap ended_by
+    (c.in-Ok-run_image.ensures.runs other (subst (λ b. IsConstantFile other b) (sym c.deref.ensures.value) is) outside
+    ∙ ap (λ choices. end_of (run c.args.steps (loaded other choices default_stack outside))) c.default_choices.ensures))
 
 -- the bytes are no image
 pub returns-in-Err-Image : goal.returns-in-Err-Image

@@ -25,4 +25,5 @@ returns-clause-tags c =
     let within = between_parts r.start (length r.bytes.items) c.args.at holder.holds in
     tag_in-put (extents_of c.args.regions.now) c.args.tags.now c.in-Some.place (extent_of r) t _ c.args.at c.args.tag c.requires.apart holder.whole own.tagged holder.holds
     (omega (arith, own.size, within.from, within.below))
+    (omega (arith, c.value.ensures.value, c.value.ensures.in_range))
     (ap₂ (λ (v : Vec ℕ) (x : Region). set v.items ((c.args.at - x.start) / 16) c.args.tag) (sym c.index-tags-place.is) (sym c.index-regions-place.is))

@@ -1,4 +1,4 @@
-use Rattle.std.proofs.Common.{◌∙◌, ◌-◌, ◌/◌, sym, ap, arith, get_or, length}
+use Rattle.std.proofs.Common.{◌∙◌, ◌-◌, ◌/◌, ◌%◌, ◌<◌, mod-eq_of_lt, sym, ap, arith, get_or, length}
 use Rattle.mt_base.specs.Granules.{granule_of}
 use Rattle.mt_base.specs.Memory.{is_mapped}
 use Rattle.tag_mem.specs.declared.region.Region.{Region}
@@ -10,8 +10,8 @@ use Rattle.tag_mem.proofs.TagLists.{has_tags, tag_in_there, granule_within, gran
 use Rattle.tag_mem.proofs.tags.tag_at.Goals as goal
 
 -- the region has a tag for the granule
-pub index-requires : goal.index-requires
-index-requires c =
+pub index-tag-requires : goal.index-tag-requires
+index-tag-requires c =
     let r = c.index-regions-place.result in
     let t = c.index-tags-place.result in
     let holder = holder_of c.args.regions.now c.in_ok-place.place c.args.at r c.requires.whole c.in_ok-place.ensures.found c.index-regions-place.is in
@@ -29,9 +29,11 @@ returns c =
     record {
       there = some_iff (is_mapped (extents_of c.args.regions.now) c.args.at) (mapped_at_region c.args.regions.now c.in_ok-place.place r c.args.at holder.here holder.holds);
       value =
-          c.index.ensures
-          ∙ ap (λ (x : Region). get_or t.items ((c.args.at - x.start) / 16) c.index.result.now) (sym c.index-regions-place.is)
-          ∙ get_or_any t.items ((c.args.at - r.start) / 16) c.index.result.now 0 (omega (arith, own.size, within.from, within.below))
-          ∙ ap (λ n. get_or t.items n 0) (sym (granule_place (extent_of r) c.args.at holder.whole holder.holds))
+          sym (mod-eq_of_lt (let small : c.index-tag.result.now < 16 = omega (arith, c.value.ensures.value, c.value.ensures.in_range) in small))
+          ∙ ap (λ n. n % 16)
+          (c.index-tag.ensures
+          ∙ ap (λ (x : Region). get_or t.items ((c.args.at - x.start) / 16) c.index-tag.result.now) (sym c.index-regions-place.is)
+          ∙ get_or_any t.items ((c.args.at - r.start) / 16) c.index-tag.result.now 0 (omega (arith, own.size, within.from, within.below))
+          ∙ ap (λ n. get_or t.items n 0) (sym (granule_place (extent_of r) c.args.at holder.whole holder.holds)))
           ∙ sym (tag_in_there (extents_of c.args.regions.now) c.args.tags.now c.in_ok-place.place (extent_of r) t (granule_of c.args.at) c.requires.apart own.tagged (granule_within (extent_of r) c.args.at holder.whole holder.holds));
     }

@@ -1,14 +1,12 @@
-use Rattle.std.proofs.Common.{◌≡◌, arith, refl, ◌∙◌}
+use Rattle.std.proofs.Common.{◌∙◌, ap, length, refl}
+use Rattle.std.proofs.Math.Nat.{zero-mod}
 use Rattle.elf_image.specs.Image.{image_of}
-use Rattle.tag_startup.proofs.CodePlace.{code_place-alone}
+use Rattle.tag_startup.specs.Loaded.{loaded}
+use Rattle.tag_startup.proofs.Started.{started}
 use Rattle.tag_startup.proofs.startup.start.Goals as goal
 
-pub overflow_add-code_place : goal.overflow_add-code_place
-overflow_add-code_place c =
-    let place : c.code_place.result ≡ 4096 = c.code_place.ensures ∙ code_place-alone (image_of c.args.image.now) (c.if-not-holds_code_alone.ensures.0 refl) in
-    omega (arith, place)
-
-pub new-requires : goal.new-requires
-new-requires c =
-    let place : c.code_place.result ≡ 4096 = c.code_place.ensures ∙ code_place-alone (image_of c.args.image.now) (c.if-not-holds_code_alone.ensures.0 refl) in
-    omega (arith, place)
+pub returns-clause-loaded : goal.returns-clause-loaded
+returns-clause-loaded c w =
+    c.new.ensures.state w
+    ∙ started _ c.in_ok-memory.memory (image_of c.args.image.now) c.in_ok-choices.choices.items c.args.stack _ w c.in_ok-memory.ensures refl (zero-mod (length c.in_ok-choices.choices.items))
+    ∙ ap (λ choices. loaded (image_of c.args.image.now) choices c.args.stack w) c.in_ok-choices.ensures.items

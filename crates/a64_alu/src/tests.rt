@@ -1,0 +1,3 @@
+mod arithmetic;
+mod bitfields;
+mod flags;

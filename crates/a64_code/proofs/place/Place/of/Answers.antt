@@ -1,6 +1,0 @@
-use Rattle.std.proofs.Common.{arith, ◌<◌}
-use Rattle.std.proofs.lemmas.Nat.{one_shl, and_mask}
-use Rattle.a64_code.proofs.place.Place.of.Goals as goal
-
-pub returns : goal.returns
-returns c = let narrow : c.args.self.width < 32 = omega arith in rw (one_shl c.args.self.width 32 narrow) (and_mask _ _)

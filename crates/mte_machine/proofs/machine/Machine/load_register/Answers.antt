@@ -1,0 +1,26 @@
+use Rattle.std.proofs.Common.{false}
+use Rattle.mt_base.specs.Memory.{load}
+use Rattle.mt_base.specs.Pointers.{address_of}
+use Rattle.a64_code.specs.Access.{single, access_end}
+use Rattle.a64_code.specs.State.{with_general, advanced}
+use Rattle.mte_machine.specs.Machine.{state_of}
+use Rattle.mte_machine.proofs.Performed.{loaded, not_loaded}
+use Rattle.mte_machine.proofs.machine.Machine.load_register.Goals as goal
+
+pub returns-in-Ok : goal.returns-in-Ok
+returns-in-Ok g c = λ w.
+    let old = state_of g.M.TagMemory c.args.self.now w in
+    let pointer = c.behind-pointer.result in
+    let bytes = c.from.result in
+    rw (← c.behind-pointer.ensures w, ← c.is_checked.ensures, ← c.from.ensures)
+    (loaded (access_end old (single bytes pointer false c.is_checked.result)) (load bytes old.byte (address_of pointer)) c.in-Ok.number
+    (λ value. advanced (with_general c.args.rt value old)) old _ _ (c.in-Ok.ensures old) (c.put.ensures w))
+
+pub returns-in-Err : goal.returns-in-Err
+returns-in-Err g c = λ w.
+    let old = state_of g.M.TagMemory c.args.self.now w in
+    let pointer = c.behind-pointer.result in
+    let bytes = c.from.result in
+    rw (← c.behind-pointer.ensures w, ← c.is_checked.ensures, ← c.from.ensures)
+    (not_loaded (access_end old (single bytes pointer false c.is_checked.result)) (load bytes old.byte (address_of pointer)) c.in-Err.end
+    _ old (c.in-Err.ensures old))

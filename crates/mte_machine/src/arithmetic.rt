@@ -1,0 +1,47 @@
+// What instructions compute that the crate of arithmetic does not have as one function.
+ghost use Rattle.std.specs.Prelude.{◌≡◌, false};
+ghost use Rattle.a64_alu.specs.Width.{width, of_width};
+ghost use Rattle.a64_code.specs.Outside.{Outside};
+ghost use Rattle.a64_code.specs.State.{State};
+ghost use Rattle.a64_code.specs.Results.{puts, with_flags, number, chosen_or_next};
+ghost use Rattle.a64_alu.specs.Adding.{subtract_with_flags};
+ghost use Rattle.mte_machine.specs.Machine.{state_of};
+ghost use Rattle.mte_machine.specs.Run.{StepsAs};
+
+use crate::machine::Machine;
+use crate::step::Step;
+use a64_alu::{add, of_width, subtract_with_flags};
+use a64_code::Reg;
+use tag_mem::TagMemory;
+
+impl<M: TagMemory> Machine<M> {
+    // The number of a general register that an instruction reads: all of it, or the lower 32 bits.
+    pub(crate) fn number(&self, wide: bool, register: Reg) -> u64
+        ensures { (w : Outside) → result ≡ number false wide (state_of M.TagMemory self.now w) register }
+    {
+        of_width(wide, self.general(register))
+    }
+
+    // Puts a difference into a general register, sets the flags by it, and goes on.
+    pub(crate) fn put_difference(&mut self, wide: bool, register: Reg, x: u64, y: u64) -> Step
+        ensures { (w : Outside) → StepsAs
+            (puts false wide register (subtract_with_flags (width wide) (of_width wide x) (of_width wide y)).0
+            (with_flags (subtract_with_flags (width wide) (of_width wide x) (of_width wide y)).1 (state_of M.TagMemory self.old w)))
+            (state_of M.TagMemory self.old w) result (state_of M.TagMemory self.new w) }
+    {
+        let (difference, flags) = subtract_with_flags(wide, x, y);
+        self.flags = flags;
+        self.put(wide, register, difference)
+    }
+}
+
+// One number where a condition holds, else the successor of the other.
+pub(crate) fn chosen_or_next(holds: bool, wide: bool, x: u64, y: u64) -> u64
+    ensures { result ≡ chosen_or_next holds (width wide) (of_width wide x) (of_width wide y) }
+{
+    if holds {
+        of_width(wide, x)
+    } else {
+        add(wide, y, 1)
+    }
+}

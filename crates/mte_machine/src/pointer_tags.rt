@@ -1,0 +1,61 @@
+// Instructions that compute the tag of a pointer.
+ghost use Rattle.std.specs.Prelude.{◌≡◌, ◌≤◌, ℕ};
+ghost use Rattle.mt_base.specs.Tags.{next_tag, zero_excluded};
+ghost use Rattle.mt_base.specs.Pointers.{tag_of, with_tag};
+ghost use Rattle.a64_code.specs.Outside.{Outside};
+ghost use Rattle.a64_code.specs.State.{general_or_sp, with_general_or_sp, advanced};
+ghost use Rattle.a64_code.specs.Stepped.{Leads};
+ghost use Rattle.a64_code.specs.Effect.{effect};
+ghost use Rattle.a64_code.specs.declared.instr.Instr.TheVariants.{Irg};
+ghost use Rattle.a64_code.specs.TagInstructions.{next_choice, with_choice_drawn};
+ghost use Rattle.mte_machine.specs.Machine.{state_of};
+ghost use Rattle.mte_machine.specs.Run.{StepsAs};
+
+use crate::machine::Machine;
+use crate::step::Step;
+use a64_code::Reg;
+use mt_base::{Exclude, Tag, next_tag, tag_of, with_tag};
+use tag_mem::TagMemory;
+
+/// The mask that excludes the tag 0, which belongs to untagged memory.
+const ZERO: u16 = 1;
+
+impl<M: TagMemory> Machine<M> {
+    // Puts an address into a register with the tag at an offset from the tag of a pointer, and goes on: ADDG and SUBG.
+    pub(crate) fn put_with_next_tag(
+        &mut self,
+        register: Reg,
+        address: u64,
+        pointer: u64,
+        offset: u8,
+    ) -> Step
+        requires { offset ≤ 15 }
+        ensures { (w : Outside) → StepsAs
+            (Leads (advanced (with_general_or_sp register (with_tag address (next_tag (tag_of pointer) offset zero_excluded)) (state_of M.TagMemory self.old w))))
+            (state_of M.TagMemory self.old w) result (state_of M.TagMemory self.new w) }
+    {
+        let tag = next_tag(tag_of(pointer), offset, Exclude(ZERO));
+        self.set_general_or_sp(register, with_tag(address, tag));
+        self.advance()
+    }
+
+    // IRG: Rn with a random tag that is not excluded.
+    pub(crate) fn insert_random_tag(&mut self, rm: Reg, rn: Reg, rd: Reg) -> Step
+        ensures { (w : Outside) → StepsAs (effect (Irg rm rn rd) (state_of M.TagMemory self.old w)) (state_of M.TagMemory self.old w) result (state_of M.TagMemory self.new w) }
+    {
+        let excluded = (self.general(rm) % 65536) as u16 | ZERO;
+        let tag = next_tag(self.draw(), 0, Exclude(excluded));
+        self.set_general_or_sp(rd, with_tag(self.general_or_sp(rn), tag));
+        self.advance()
+    }
+
+    // Draws the next choice, round their list.
+    fn draw(&mut self) -> Tag
+        ensures choice { (w : Outside) → result ≡ next_choice (state_of M.TagMemory self.old w) }
+        ensures state { (w : Outside) → state_of M.TagMemory self.new w ≡ with_choice_drawn (state_of M.TagMemory self.old w) }
+    {
+        let choice = self.choices[self.drawn];
+        self.drawn = (self.drawn + 1) % self.choices.len();
+        choice
+    }
+}
