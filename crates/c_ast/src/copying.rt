@@ -3,7 +3,6 @@
 ghost use Rattle.std.specs.Prelude.{◌≡◌, IfOk};
 
 use crate::copying::declaration::{copy_decls, copy_struct};
-use crate::copying::expr::copy_type;
 use crate::copying::statement::copy_stmt;
 use crate::program::{External, Function, Program};
 use sqlite_items::Items;
@@ -12,6 +11,8 @@ use std::alloc::{AllocError, Global};
 mod declaration;
 mod expr;
 mod statement;
+
+pub use expr::copy_type;
 
 /// An equal program in memory of its own. The error is want of memory.
 pub fn copy(alloc: Global, program: &Program) -> Result<Program, AllocError>

@@ -16,7 +16,7 @@ mod table;
 mod tests;
 mod token;
 
-pub use copying::copy;
+pub use copying::{copy, copy_type};
 pub use declaration::{Decl, Init, Storage, StructDecl};
 pub use expr::{CType, Expr, Node};
 pub use int_type::IntType;

@@ -1,5 +1,5 @@
 -- Choices and assignments are read.
-use Rattle.std.specs.Prelude.{◌≡◌, ℕ, zero, suc, ◌-◌, ◌<◌, ◌≤◌, ◌==◌, max, Bool, true, false, ◌||◌, if◌then◌else◌, List, [], ◌∷◌, ◌++◌, Option, Some, None, is_some, refl}
+use Rattle.std.specs.Prelude.{◌≡◌, ℕ, suc, ◌-◌, ◌<◌, ◌==◌, max, Bool, true, false, List, [], ◌∷◌, ◌++◌, Option, Some, None, is_some, refl}
 use Rattle.std.proofs.Common.{sym, ◌∙◌, ap, subst, arith}
 use Rattle.c_ast.specs.declared.token.Span.{Span}
 use Rattle.c_ast.specs.declared.token.Token.{Token}
@@ -13,25 +13,26 @@ use Rattle.c_ast.specs.declared.operator.AssignOperator.{AssignOperator}
 use Rattle.c_ast.specs.declared.operator.AssignOperator.TheVariants as assign
 use Rattle.c_ast.specs.declared.punctuator.Punctuator.TheVariants as mark
 use Rattle.c_grammar.specs.Words.{word_of, punctuator, span_of}
-use Rattle.c_grammar.specs.Operators.{AssignWord, assign_mark}
-use Rattle.c_reader.specs.Answer.{Parser, thens, word}
+use Rattle.c_grammar.specs.Operators.{assign_mark}
+use Rattle.c_grammar.specs.Expressions as spells
+use Rattle.c_grammar.specs.Expressions.{Primary, Postfix, Unary, Binary, Conditional, Expression}
+use Rattle.c_reader.specs.Answer.{thens}
 use Rattle.c_reader.specs.Good.{Language, Begins, StartsIn, Good}
 use Rattle.c_reader.specs.Languages.{Word, word_of as one_word_of, Then, join, Perhaps, alone, followed}
-use Rattle.c_reader.specs.Laws.{Always, nothing, picks, Has, word_good, thens_good, Made, makes_good}
+use Rattle.c_reader.specs.Laws.{word_good, thens_good, Made, makes_good}
 use Rattle.c_reader.specs.Lists.{starts_append}
 use Rattle.c_reader.specs.OptionalLaws.{MayFollow, optional_good}
 use Rattle.c_reader.specs.SpanLaws.{span_join, join_spans}
 use Rattle.c_reader.specs.Words.{is, punct, place_of}
-use Rattle.c_reader.specs.WordGood.{token_of, Spot, spot, good_as, good_on, punct_good, punct_begins, spot_begins}
+use Rattle.c_reader.specs.WordGood.{token_of, Spot, spot, good_as, punct_good, punct_begins, spot_begins}
 use Rattle.c_expressions.specs.declared.measured.Measured.{Measured}
 use Rattle.c_expressions.specs.Nodes.{choice_of, assign_of, assignable}
 use Rattle.c_expressions.specs.Operators.{operator_word}
-use Rattle.c_expressions.specs.WordLists.{one_word, among, is_at, both_false}
+use Rattle.c_reader.specs.WordLists.{one_word, among, both_false}
+use Rattle.c_reader.specs.Depths.{below_is, is_below}
 use Rattle.c_expressions.specs.Expressions.{Expressions, has_room, tier, chosen, conditional, assigned, assignment, assign_word, has_word}
-use Rattle.c_expressions.specs.Levels.{Low, BinaryWords, UnaryWords, ConditionalWord, ExpressionWord, begins, goes_on, conditional_on, conditional_word, expression_on, operand_words, assign_words, GoodExpressions, measured, below_is, is_below, closes, closes_all, reach, starts_unary, starts_binary, starts_conditional, starts_expression, unary_span, binary_span, conditional_span, expression_span, expression_begins, conditional_begins, example, example_token, example_conditional, example_expression}
+use Rattle.c_expressions.specs.Levels.{Low, BinaryWords, UnaryWords, ConditionalWord, ExpressionWord, begins, goes_on, conditional_on, conditional_word, expression_on, assign_words, GoodExpressions, measured, closes, closes_all, reach, unary_tier, starts_unary, starts_binary, starts_conditional, starts_expression, unary_span, binary_span, conditional_span, expression_span, expression_begins, conditional_begins, example, example_token, example_conditional, example_expression}
 use Rattle.c_expressions.specs.UnaryLaws.{chosen as one_chosen, chosen_is}
-use Rattle.c_expressions.specs.Sums as spells
-use Rattle.c_expressions.specs.Sums.{Primary, Postfix, Unary, Binary, Conditional, Expression}
 
 -- ---- choices
 
@@ -190,6 +191,7 @@ pub record Allowed (a b : Measured) (u : List Token) : Type 0 where
 unary_of_binary : (n h : ℕ) (e : Expr) (w : List Token) → Binary n h e w → assignable (measured e h) ≡ true → Unary h e w
 unfolding given_trees
 unary_of_binary n h e w (spells.operand (spells.unary m)) may = m
+unary_of_binary n h e w (spells.operand (spells.cast l r isl m isr c)) may = cc
 unary_of_binary n h e w (spells.tighter {n = k} b) may = unary_of_binary k h e w b may
 unary_of_binary n h e w (spells.operation t a is b) may = cc
 
@@ -220,11 +222,8 @@ unfolding given_trees
 unary_assignable h e w (spells.postfix p) = postfix_assignable h e w p
 unary_assignable h e w (spells.step_before t is m) = refl
 unary_assignable h e w (spells.operated t is m) = refl
-
--- an operand is an expression of each tier
-operand_of : (n h : ℕ) (e : Expr) (w : List Token) → Unary h e w → Binary n h e w
-operand_of zero h e w m = spells.operand (spells.unary m)
-operand_of (suc n) h e w m = spells.tighter (operand_of n h e w m)
+unary_assignable h e w (spells.sizeof_expr t is m) = refl
+unary_assignable h e w (spells.sizeof_name t l r is isl m isr) = refl
 
 assign_span : (a b : Measured) (u v : List Token) (t : Token) → UnaryWords a u → ExpressionWord b v → span_of (u ++ t ∷ v) ≡ join_spans a.tree.span b.tree.span
 assign_span a b u v t l m =
@@ -243,7 +242,7 @@ expression_into v w (followed {a = a} {w = x} {u = u} l m) =
 
 expression_out : (h : ℕ) (e : Expr) (w : List Token) → Expression h e w → Perhaps ConditionalWord Allowed (measured e h) w
 expression_out h e w (spells.conditional c) = alone c
-expression_out h e w (spells.assignment {h = i} {k = k} {o = o} {a = a} {b = b} {u = u} {v = v} t l is m) = followed (spells.binary (operand_of 10 i a u l)) (record {
+expression_out h e w (spells.assignment {h = i} {k = k} {o = o} {a = a} {b = b} {u = u} {v = v} t l is m) = followed (spells.binary (unary_tier 10 i a u l)) (record {
   may = unary_assignable i a u l;
   part = record {
     source = (o, measured b k);

@@ -1,12 +1,9 @@
 -- What the code of the parser needs of the parser.
-use Rattle.std.specs.Prelude.{◌≡◌, ℕ, zero, suc, ◌-◌, ◌<◌, ◌≤◌, Bool, true, false, nat_lt, List, Option, Some, None, is_some, length, refl}
+use Rattle.std.specs.Prelude.{◌≡◌, ℕ, zero, suc, ◌-◌, ◌<◌, ◌≤◌, Bool, true, false, List, Option, Some, None, is_some, length, refl}
 use Rattle.std.proofs.Common.{◌∙◌, ap, subst, arith}
-use Rattle.std.proofs.lemmas.Bool.Decides.{nat_tests}
 use Rattle.c_ast.specs.declared.token.Token.{Token}
 use Rattle.c_ast.specs.declared.operator.BinaryOperator.{BinaryOperator}
-use Rattle.c_ast.specs.declared.operator.UnaryOperator.{UnaryOperator}
 use Rattle.c_ast.specs.declared.operator.AssignOperator.{AssignOperator}
-use Rattle.c_ast.specs.declared.operator.Step.{Step}
 use Rattle.c_reader.specs.OptionalLaws.{follows_stop, follows_wrong, follows_deep, follows_part}
 use Rattle.c_reader.specs.declared.fault.Fault.TheVariants.{Unexpected, TooDeep}
 use Rattle.c_ast.specs.declared.token.Span.{Span}
@@ -15,22 +12,24 @@ use Rattle.c_grammar.specs.Words.{word_of, punctuator}
 use Rattle.c_reader.specs.Words.{punct, any, is}
 use Rattle.c_reader.specs.WordLaws.{punct_seen}
 use Rattle.c_expressions.specs.WordCode.{next_word, sees_word, paired, marked_is, marked_makes}
-use Rattle.c_expressions.specs.Nodes.{choice_of, assign_of, assignable, step_of, unary_of, paren_of, more_arguments, one_argument, no_arguments, applied, binary_of}
+use Rattle.c_expressions.specs.Nodes.{choice_of, assign_of, assignable, more_arguments, one_argument, no_arguments, applied, binary_of}
 use Rattle.c_reader.specs.Answer.{follows, Parser, Read, Stuck, and_then, repeats, turns, sees, makes, thens, either, word}
 use Rattle.c_reader.specs.Good.{Good}
 use Rattle.c_reader.specs.ChainLaws.{MayTurn}
 use Rattle.c_reader.specs.LoopLaws.{takes_some, turns_stop, turns_deep, turns_turn, turns_read}
-use Rattle.c_reader.specs.Reading.{rest_of, either_one, either_deep, either_other}
+use Rattle.c_reader.specs.Reading.{rest_of, either_one, either_other}
 use Rattle.c_reader.specs.WordLaws.{value_passed, next_value, sees_value}
+use Rattle.c_reader.specs.Depths.{is_below, not_below}
 use Rattle.c_expressions.specs.declared.measured.Measured.{Measured}
 use Rattle.c_expressions.specs.Operators.{pick_binary}
 use Rattle.c_expressions.specs.declared.suffix.Arguments.{Arguments}
 use Rattle.c_expressions.specs.declared.suffix.Suffix.{Suffix}
 use Rattle.c_expressions.specs.declared.suffix.Suffix.TheVariants as suffix
-use Rattle.c_expressions.specs.Expressions.{chosen, conditional, assigned, assignment, assign_word, step_word, unary_word, pick_placed, has_word, stepped, operated, unary, Reader, under, at, plain, has_room, primary, further, arguments, called, indexed, behind, apply, postfix, begins_suffix, sees_suffix, short_suffix, tier, operation, opened}
-use Rattle.c_expressions.specs.Levels.{Low, goes_on, expression_on, is_below, example}
+use Rattle.c_expressions.specs.Expressions.{chosen, conditional, assigned, assignment, assign_word, has_word, operand, Reader, under, at, has_room, further, arguments, called, indexed, behind, apply, begins_suffix, sees_suffix, short_suffix, tier, operation}
+use Rattle.c_expressions.specs.Levels.{Low, goes_on, expression_on, example}
 use Rattle.c_expressions.specs.PrimaryLaws.{text_behind}
-use Rattle.c_expressions.specs.SuffixLaws.{Applied, Further, LowArguments, apply_good, further_good}
+use Rattle.c_expressions.specs.SuffixLaws.{Applied, apply_good, further_good}
+use Rattle.c_expressions.specs.ArgumentLaws.{Further, LowArguments}
 use Rattle.c_expressions.specs.ExpressionLaws.{under_good, Operation, operation_good}
 
 -- the parsers of the level below
@@ -48,7 +47,7 @@ picked n t = is_some (pick_binary (suc n) t)
 unfoldable pub more_operations : ℕ → ℕ → Measured → Reader
 more_operations d n = repeats (picked n) (has_room d) (operation d (under d) n)
 
-pub tier_zero : (d : ℕ) (ts : List Token) → tier d (under d) 0 ts ≡ unary d (under d) ts
+pub tier_zero : (d : ℕ) (ts : List Token) → tier d (under d) 0 ts ≡ operand d (under d) ts
 unfolding tier
 tier_zero d ts = refl
 
@@ -65,9 +64,6 @@ seen_some n ts o e = sees_value (pick_binary (suc n)) ts ∙ ap is_some e
 
 seen_none : (n : ℕ) (ts : List Token) → next_value (pick_binary (suc n)) ts ≡ None → sees (picked n) ts ≡ false
 seen_none n ts e = sees_value (pick_binary (suc n)) ts ∙ ap is_some e
-
-not_below : (m n : ℕ) → n ≤ m → nat_lt m n ≡ false
-not_below m n h = grind (arith, nat_tests)
 
 good_operation : (d n : ℕ) → n < 10 → (a : Measured) → MayTurn (Low d) (has_room d) a → Good (operation d (under d) n a) (Operation n a) (Low d) (picked n) (goes_on n)
 good_operation d n small = operation_good d (under d) (under_good d) n small
@@ -98,30 +94,6 @@ pub operation_takes : (d n : ℕ) (a b : Measured) (ts us : List Token) → n < 
 operation_takes d n a b ts us small low h =
     let below : a.height ≤ d = omega arith in
     takes_some (good_operation d n small a (record { fits = below; has_room = is_below a.height d low })) ts us b h
-
--- ---- what is behind a "("
-
-pub opened_is : (d : ℕ) (l : Span) (ts : List Token) → 0 < d →
-    opened d (under d) l ts ≡ makes (paren_of l) (thens (assignment (d - 1) (under (d - 1))) (λ _. punct mark.RightParen)) ts
-unfolding opened
-opened_is d l ts h = ap (λ e. makes (paren_of l) (thens e.expression (λ _. punct mark.RightParen)) ts) (under_is d h)
-
--- ---- "(", or texts or a word
-
-abbrev paren_first : ℕ → Reader
-paren_first d = makes (λ c. c.1) (thens (punct mark.LeftParen) (opened d (under d)))
-
-pub primary_plain : (d : ℕ) (ts : List Token) → sees (is (punctuator mark.LeftParen)) ts ≡ false → primary d (under d) ts ≡ plain ts
-unfolding primary
-primary_plain d ts e = either_other (is (punctuator mark.LeftParen)) (nat_lt 0 d) (paren_first d) plain ts e
-
-pub primary_deep : (d : ℕ) (ts : List Token) → sees (is (punctuator mark.LeftParen)) ts ≡ true → d ≡ 0 → primary d (under d) ts ≡ Stuck TooDeep ts
-unfolding primary
-primary_deep d ts e z = either_deep (is (punctuator mark.LeftParen)) (nat_lt 0 d) (paren_first d) plain ts e (not_below 0 d (omega arith))
-
-pub primary_paren : (d : ℕ) (ts : List Token) → sees (is (punctuator mark.LeftParen)) ts ≡ true → 0 < d → primary d (under d) ts ≡ paren_first d ts
-unfolding primary
-primary_paren d ts e h = either_one (is (punctuator mark.LeftParen)) (nat_lt 0 d) (paren_first d) plain ts e (is_below 0 d h)
 
 -- ---- arguments
 
@@ -216,13 +188,6 @@ behind_short d ts n m = either_other (is (punctuator mark.LeftBracket)) true (br
 unfoldable pub more_suffixes : ℕ → Measured → Reader
 more_suffixes d = repeats begins_suffix (has_room d) (apply d (under d))
 
-pub postfix_chain : (d : ℕ) (ts : List Token) → postfix d (under d) ts ≡ and_then (primary d (under d) ts) (more_suffixes d)
-unfolding postfix more_suffixes
-postfix_chain d ts = refl
-
-pub postfix_first : (d : ℕ) (ts us : List Token) (a : Measured) → primary d (under d) ts ≡ Read a us → postfix d (under d) ts ≡ more_suffixes d a us
-postfix_first d ts us a e = postfix_chain d ts ∙ ap (λ o. and_then o (more_suffixes d)) e
-
 good_apply : (d : ℕ) → (a : Measured) → MayTurn (Low d) (has_room d) a → Good (apply d (under d) a) (Applied a) (Low d) begins_suffix text_behind
 good_apply d = apply_good d (under d) (under_good d)
 
@@ -255,46 +220,6 @@ pub suffix_takes : (d : ℕ) (a : Measured) (s : Suffix) (ts us : List Token) �
 suffix_takes d a s ts us low h =
     let below : a.height ≤ d = omega arith in
     takes_some (good_apply d a (record { fits = below; has_room = is_below a.height d low })) ts us (applied a s) (applied_read d a s ts us h)
-
--- ---- what stands before an operand
-
-pub stepped_is : (d : ℕ) (ts us : List Token) (c : Step × Span) → 0 < d → word (pick_placed step_word) ts ≡ Read c us →
-    stepped d (under d) ts ≡ makes (λ a. step_of (c, a)) (unary (d - 1) (under (d - 1))) us
-unfolding stepped
-stepped_is d ts us c h e = ap (λ x. makes step_of (thens (word (pick_placed step_word)) (λ _. x.unary)) ts) (under_is d h)
-    ∙ ap (λ o. and_then (and_then o (λ a us. and_then (unary (d - 1) (under (d - 1)) us) (λ b vs. Read (a, b) vs))) (λ c us. Read (step_of c) us)) e
-    ∙ paired step_of c (unary (d - 1) (under (d - 1)) us)
-
-pub operated_is : (d : ℕ) (ts us : List Token) (c : UnaryOperator × Span) → 0 < d → word (pick_placed unary_word) ts ≡ Read c us →
-    operated d (under d) ts ≡ makes (λ a. unary_of (c, a)) (tier (d - 1) (under (d - 1)) 0) us
-unfolding operated
-operated_is d ts us c h e = ap (λ x. makes unary_of (thens (word (pick_placed unary_word)) (λ _. x.binary 0)) ts) (under_is d h)
-    ∙ ap (λ o. and_then (and_then o (λ a us. and_then (tier (d - 1) (under (d - 1)) 0 us) (λ b vs. Read (a, b) vs))) (λ c us. Read (unary_of c) us)) e
-    ∙ paired unary_of c (tier (d - 1) (under (d - 1)) 0 us)
-
-abbrev no_step : ℕ → Reader
-no_step d = either (has_word unary_word) (nat_lt 0 d) (operated d (under d)) (postfix d (under d))
-
-pub unary_step : (d : ℕ) (ts : List Token) (s : Step) → next_word step_word ts ≡ Some s → 0 < d → unary d (under d) ts ≡ stepped d (under d) ts
-unfolding unary
-unary_step d ts s e h = either_one (has_word step_word) (nat_lt 0 d) (stepped d (under d)) (no_step d) ts (sees_word step_word ts ∙ ap is_some e) (is_below 0 d h)
-
-pub unary_step_deep : (d : ℕ) (ts : List Token) (s : Step) → next_word step_word ts ≡ Some s → d ≡ 0 → unary d (under d) ts ≡ Stuck TooDeep ts
-unfolding unary
-unary_step_deep d ts s e z = either_deep (has_word step_word) (nat_lt 0 d) (stepped d (under d)) (no_step d) ts (sees_word step_word ts ∙ ap is_some e) (not_below 0 d (omega arith))
-
-unary_other : (d : ℕ) (ts : List Token) → next_word step_word ts ≡ None → unary d (under d) ts ≡ no_step d ts
-unfolding unary
-unary_other d ts e = either_other (has_word step_word) (nat_lt 0 d) (stepped d (under d)) (no_step d) ts (sees_word step_word ts ∙ ap is_some e)
-
-pub unary_operated : (d : ℕ) (ts : List Token) (o : UnaryOperator) → next_word step_word ts ≡ None → next_word unary_word ts ≡ Some o → 0 < d → unary d (under d) ts ≡ operated d (under d) ts
-unary_operated d ts o n e h = unary_other d ts n ∙ either_one (has_word unary_word) (nat_lt 0 d) (operated d (under d)) (postfix d (under d)) ts (sees_word unary_word ts ∙ ap is_some e) (is_below 0 d h)
-
-pub unary_operated_deep : (d : ℕ) (ts : List Token) (o : UnaryOperator) → next_word step_word ts ≡ None → next_word unary_word ts ≡ Some o → d ≡ 0 → unary d (under d) ts ≡ Stuck TooDeep ts
-unary_operated_deep d ts o n e z = unary_other d ts n ∙ either_deep (has_word unary_word) (nat_lt 0 d) (operated d (under d)) (postfix d (under d)) ts (sees_word unary_word ts ∙ ap is_some e) (not_below 0 d (omega arith))
-
-pub unary_postfix : (d : ℕ) (ts : List Token) → next_word step_word ts ≡ None → next_word unary_word ts ≡ None → unary d (under d) ts ≡ postfix d (under d) ts
-unary_postfix d ts n e = unary_other d ts n ∙ either_other (has_word unary_word) (nat_lt 0 d) (operated d (under d)) (postfix d (under d)) ts (sees_word unary_word ts ∙ ap is_some e)
 
 -- ---- choices and assignments
 

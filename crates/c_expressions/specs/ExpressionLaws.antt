@@ -12,6 +12,8 @@ use Rattle.c_ast.specs.Words.{punctuator_number}
 use Rattle.c_ast.specs.Operators.{binary_punctuator}
 use Rattle.c_grammar.specs.Words.{word_of, punctuator, span_of}
 use Rattle.c_grammar.specs.Operators.{looseness}
+use Rattle.c_grammar.specs.Expressions as spells
+use Rattle.c_grammar.specs.Expressions.{Binary}
 use Rattle.c_reader.specs.Good.{Language, Begins, Good}
 use Rattle.c_reader.specs.Languages.{Word, word_of as one_word_of, Then, join, Chain, once, again}
 use Rattle.c_reader.specs.Laws.{Has, word_good, thens_good, Made, makes_good}
@@ -22,14 +24,14 @@ use Rattle.c_expressions.specs.declared.measured.Measured.{Measured}
 use Rattle.c_expressions.specs.Nodes.{binary_of}
 use Rattle.c_expressions.specs.Operators.{operator_word, pick_binary}
 use Rattle.c_expressions.specs.OperatorLaws.{up_to, picked_is, is_picked, stops_at, apart_at}
-use Rattle.c_expressions.specs.WordLists.{one_word, among, both_false, or_false}
+use Rattle.c_reader.specs.WordLists.{one_word, among, both_false, or_false}
+use Rattle.c_reader.specs.Depths.{below_is, is_below}
 use Rattle.c_expressions.specs.Expressions as parser
 use Rattle.c_expressions.specs.Expressions.{Expressions, has_room, operation, tier}
-use Rattle.c_expressions.specs.Levels.{ConditionalWord, conditional_on, Low, BinaryWords, begins, goes_on, goes_on_word, operand_words, GoodExpressions, measured, below_is, is_below, starts_binary, binary_span, example, example_token, example_binary, binary_begins}
+use Rattle.c_expressions.specs.Levels.{ConditionalWord, conditional_on, Low, BinaryWords, begins, goes_on, goes_on_word, operand_words, GoodExpressions, measured, starts_binary, binary_span, example, example_token, example_binary, binary_begins}
 use Rattle.c_expressions.specs.ChoiceLaws.{conditional_good, assignment_good}
-use Rattle.c_expressions.specs.UnaryLaws.{operand_out, unary_good}
-use Rattle.c_expressions.specs.Sums as spells
-use Rattle.c_expressions.specs.Sums.{Postfix, Binary}
+use Rattle.c_expressions.specs.SizeofLaws.{GoodOperands}
+use Rattle.c_expressions.specs.OperandLaws.{unary_good, operand_good, layer_operands}
 
 -- ---- the tiers
 
@@ -136,18 +138,18 @@ module _ (d : ℕ) (below : Expressions) (good : 0 < d → GoodExpressions (d - 
       (λ c w m. record { source = c; is = refl; word = m }) (λ b w m. m)
       (λ c w m fits. omega (arith, fits.1)) (λ c w m fits. (tt, omega (arith, fits))) (λ c x e. e)
 
-  operand_good : Good (tier d below 0) (BinaryWords 0) (Low d) begins (λ _ t. among operand_words t)
+module _ (d : ℕ) (below : Expressions) (good : 0 < d → GoodExpressions (d - 1) below) (operands : 0 < d → GoodOperands (d - 1) below) where
+  tier_zero : Good (tier d below 0) (BinaryWords 0) (Low d) begins (λ _ t. among operand_words t)
   unfolding tier
-  operand_good = good_as (BinaryWords 0) (Low d) begins (unary_good d below good) (λ v w p. spells.operand (spells.unary p)) (λ v w b. operand_out v.height v.tree w b)
-      (λ v w c low. low) (λ v w c low. low) (λ x h. h)
+  tier_zero = operand_good d below good operands
 
   tier_good : (n : ℕ) → n ≤ 10 → Good (tier d below n) (BinaryWords n) (Low d) begins (goes_on n)
   unfolding tier
-  tier_good zero small = good_on (goes_on 0) operand_good (λ a x h. (both_false (among operand_words x) (up_to 0 (operator_word (word_of x))) h).0)
+  tier_good zero small = good_on (goes_on 0) tier_zero (λ a x h. (both_false (among operand_words x) (up_to 0 (operator_word (word_of x))) h).0)
   tier_good (suc n) small = good_as (BinaryWords (suc n)) (Low d) begins
       (chain_good (λ t. is_some (pick_binary (suc n) t)) (has_room d) (operation d below n) (Operation n)
-      (operation_good n (omega arith)) (goes_on (suc n)) (tier_good n (omega arith))
-      (λ a x h. binary_example n a x (pick_binary (suc n) x) refl h) (may_operate n)
+      (operation_good d below good n (omega arith)) (goes_on (suc n)) (tier_good n (omega arith))
+      (λ a x h. binary_example n a x (pick_binary (suc n) x) refl h) (may_operate d below good n)
       (λ a x h. operator_apart n x (pick_binary (suc n) x) refl h) (λ a x h. tier_stops n x h))
       (tier_into n) (λ v w b. tier_out n v.height v.tree w b) (λ v w c low. low) (λ v w c low. low) (λ x h. h)
 
@@ -155,16 +157,45 @@ module _ (d : ℕ) (below : Expressions) (good : 0 < d → GoodExpressions (d - 
   conditional_tier = conditional_good d below good (tier_good 10 (omega arith))
 
   pub layer_good : GoodExpressions d (parser.layer d below)
-  layer_good = record { expression = assignment_good d below good conditional_tier; conditional = conditional_tier; unary = unary_good d below good; operand = operand_good; binary = tier_good }
+  layer_good = record {
+    expression = assignment_good d below good conditional_tier;
+    conditional = conditional_tier;
+    unary = unary_good d below good operands;
+    operand = tier_zero;
+    binary = tier_good;
+  }
+
+-- the parsers of a level read the language
+record GoodLevel (d : ℕ) (e : Expressions) : Type 0 where
+  expressions : GoodExpressions d e
+  operands : GoodOperands d e
+
+level_good : (d : ℕ) (below : Expressions) → (0 < d → GoodLevel (d - 1) below) → GoodLevel d (parser.layer d below)
+level_good d below good = record {
+  expressions = layer_good d below (λ h. (good h).expressions) (λ h. (good h).operands);
+  operands = layer_operands d below (λ h. (good h).expressions) (λ h. (good h).operands);
+}
+
+level_at : (d : ℕ) → GoodLevel d (parser.at d)
+unfolding parser.under
+level_at zero = level_good 0 (parser.under 0) (λ h. absurd (omega arith))
+level_at (suc d) = level_good (suc d) (parser.at d) (λ h. let same : d ≡ suc d - 1 = omega arith in subst (λ k. GoodLevel k (parser.at d)) same (level_at d))
 
 -- the parsers of each level read the language
 pub good_at : (d : ℕ) → GoodExpressions d (parser.at d)
+good_at d = (level_at d).expressions
+
+pub operands_at : (d : ℕ) → GoodOperands d (parser.at d)
+operands_at d = (level_at d).operands
+
+level_under : (d : ℕ) → 0 < d → GoodLevel (d - 1) (parser.under d)
 unfolding parser.under
-good_at zero = layer_good 0 (parser.under 0) (λ h. absurd (omega arith))
-good_at (suc d) = layer_good (suc d) (parser.at d) (λ h. let same : d ≡ suc d - 1 = omega arith in subst (λ k. GoodExpressions k (parser.at d)) same (good_at d))
+level_under zero h = absurd (omega arith)
+level_under (suc d) h = let same : d ≡ suc d - 1 = omega arith in subst (λ k. GoodLevel k (parser.at d)) same (level_at d)
 
 -- the parsers of the level below, where there is one
 pub under_good : (d : ℕ) → 0 < d → GoodExpressions (d - 1) (parser.under d)
-unfolding parser.under
-under_good zero h = absurd (omega arith)
-under_good (suc d) h = let same : d ≡ suc d - 1 = omega arith in subst (λ k. GoodExpressions k (parser.at d)) same (good_at d)
+under_good d h = (level_under d h).expressions
+
+pub under_operands : (d : ℕ) → 0 < d → GoodOperands (d - 1) (parser.under d)
+under_operands d h = (level_under d h).operands

@@ -1,5 +1,5 @@
 -- The parser of expressions, by the number of levels that may stand below the expression.
-use Rattle.std.specs.Prelude.{ℕ, zero, suc, Bool, true, nat_lt, if◌then◌else◌, List, [], ◌∷◌, Option, Some, None, is_some, ◌==◌}
+use Rattle.std.specs.Prelude.{ℕ, zero, suc, Bool, true, nat_lt, if◌then◌else◌, List, [], ◌∷◌, ◌++◌, Option, Some, None, is_some, ◌==◌}
 use Rattle.c_ast.specs.declared.token.Span.{Span}
 use Rattle.c_ast.specs.declared.token.Token.{Token}
 use Rattle.c_ast.specs.declared.token.Lexeme.{Lexeme}
@@ -14,18 +14,21 @@ use Rattle.c_ast.specs.declared.operator.AssignOperator.TheVariants as assign
 use Rattle.c_ast.specs.declared.operator.Step.{Step}
 use Rattle.c_ast.specs.declared.operator.Step.TheVariants as step
 use Rattle.c_ast.specs.Tree.{expr}
+use Rattle.c_ast.specs.declared.keyword.Keyword.TheVariants as key
 use Rattle.c_ast.specs.declared.punctuator.Punctuator.TheVariants as mark
-use Rattle.c_grammar.specs.Words.{word_of, punctuator}
+use Rattle.c_grammar.specs.Words.{word_of, keyword, punctuator}
 use Rattle.c_reader.specs.declared.fault.Fault.TheVariants.{Unexpected}
 use Rattle.c_reader.specs.Answer.{Stuck, Parser, word, thens, makes, sees, either, chain, optional}
+use Rattle.c_reader.specs.Words as read
 use Rattle.c_reader.specs.Words.{is, punct, name, place_of}
+use Rattle.c_type_names.specs.TypeNames.{begins_type, type_name}
 use Rattle.c_expressions.specs.declared.measured.Measured.{Measured}
 use Rattle.c_expressions.specs.declared.suffix.Arguments.{Arguments}
 use Rattle.c_expressions.specs.declared.suffix.Suffix.{Suffix}
 use Rattle.c_expressions.specs.declared.suffix.Suffix.TheVariants as suffix
-use Rattle.c_expressions.specs.Nodes.{Quoted, text_of, joined, paren_of, one_argument, more_arguments, no_arguments, applied, step_of, unary_of, binary_of, choice_of, assign_of, assignable}
+use Rattle.c_expressions.specs.Nodes.{Quoted, text_of, joined, paren_of, one_argument, more_arguments, no_arguments, applied, step_of, unary_of, size_of, size_name_of, cast_of, binary_of, choice_of, assign_of, assignable}
 use Rattle.c_expressions.specs.Operators.{pick_binary}
-use Rattle.c_expressions.specs.WordLists.{among}
+use Rattle.c_reader.specs.WordLists.{among}
 
 abbrev pub Reader : Type 0
 Reader = Parser Token Measured
@@ -35,6 +38,8 @@ pub record Expressions : Type 0 where
   pub expression : Reader
   pub conditional : Reader
   pub unary : Reader
+  pub bare : Reader
+  pub grouped : Span → Reader
   pub binary : ℕ → Reader
 
 -- what a token is that is an expression by itself
@@ -106,6 +111,28 @@ begins_suffix = among suffix_words
 unfoldable pub sees_suffix : List Token → Bool
 sees_suffix = sees begins_suffix
 
+-- the words that are an expression each, and texts
+abbrev pub plain_words : List ℕ
+plain_words = 1 ∷ 2 ∷ 3 ∷ 4 ∷ []
+
+-- the words that stand before an operand
+abbrev pub step_words : List ℕ
+step_words = punctuator mark.PlusPlus ∷ punctuator mark.MinusMinus ∷ []
+
+abbrev pub unary_words : List ℕ
+unary_words = punctuator mark.Ampersand ∷ punctuator mark.Star ∷ punctuator mark.Plus ∷ punctuator mark.Minus ∷ punctuator mark.Tilde ∷ punctuator mark.Exclamation ∷ []
+
+-- the words with which an operand begins that is no cast, but "("
+abbrev pub bare_words : List ℕ
+bare_words = step_words ++ (unary_words ++ (keyword key.Sizeof ∷ plain_words))
+
+abbrev pub begins_bare : Token → Bool
+begins_bare = among bare_words
+
+-- the words with which an expression begins
+abbrev pub first_words : List ℕ
+first_words = punctuator mark.LeftParen ∷ bare_words
+
 -- a value and where its token stands
 abbrev pub placed : {A : Type 0} → Span → Option A → Option (A × Span)
 placed place None = None
@@ -151,10 +178,6 @@ module _ (d : ℕ) (below : Expressions) where
   unfoldable pub opened : Span → Reader
   opened l = makes (paren_of l) (thens below.expression (λ _. punct mark.RightParen))
 
-  -- "(" expr ")", texts or a word
-  unfoldable pub primary : Reader
-  primary = either (is (punctuator mark.LeftParen)) (room d) (makes (λ c. c.1) (thens (punct mark.LeftParen) opened)) plain
-
   -- a further argument
   unfoldable pub further : Arguments → Parser Token Arguments
   further a = makes (λ c. more_arguments a c.1) (thens (punct mark.Comma) (λ _. below.expression))
@@ -180,9 +203,13 @@ module _ (d : ℕ) (below : Expressions) where
   unfoldable pub apply : Measured → Reader
   apply a = makes (applied a) behind
 
-  -- primary { suffix }
-  unfoldable pub postfix : Reader
-  postfix = chain begins_suffix (has_room d) primary apply
+  -- texts or a word, and what follows
+  unfoldable pub worded : Reader
+  worded = chain begins_suffix (has_room d) plain apply
+
+  -- expr ")" and what follows, behind a "(" at this place
+  unfoldable pub grouped : Span → Reader
+  grouped l = chain begins_suffix (has_room d) (opened l) apply
 
   -- `++` or `--`, and its operand
   unfoldable pub stepped : Reader
@@ -192,16 +219,47 @@ module _ (d : ℕ) (below : Expressions) where
   unfoldable pub operated : Reader
   operated = makes unary_of (thens (word (pick_placed unary_word)) (λ _. below.binary 0))
 
-  -- an operand, with what stands before it
+  -- tname ")", behind `sizeof (`
+  unfoldable pub size_name : Span → Reader
+  size_name place = makes (size_name_of place) (thens (type_name d) (λ _. punct mark.RightParen))
+
+  -- what stands behind `sizeof (`: an expression there is two levels below
+  unfoldable pub size_opened : Span → Span → Reader
+  size_opened place l = either (among first_words) (nat_lt 1 d) (makes (size_of place) (below.grouped l)) (size_name place)
+
+  -- what stands behind `sizeof`: only an operand that begins with "(" may be no level below
+  unfoldable pub size_rest : Span → Reader
+  size_rest place = either begins_bare (room d) (makes (size_of place) below.bare) (makes (λ c. c.1) (thens (punct mark.LeftParen) (size_opened place)))
+
+  unfoldable pub sized : Reader
+  sized = makes (λ c. c.1) (thens (read.key key.Sizeof) size_rest)
+
+  -- an operand that is no cast and does not begin with "("
+  unfoldable pub bare : Reader
+  bare = either (has_word step_word) (room d) stepped (either (has_word unary_word) (room d) operated (either (is (keyword key.Sizeof)) true sized worded))
+
+  -- an operand that is no cast
   unfoldable pub unary : Reader
-  unary = either (has_word step_word) (room d) stepped (either (has_word unary_word) (room d) operated postfix)
+  unary = either (is (punctuator mark.LeftParen)) (room d) (makes (λ c. c.1) (thens (punct mark.LeftParen) grouped)) bare
+
+  -- tname ")" cast, behind a "(" at this place
+  unfoldable pub casted : Span → Reader
+  casted l = makes (cast_of l) (thens (type_name d) (λ _. thens (punct mark.RightParen) (λ _. below.binary 0)))
+
+  -- what stands behind a "(" at this place
+  unfoldable pub cast_or_group : Span → Reader
+  cast_or_group l = either begins_type true (casted l) (grouped l)
+
+  -- an operand
+  unfoldable pub operand : Reader
+  operand = either (is (punctuator mark.LeftParen)) (room d) (makes (λ c. c.1) (thens (punct mark.LeftParen) cast_or_group)) bare
 
   -- an operator of the tier, and its right operand
   unfoldable pub operation : ℕ → Measured → Reader
   operation n a = makes (binary_of a) (thens (word (pick_binary (suc n))) (λ _. below.binary n))
 
   unfoldable pub tier : ℕ → Reader
-  tier zero = unary
+  tier zero = operand
   tier (suc n) = chain (λ t. is_some (pick_binary (suc n) t)) (has_room d) (tier n) (operation n)
 
   -- `? expr : cond`, behind a condition
@@ -220,10 +278,10 @@ module _ (d : ℕ) (below : Expressions) where
   assignment = optional (has_word assign_word) assignable (has_room d) conditional assigned
 
   abbrev pub layer : Expressions
-  layer = record { expression = assignment; conditional = conditional; unary = unary; binary = tier }
+  layer = record { expression = assignment; conditional = conditional; unary = unary; bare = bare; grouped = grouped; binary = tier }
 
 abbrev pub nothing : Expressions
-nothing = record { expression = Stuck Unexpected; conditional = Stuck Unexpected; unary = Stuck Unexpected; binary = λ n. Stuck Unexpected }
+nothing = record { expression = Stuck Unexpected; conditional = Stuck Unexpected; unary = Stuck Unexpected; bare = Stuck Unexpected; grouped = λ l. Stuck Unexpected; binary = λ n. Stuck Unexpected }
 
 -- the parsers of one level less than this many
 unfoldable pub under : ℕ → Expressions

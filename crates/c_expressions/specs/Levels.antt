@@ -1,7 +1,6 @@
 -- The languages of expressions, and facts on their words.
-use Rattle.std.specs.Prelude.{◌≡◌, ℕ, zero, suc, ◌<◌, ◌≤◌, Bool, true, false, ◌||◌, nat_lt, List, [], ◌∷◌, ◌++◌, None, refl, ◌==◌}
-use Rattle.std.proofs.Common.{sym, ◌∙◌, ap, arith}
-use Rattle.std.proofs.lemmas.Bool.Decides.{nat_tests}
+use Rattle.std.specs.Prelude.{◌≡◌, ℕ, zero, suc, ◌≤◌, Bool, true, false, ◌||◌, List, [], ◌∷◌, ◌++◌, None, refl, ◌==◌}
+use Rattle.std.proofs.Common.{sym, ◌∙◌, ap}
 use Rattle.c_ast.specs.declared.token.Span.{Span}
 use Rattle.c_ast.specs.declared.token.Token.{Token}
 use Rattle.c_ast.specs.declared.token.Lexeme.TheVariants as lexeme
@@ -15,7 +14,8 @@ use Rattle.c_ast.specs.declared.operator.UnaryOperator.TheVariants as operator
 use Rattle.c_ast.specs.declared.punctuator.Punctuator.TheVariants as mark
 use Rattle.c_grammar.specs.Operators.{UnaryWord, StepWord, Before}
 use Rattle.c_grammar.specs.Words.{word_of, lexeme_word, punctuator, span_of, last_end}
-use Rattle.c_grammar.specs.Expressions.{spelled, Texts, one_text, more_text}
+use Rattle.c_grammar.specs.Expressions as spells
+use Rattle.c_grammar.specs.Expressions.{Expression, Conditional, Primary, Postfix, Unary, Cast, Binary, spelled, Texts, one_text, more_text}
 use Rattle.c_reader.specs.Good.{Language, Begins, StartsIn, Good}
 use Rattle.c_reader.specs.Lists.{starts_append}
 use Rattle.c_reader.specs.SpanLaws.{last_end_append}
@@ -24,10 +24,8 @@ use Rattle.c_reader.specs.Words.{is}
 use Rattle.c_expressions.specs.declared.measured.Measured.{Measured}
 use Rattle.c_expressions.specs.Operators.{operator_word}
 use Rattle.c_expressions.specs.OperatorLaws.{up_to}
-use Rattle.c_expressions.specs.WordLists.{one_word, among, is_at, or_false, within_words}
-use Rattle.c_expressions.specs.Expressions.{Expressions, suffix_words}
-use Rattle.c_expressions.specs.Sums as spells
-use Rattle.c_expressions.specs.Sums.{Expression, Conditional, Primary, Postfix, Unary, Binary}
+use Rattle.c_reader.specs.WordLists.{one_word, among, is_at, or_false, within_words}
+use Rattle.c_expressions.specs.Expressions.{Expressions, suffix_words, bare_words, begins_bare, first_words}
 
 -- at most this many levels stand below the expression
 abbrev pub Low : ℕ → Measured → Type 0
@@ -66,16 +64,9 @@ primary_words = 1 ∷ 2 ∷ 3 ∷ 4 ∷ punctuator mark.LeftParen ∷ []
 abbrev pub opens : Token → Bool
 opens = among primary_words
 
--- the words that stand before an operand
-abbrev pub step_words : List ℕ
-step_words = punctuator mark.PlusPlus ∷ punctuator mark.MinusMinus ∷ []
-
-abbrev pub unary_words : List ℕ
-unary_words = punctuator mark.Ampersand ∷ punctuator mark.Star ∷ punctuator mark.Plus ∷ punctuator mark.Minus ∷ punctuator mark.Tilde ∷ punctuator mark.Exclamation ∷ []
-
 -- the words with which an expression begins
 abbrev pub begin_words : List ℕ
-begin_words = step_words ++ (unary_words ++ primary_words)
+begin_words = first_words
 
 -- the tokens with which an expression begins
 abbrev pub begins : Token → Bool
@@ -117,12 +108,6 @@ pub record GoodExpressions (d : ℕ) (e : Expressions) : Type 0 where
   pub binary : (n : ℕ) → n ≤ 10 → Good (e.binary n) (BinaryWords n) (Low d) begins (goes_on n)
 
 -- ---- tests
-
-pub below_is : (m n : ℕ) → nat_lt m n ≡ true → m < n
-below_is m n h = grind (arith, nat_tests)
-
-pub is_below : (m n : ℕ) → m < n → nat_lt m n ≡ true
-is_below m n h = grind (arith, nat_tests)
 
 -- a word that is no operator and behind no operand does not go on
 pub closes : (n : ℕ) (a : Measured) (w : ℕ) (t : Token) → one_word operand_words w ≡ false → operator_word w ≡ None → is w t ≡ true → goes_on n a t ≡ false
@@ -167,27 +152,36 @@ starts_postfix h e w (spells.step_behind {h = k} {e = a} {u = u} t p ist) = star
 starts_more : (w : List Token) → StartsIn opens w → StartsIn begins w
 starts_more w s = record { head = s.head; tail = s.tail; parts = s.parts; is_first = within_words primary_words begin_words refl (word_of s.head) s.is_first }
 
-step_begins : (t : Token) (s : Step) → StepWord Before s t → begins t ≡ true
-step_begins t step.PreIncrement h = ap (one_word begin_words) h.1
-step_begins t step.PreDecrement h = ap (one_word begin_words) h.1
-step_begins t step.PostIncrement h = let bad = h.0 in cc
-step_begins t step.PostDecrement h = let bad = h.0 in cc
+pub step_bare : (t : Token) (s : Step) → StepWord Before s t → begins_bare t ≡ true
+step_bare t step.PreIncrement h = ap (one_word bare_words) h.1
+step_bare t step.PreDecrement h = ap (one_word bare_words) h.1
+step_bare t step.PostIncrement h = let bad = h.0 in cc
+step_bare t step.PostDecrement h = let bad = h.0 in cc
 
-operator_begins : (t : Token) (o : UnaryOperator) → UnaryWord o t → begins t ≡ true
-operator_begins t operator.AddressOf h = ap (one_word begin_words) h
-operator_begins t operator.Dereference h = ap (one_word begin_words) h
-operator_begins t operator.Plus h = ap (one_word begin_words) h
-operator_begins t operator.Minus h = ap (one_word begin_words) h
-operator_begins t operator.Complement h = ap (one_word begin_words) h
-operator_begins t operator.Not h = ap (one_word begin_words) h
+pub operator_bare : (t : Token) (o : UnaryOperator) → UnaryWord o t → begins_bare t ≡ true
+operator_bare t operator.AddressOf h = ap (one_word bare_words) h
+operator_bare t operator.Dereference h = ap (one_word bare_words) h
+operator_bare t operator.Plus h = ap (one_word bare_words) h
+operator_bare t operator.Minus h = ap (one_word bare_words) h
+operator_bare t operator.Complement h = ap (one_word bare_words) h
+operator_bare t operator.Not h = ap (one_word bare_words) h
+
+pub bare_begins : (t : Token) → begins_bare t ≡ true → begins t ≡ true
+bare_begins t h = within_words bare_words begin_words refl (word_of t) h
 
 pub starts_unary : (h : ℕ) (e : Expr) (w : List Token) → Unary h e w → StartsIn begins w
 starts_unary h e w (spells.postfix p) = starts_more w (starts_postfix h e w p)
-starts_unary h e w (spells.step_before {s = s} {u = u} t is m) = record { head = t; tail = u; parts = refl; is_first = step_begins t s is }
-starts_unary h e w (spells.operated {o = o} {u = u} t is m) = record { head = t; tail = u; parts = refl; is_first = operator_begins t o is }
+starts_unary h e w (spells.step_before {s = s} {u = u} t is m) = record { head = t; tail = u; parts = refl; is_first = bare_begins t (step_bare t s is) }
+starts_unary h e w (spells.operated {o = o} {u = u} t is m) = record { head = t; tail = u; parts = refl; is_first = bare_begins t (operator_bare t o is) }
+starts_unary h e w (spells.sizeof_expr {u = u} t is m) = record { head = t; tail = u; parts = refl; is_first = ap (one_word begin_words) is }
+starts_unary h e w (spells.sizeof_name {v = v} t l r is isl m isr) = record { head = t; tail = l ∷ v ++ r ∷ []; parts = refl; is_first = ap (one_word begin_words) is }
+
+pub starts_cast : (h : ℕ) (e : Expr) (w : List Token) → Cast h e w → StartsIn begins w
+starts_cast h e w (spells.unary m) = starts_unary h e w m
+starts_cast h e w (spells.cast {v = v} {u = u} l r isl m isr c) = record { head = l; tail = v ++ r ∷ u; parts = refl; is_first = ap (one_word begin_words) isl }
 
 pub starts_binary : (n h : ℕ) (e : Expr) (w : List Token) → Binary n h e w → StartsIn begins w
-starts_binary n h e w (spells.operand {h = k} (spells.unary p)) = starts_unary k e w p
+starts_binary n h e w (spells.operand c) = starts_cast h e w c
 starts_binary n h e w (spells.tighter {n = k} b) = starts_binary k h e w b
 starts_binary n h e w (spells.operation {n = k} {h = i} {a = a} {u = u} {v = v} t l op r) = starts_append begins u (t ∷ v) (starts_binary (suc k) i a u l)
 
@@ -210,9 +204,15 @@ pub unary_span : (h : ℕ) (e : Expr) (w : List Token) → Unary h e w → e.spa
 unary_span h e w (spells.postfix p) = postfix_span h e w p
 unary_span h e w (spells.step_before t is m) = refl
 unary_span h e w (spells.operated t is m) = refl
+unary_span h e w (spells.sizeof_expr t is m) = refl
+unary_span h e w (spells.sizeof_name t l r is isl m isr) = refl
+
+pub cast_span : (h : ℕ) (e : Expr) (w : List Token) → Cast h e w → e.span ≡ span_of w
+cast_span h e w (spells.unary m) = unary_span h e w m
+cast_span h e w (spells.cast l r isl m isr c) = refl
 
 pub binary_span : (n h : ℕ) (e : Expr) (w : List Token) → Binary n h e w → e.span ≡ span_of w
-binary_span n h e w (spells.operand {h = k} (spells.unary p)) = unary_span k e w p
+binary_span n h e w (spells.operand c) = cast_span h e w c
 binary_span n h e w (spells.tighter {n = k} b) = binary_span k h e w b
 binary_span n h e w (spells.operation t a is b) = refl
 
@@ -242,11 +242,14 @@ pub example_unary : Unary example.height example.tree (example_token ∷ [])
 unfolding example
 example_unary = spells.postfix (spells.primary (spells.number example_token refl))
 
+-- an operand that is no cast is an expression of each tier
+pub unary_tier : (n h : ℕ) (e : Expr) (w : List Token) → Unary h e w → Binary n h e w
+unary_tier zero h e w m = spells.operand (spells.unary m)
+unary_tier (suc n) h e w m = spells.tighter (unary_tier n h e w m)
+
 -- the smallest expression of each tier
 pub example_binary : (n : ℕ) → BinaryWords n example (example_token ∷ [])
-unfolding example
-example_binary zero = spells.operand (spells.unary example_unary)
-example_binary (suc n) = spells.tighter (example_binary n)
+example_binary n = unary_tier n example.height example.tree (example_token ∷ []) example_unary
 
 pub binary_begins : (n : ℕ) → Begins (BinaryWords n) []
 binary_begins n = record { value = example; more = example_token ∷ []; whole = example_binary n }

@@ -12,6 +12,7 @@ use Rattle.c_ast.specs.declared.operator.UnaryOperator.{UnaryOperator}
 use Rattle.c_ast.specs.declared.operator.BinaryOperator.{BinaryOperator}
 use Rattle.c_ast.specs.declared.operator.Step.{Step}
 use Rattle.c_reader.specs.SpanLaws.{join_spans}
+use Rattle.c_type_names.specs.declared.type_read.TypeRead.{TypeRead}
 use Rattle.c_expressions.specs.declared.measured.Measured.{Measured}
 use Rattle.c_expressions.specs.declared.suffix.Arguments.{Arguments}
 use Rattle.c_expressions.specs.declared.suffix.Suffix.{Suffix}
@@ -77,6 +78,18 @@ step_of c = record { tree = from_to c.0.1.start c.1.tree.span.end (node.Step c.0
 
 abbrev pub unary_of : (UnaryOperator × Span) × Measured → Measured
 unary_of c = record { tree = from_to c.0.1.start c.1.tree.span.end (node.Unary c.0.0 c.1.tree); height = suc c.1.height }
+
+-- `sizeof` before an operand
+abbrev pub size_of : Span → Measured → Measured
+size_of place a = record { tree = from_to place.start a.tree.span.end (node.SizeofExpr a.tree); height = suc a.height }
+
+-- `sizeof ( type )`
+abbrev pub size_name_of : Span → TypeRead × Span → Measured
+size_name_of place c = record { tree = from_to place.start c.1.end (node.SizeofName c.0.ty); height = c.0.height }
+
+-- `( type )` before an operand
+abbrev pub cast_of : Span → TypeRead × (Span × Measured) → Measured
+cast_of l c = record { tree = from_to l.start c.1.1.tree.span.end (node.Cast c.0.ty c.1.1.tree); height = max c.0.height (suc c.1.1.height) }
 
 abbrev pub binary_of : Measured → BinaryOperator × Measured → Measured
 binary_of a c = record { tree = from_to a.tree.span.start c.1.tree.span.end (node.Binary c.0 a.tree c.1.tree); height = suc (max a.height c.1.height) }

@@ -12,23 +12,26 @@ use Rattle.c_ast.specs.declared.expr.Node.TheVariants as node
 use Rattle.c_ast.specs.Tree.{expr}
 use Rattle.c_ast.specs.declared.punctuator.Punctuator.TheVariants as mark
 use Rattle.c_grammar.specs.Words.{word_of, lexeme_word, punctuator, span_of}
-use Rattle.c_grammar.specs.Expressions.{spelled, Texts, one_text, more_text}
-use Rattle.c_reader.specs.Answer.{thens, makes, word}
+use Rattle.c_grammar.specs.Expressions as spells
+use Rattle.c_grammar.specs.Expressions.{Primary, spelled, Texts, one_text, more_text}
+use Rattle.c_reader.specs.Answer.{word}
 use Rattle.c_reader.specs.Good.{Language, Begins, StartsIn, Good}
 use Rattle.c_reader.specs.Languages.{Word, word_of as one_word_of, Then, join, Either, Chain, once, again}
 use Rattle.c_reader.specs.Laws.{Always, nothing, word_good, thens_good, Made, makes_good, either_good}
 use Rattle.c_reader.specs.ChainLaws.{chain_good}
 use Rattle.c_reader.specs.Words.{is, punct, place_of}
-use Rattle.c_reader.specs.WordGood.{token_of, Spot, spot, good_as, good_on, punct_good, punct_begins, spot_starts, spot_begins}
+use Rattle.c_reader.specs.Lists.{starts_append}
+use Rattle.c_reader.specs.WordGood.{token_of, Spot, spot, good_as, good_on, punct_good, punct_begins, is_equal}
 use Rattle.c_reader.specs.SpanLaws.{span_between, join_spans}
 use Rattle.c_expressions.specs.declared.measured.Measured.{Measured}
 use Rattle.c_expressions.specs.Nodes.{Quoted, text_of, joined, paren_of}
 use Rattle.c_expressions.specs.Operators.{operator_word}
-use Rattle.c_expressions.specs.WordLists.{one_word, among, is_at, is_not_first, apart_words, within_words}
-use Rattle.c_expressions.specs.Expressions.{Expressions, constant_node, measured_at, pick_constant, constant, quoted_at, pick_text, is_text, more_texts, texts, plain, room, opened, primary}
-use Rattle.c_expressions.specs.Levels.{Low, PrimaryWord, ExpressionWord, primary_words, opens, begins, GoodExpressions, measured, below_is, is_below, closes_all, starts_texts, span_behind, example, example_token, example_expression}
-use Rattle.c_expressions.specs.Sums as spells
-use Rattle.c_expressions.specs.Sums.{Primary}
+use Rattle.c_reader.specs.WordLists.{one_word, among, is_not_first, apart_words, within_words}
+use Rattle.c_expressions.specs.Expressions.{Expressions, constant_node, measured_at, pick_constant, constant, quoted_at, pick_text, is_text, more_texts, texts, plain_words, plain, opened}
+use Rattle.c_expressions.specs.StartLaws.{apart_starts}
+use Rattle.c_expressions.specs.AfterLaws.{After, AfterParts, after_into, after_parts, after_starts}
+use Rattle.c_expressions.specs.BeginLaws.{expression_begins_at}
+use Rattle.c_expressions.specs.Levels.{Low, PrimaryWord, ExpressionWord, opens, begins, GoodExpressions, measured, closes_all, starts_expression, starts_texts, span_behind, example, example_token, example_expression}
 
 -- a text goes on behind a primary expression
 abbrev pub text_behind : Measured → Token → Bool
@@ -120,7 +123,7 @@ pub record Quoting (q : Quoted) (w : List Token) : Type 0 where
 abbrev pub MoreTexts : Quoted → Language Token Quoted
 MoreTexts a = Made (joined a) (Word pick_text)
 
-abbrev TextChain : Language Token Quoted
+abbrev pub TextChain : Language Token Quoted
 TextChain = Chain (Word pick_text) MoreTexts
 
 one_quoting : (q : Quoted) (w : List Token) → Word pick_text q w → Quoting q w
@@ -153,7 +156,7 @@ chain_of bytes w (more_text {before = before} {bytes = b} {w = u} t m e) = again
 })
 
 -- adjacent texts as an expression
-abbrev TextWord : Language Token Measured
+abbrev pub TextWord : Language Token Measured
 TextWord = Made text_of TextChain
 
 text_example : Token
@@ -190,21 +193,21 @@ texts_begins : (t : Token) (o : Option Quoted) → pick_text t ≡ o → is_some
 texts_begins t None e h = cc
 texts_begins t (Some q) e h = record { value = text_of q; more = []; whole = record { source = q; is = refl; word = once (one_word_of e) } }
 
--- the words that begin a primary expression, but "("
-abbrev plain_list : List ℕ
-plain_list = 1 ∷ 2 ∷ 3 ∷ 4 ∷ []
+-- texts or a word
+abbrev pub PlainWord : Language Token Measured
+PlainWord = Either TextWord (Word pick_constant)
 
 constant_at : (d : ℕ) → Good constant (Word pick_constant) (Low d) (among constant_list) text_behind
 constant_at d = good_on text_behind
     (good_as (Word pick_constant) (Low d) (among constant_list) constant_good (λ a w l. l) (λ a w l. l) (λ a w l _. omega (arith, constant_height a w l)) (λ a w l low. tt) (λ x h. h))
     (λ a x h. refl)
 
-plain_good : (d : ℕ) → Good plain (Either TextWord (Word pick_constant)) (Low d) (among plain_list) text_behind
+pub plain_good : (d : ℕ) → Good plain PlainWord (Low d) (among plain_words) text_behind
 unfolding plain
-plain_good d = either_good is_text true (among plain_list) (λ r. texts_good d) (constant_at d)
+plain_good d = either_good is_text true (among plain_words) (λ r. texts_good d) (constant_at d)
     (λ x h. texts_begins x (pick_text x) refl h) (λ a w l f. refl) texts_starts
     (λ x h. not_text x (apart_four x h))
-    (λ x h. ap (one_word plain_list) (text_word x h)) (λ x h. within_words constant_list plain_list refl (word_of x) h)
+    (λ x h. ap (one_word plain_words) (text_word x h)) (λ x h. within_words constant_list plain_words refl (word_of x) h)
   where
     apart_four : (x : Token) → among constant_list x ≡ true → is 4 x ≡ false
     apart_four x h = is_not_first 4 (word_of x) (apart_words constant_list (4 ∷ []) refl (word_of x) h)
@@ -215,92 +218,94 @@ plain_good d = either_good is_text true (among plain_list) (λ r. texts_good d) 
 abbrev pub Opened : Span → Language Token Measured
 Opened l = Made (paren_of l) (Then ExpressionWord (λ _. Spot (punctuator mark.RightParen)))
 
-opened_begins : (l : Span) → Begins (Opened l) []
+pub opened_begins : (l : Span) → Begins (Opened l) []
 opened_begins l = record {
   value = paren_of l (example, (punct_begins mark.RightParen).value);
   more = (example_token ∷ []) ++ (punct_begins mark.RightParen).more;
   whole = record { source = (example, (punct_begins mark.RightParen).value); is = refl; word = join (example_expression) (punct_begins mark.RightParen).whole };
 }
 
--- "(" expr ")"
-abbrev pub Paren : Language Token Measured
-Paren = Made (λ (c : Span × Measured). c.1) (Then (Spot (punctuator mark.LeftParen)) Opened)
+-- for each token with which an expression begins
+pub opened_begins_at : (l : Span) (t : Token) → begins t ≡ true → Begins (Opened l) (t ∷ [])
+opened_begins_at l t h =
+    let b = expression_begins_at t h in
+    let r = punct_begins mark.RightParen in
+    record { value = paren_of l (b.value, r.value); more = b.more ++ r.more; whole = record { source = (b.value, r.value); is = refl; word = join b.whole r.whole } }
+
+opened_joined : (c : Measured × Span) (u : List Token) → Then ExpressionWord (λ _. Spot (punctuator mark.RightParen)) c u → StartsIn begins u
+opened_joined c u (join {a = a} {u = x} {v = v} m r) = starts_append begins x v (starts_expression a.height a.tree x m)
+
+pub opened_starts : (l : Span) (v : Measured) (u : List Token) → Opened l v u → StartsIn begins u
+opened_starts l v u m = opened_joined m.source u m.word
 
 paren_made : (l : Token) (c : Measured × Span) (u : List Token) → word_of l ≡ punctuator mark.LeftParen →
     Then ExpressionWord (λ _. Spot (punctuator mark.RightParen)) c u → PrimaryWord (paren_of (place_of l) c) (l ∷ u)
 paren_made l c u is (join {a = e} {u = v} m (spot r isr)) =
     subst (λ s. Primary (suc e.height) (expr s (node.Paren e.tree)) (l ∷ v ++ r ∷ [])) (span_between l v r) (spells.paren l r is m isr)
 
-paren_joined : (c : Span × Measured) (w : List Token) → Then (Spot (punctuator mark.LeftParen)) Opened c w → PrimaryWord c.1 w
-paren_joined c w (join {b = v} {v = u} (spot l is) m) = subst (λ v. PrimaryWord v (l ∷ u)) m.is (paren_made l m.source u is m.word)
+-- "(" with what is behind it
+pub opened_into : (l : Token) → word_of l ≡ punctuator mark.LeftParen → (v : Measured) (u : List Token) → Opened (place_of l) v u → PrimaryWord v (l ∷ u)
+opened_into l is v u m = subst (λ v. PrimaryWord v (l ∷ u)) m.is (paren_made l m.source u is m.word)
 
-paren_into : (v : Measured) (w : List Token) → Paren v w → PrimaryWord v w
-paren_into v w m = subst (λ v. PrimaryWord v w) m.is (paren_joined m.source w m.word)
+pub plain_into : (v : Measured) (w : List Token) → PlainWord v w → PrimaryWord v w
+plain_into v w (inl m) = subst (λ v. PrimaryWord v w) m.is (texts_into m.source w m.word)
+plain_into v w (inr c) = constant_into v w c
 
-abbrev PrimaryParts : Language Token Measured
-PrimaryParts = Either Paren (Either TextWord (Word pick_constant))
+abbrev Paren : Language Token Measured
+Paren = After (punctuator mark.LeftParen) Opened
 
-primary_into : (v : Measured) (w : List Token) → PrimaryParts v w → PrimaryWord v w
-primary_into v w (inl m) = paren_into v w m
-primary_into v w (inr (inl m)) = subst (λ v. PrimaryWord v w) m.is (texts_into m.source w m.word)
-primary_into v w (inr (inr c)) = constant_into v w c
-
-primary_out : (h : ℕ) (e : Expr) (w : List Token) → Primary h e w → PrimaryParts (measured e h) w
+primary_out : (h : ℕ) (e : Expr) (w : List Token) → Primary h e w → Either Paren PlainWord (measured e h) w
 primary_out h e w (spells.variable t is) = inr (inr (one_word_of (ap (λ k. measured_at (place_of t) (constant_node k)) is)))
 primary_out h e w (spells.number t is) = inr (inr (one_word_of (ap (λ k. measured_at (place_of t) (constant_node k)) is)))
 primary_out h e w (spells.character t is) = inr (inr (one_word_of (ap (λ k. measured_at (place_of t) (constant_node k)) is)))
 primary_out h e w (spells.text {bytes = bytes} m) = inr (inl (record { source = (bytes, span_of w); is = refl; word = chain_of bytes w m }))
-primary_out h e w (spells.paren {h = k} {e = i} {u = u} l r isl m isr) = inl (record {
-  source = (place_of l, measured (spelled (l ∷ u ++ r ∷ []) (node.Paren i)) (suc k));
-  is = refl;
-  word = join (spot l isl) (record {
-    source = (measured i k, place_of r);
-    word = join m (spot r isr);
-    is = ap (λ s. measured (expr s (node.Paren i)) (suc k)) (sym (span_between l u r));
-  });
-})
+primary_out h e w (spells.paren {h = k} {e = i} {u = u} l r isl m isr) =
+    inl (after_into (punctuator mark.LeftParen) Opened l (measured (spelled (l ∷ u ++ r ∷ []) (node.Paren i)) (suc k)) (u ++ r ∷ []) isl (record {
+      source = (measured i k, place_of r);
+      word = join m (spot r isr);
+      is = ap (λ s. measured (expr s (node.Paren i)) (suc k)) (sym (span_between l u r));
+    }))
 
-paren_starts : (v : Measured) (w : List Token) → Paren v w → StartsIn (is (punctuator mark.LeftParen)) w
-paren_starts v w m = spot_starts (punctuator mark.LeftParen) Opened m.source w m.word
+plain_no_open : (x : Token) → among plain_words x ≡ true → is (punctuator mark.LeftParen) x ≡ false
+plain_no_open x h = is_not_first (punctuator mark.LeftParen) (word_of x) (apart_words plain_words (punctuator mark.LeftParen ∷ []) refl (word_of x) h)
 
-paren_begins : (t : Token) → is (punctuator mark.LeftParen) t ≡ true → Begins Paren (t ∷ [])
-paren_begins t e =
-    let b = spot_begins (punctuator mark.LeftParen) Opened t e (opened_begins (place_of t)) in
-    record { value = b.value.1; more = b.more; whole = record { source = b.value; is = refl; word = b.whole } }
+-- a primary expression that begins with no "("
+pub primary_plain : (v : Measured) (w : List Token) → PrimaryWord v w → StartsIn (among plain_words) w → PlainWord v w
+primary_plain v w p s = go (primary_out v.height v.tree w p)
+  where
+    go : Either Paren PlainWord v w → PlainWord v w
+    go (inl m) = absurd (apart_starts (among plain_words) (is (punctuator mark.LeftParen)) w s (after_starts (punctuator mark.LeftParen) Opened v w m) plain_no_open)
+    go (inr m) = m
 
-paren_high : (c : Span × Measured) (w : List Token) → Then (Spot (punctuator mark.LeftParen)) Opened c w → 0 < c.1.height
-paren_high c w (join (spot l is) m) = omega (arith, ap (λ v. v.height) m.is)
+-- one that begins with "("
+pub primary_opened : (t : Token) → word_of t ≡ punctuator mark.LeftParen → (v : Measured) (w u : List Token) → PrimaryWord v w → w ≡ t ∷ u → Opened (place_of t) v u
+primary_opened t open_ v w u p e = go (primary_out v.height v.tree w p)
+  where
+    begins_open : StartsIn (is (punctuator mark.LeftParen)) w
+    begins_open = record { head = t; tail = u; parts = e; is_first = is_equal (word_of t) (punctuator mark.LeftParen) open_ }
 
-paren_needs : (d : ℕ) (v : Measured) (w : List Token) → Paren v w → Low d v → room d ≡ true
-paren_needs d v w m low = is_below 0 d (omega (arith, paren_high m.source w m.word, ap (λ v. v.height) m.is))
+    go : Either Paren PlainWord v w → Opened (place_of t) v u
+    go (inl m) =
+        let q : AfterParts (punctuator mark.LeftParen) Opened v w = after_parts (punctuator mark.LeftParen) Opened v w m in
+        let both = sym q.parts ∙ e in
+        let same : q.token ≡ t = cc in
+        let left : q.rest ≡ u = cc in
+        subst (λ u. Opened (place_of t) v u) left (subst (λ t. Opened (place_of t) v q.rest) same q.word)
+    go (inr m) = absurd (apart_starts (among plain_words) (is (punctuator mark.LeftParen)) w ((plain_good v.height).starts v w m) begins_open plain_no_open)
+
+pub opened_high : (l : Span) (v : Measured) (u : List Token) → Opened l v u → 0 < v.height
+opened_high l v u m = omega (arith, ap (λ v. v.height) m.is)
 
 close_none : operator_word (punctuator mark.RightParen) ≡ None
 unfolding operator_word
 close_none = refl
 
 module _ (d : ℕ) (below : Expressions) (good : 0 < d → GoodExpressions (d - 1) below) where
-  opened_good : 0 < d → (l : Span) → Good (opened d below l) (Opened l) (Low d) begins nothing
+  pub opened_good : 0 < d → (l : Span) → Good (opened d below l) (Opened l) (Low d) begins text_behind
   unfolding opened
-  opened_good h l = makes_good (paren_of l) (Opened l) (Low d) nothing
+  opened_good h l = makes_good (paren_of l) (Opened l) (Low d) text_behind
       (thens_good (λ _. punct mark.RightParen) (λ _. Spot (punctuator mark.RightParen)) (λ _. Always) (is (punctuator mark.RightParen)) (λ _. nothing)
       (good h).expression (λ _ _. punct_good mark.RightParen) (λ _. punct_begins mark.RightParen)
       (λ a x e. closes_all a (punctuator mark.RightParen) x refl close_none refl refl e))
       (λ a w m. record { source = a; is = refl; word = m }) (λ b w m. m)
       (λ a w m fits. omega (arith, fits.0)) (λ a w m fits. (omega (arith, fits), tt)) (λ a x e. refl)
-
-  paren_good : room d ≡ true → Good (makes (λ c. c.1) (thens (punct mark.LeftParen) (opened d below))) Paren (Low d) (is (punctuator mark.LeftParen)) nothing
-  paren_good r = makes_good (λ c. c.1) Paren (Low d) nothing
-      (thens_good (opened d below) Opened (λ _. Low d) begins (λ _. nothing)
-      (punct_good mark.LeftParen) (λ l _. opened_good (below_is 0 d r) l) opened_begins (λ a x e. refl))
-      (λ a w m. record { source = a; is = refl; word = m }) (λ b w m. m)
-      (λ a w m fits. fits.1) (λ a w m fits. (tt, fits)) (λ a x e. refl)
-
-  pub primary_good : Good (primary d below) PrimaryWord (Low d) opens text_behind
-  unfolding primary
-  primary_good = good_as PrimaryWord (Low d) opens
-      (either_good (is (punctuator mark.LeftParen)) (room d) opens
-      (λ r. good_on text_behind (paren_good r) (λ a x h. refl)) (plain_good d)
-      paren_begins (paren_needs d) paren_starts
-      (λ x h. is_not_first (punctuator mark.LeftParen) (word_of x) (apart_words plain_list (punctuator mark.LeftParen ∷ []) refl (word_of x) h))
-      (λ x h. is_at (one_word primary_words) (punctuator mark.LeftParen) x h) (λ x h. within_words plain_list primary_words refl (word_of x) h))
-      primary_into (λ v w c. primary_out v.height v.tree w c) (λ v w c low. low) (λ v w c low. low) (λ x h. h)

@@ -1,266 +1,55 @@
 -- What follows an operand is read.
-use Rattle.std.specs.Prelude.{◌≡◌, ℕ, suc, ◌-◌, ◌<◌, ◌≤◌, ◌==◌, max, Bool, true, false, ◌||◌, if◌then◌else◌, List, [], ◌∷◌, ◌++◌, Option, Some, None, is_some, refl}
+use Rattle.std.specs.Prelude.{◌≡◌, ℕ, suc, ◌-◌, ◌<◌, ◌==◌, max, Bool, true, false, ◌||◌, if◌then◌else◌, List, [], ◌∷◌, ◌++◌, Option, Some, None, is_some, refl}
 use Rattle.std.proofs.Common.{sym, ◌∙◌, ap, subst, arith, inl, inr}
 use Rattle.c_ast.specs.declared.token.Span.{Span}
 use Rattle.c_ast.specs.declared.token.Token.{Token}
-use Rattle.c_ast.specs.declared.token.Lexeme.{Lexeme}
-use Rattle.c_ast.specs.declared.token.Lexeme.TheVariants as lexeme
 use Rattle.c_ast.specs.declared.expr.Expr.{Expr}
-use Rattle.c_ast.specs.declared.expr.Node.{Node}
 use Rattle.c_ast.specs.declared.expr.Node.TheVariants as node
 use Rattle.c_ast.specs.declared.operator.Step.{Step}
 use Rattle.c_ast.specs.declared.operator.Step.TheVariants as step
 use Rattle.c_ast.specs.Tree.{expr}
-use Rattle.c_ast.specs.Words.{punctuator_number}
-use Rattle.c_ast.specs.declared.punctuator.Punctuator.{Punctuator}
 use Rattle.c_ast.specs.declared.punctuator.Punctuator.TheVariants as mark
 use Rattle.c_grammar.specs.Words.{word_of, punctuator, span_of, end_of, last_end}
-use Rattle.c_grammar.specs.Operators.{StepWord, Behind}
+use Rattle.c_grammar.specs.Expressions as spells
+use Rattle.c_grammar.specs.Expressions.{Postfix}
 use Rattle.c_reader.specs.declared.words.Named.{Named}
-use Rattle.c_reader.specs.Answer.{Parser, thens, makes, word}
+use Rattle.c_reader.specs.Answer.{thens, makes, word}
 use Rattle.c_reader.specs.Good.{Language, Begins, StartsIn, Good}
-use Rattle.c_reader.specs.Languages.{Word, word_of as one_word_of, Then, join, Either, Chain, once, again}
-use Rattle.c_reader.specs.Laws.{Always, nothing, picks, word_good, thens_good, Made, makes_good, either_good}
+use Rattle.c_reader.specs.Languages.{Word, word_of as one_word_of, Then, join, Either}
+use Rattle.c_reader.specs.Laws.{Always, nothing, thens_good, Made, makes_good, either_good}
 use Rattle.c_reader.specs.ChainLaws.{MayTurn, chain_good}
-use Rattle.c_reader.specs.Words.{is, punct, name, pick_name, named_at, place_of}
-use Rattle.c_reader.specs.WordGood.{token_of, Spot, spot, good_as, punct_good, punct_begins, spot_starts, spot_begins, equal_is}
+use Rattle.c_reader.specs.Words.{is, punct, name, pick_name, place_of}
+use Rattle.c_reader.specs.WordGood.{Spot, spot, good_as, punct_good, punct_begins, spot_begins, equal_is}
 use Rattle.c_reader.specs.SpanLaws.{last_end_append}
 use Rattle.c_expressions.specs.declared.measured.Measured.{Measured}
 use Rattle.c_expressions.specs.declared.suffix.Arguments.{Arguments}
 use Rattle.c_expressions.specs.declared.suffix.Suffix.{Suffix}
 use Rattle.c_expressions.specs.declared.suffix.Suffix.TheVariants as suffix
-use Rattle.c_expressions.specs.Nodes.{one_argument, more_arguments, no_arguments, applied, height_behind}
-use Rattle.c_expressions.specs.Operators.{operator_word}
-use Rattle.c_expressions.specs.WordLists.{one_word, among, is_at, is_not, is_not_first, apart_words, within_words, none_within, both_false, or_false}
-use Rattle.c_expressions.specs.Expressions.{Expressions, has_room, further, arguments, called, indexed, behind, apply, postfix, short_suffix, pick_step, suffix_words, begins_suffix}
-use Rattle.c_expressions.specs.Levels.{Low, PrimaryWord, PostfixWord, ExpressionWord, begin_words, opens, begins, expression_on, operand_words, GoodExpressions, measured, below_is, is_below, closes_all, starts_postfix, postfix_span, span_behind, reach, example, example_token, example_expression, expression_begins}
-use Rattle.c_expressions.specs.PrimaryLaws.{primary_good, text_behind}
-use Rattle.c_expressions.specs.Sums as spells
-use Rattle.c_expressions.specs.Sums.{Postfix, ArgumentList}
-
--- ---- a word of one token and a word behind it
-
--- the word, and what stands behind it
-abbrev pub Marked : {B : Type 0} → Punctuator → Language Token B → Language Token B
-Marked {B} p M = Made (λ (c : Span × B). c.1) (Then (Spot (punctuator p)) (λ _. M))
-
-pub marked_into : {B : Type 0} (p : Punctuator) (M : Language Token B) (t : Token) (b : B) (w : List Token) → word_of t ≡ punctuator p → M b w → Marked p M b (t ∷ w)
-marked_into p M t b w e m = record { source = (place_of t, b); is = refl; word = join (spot t e) m }
-
--- the token and the rest
-pub record Parts {B : Type 0} (p : Punctuator) (M : Language Token B) (b : B) (w : List Token) : Type 0 where
-  pub token : Token
-  pub rest : List Token
-  pub parts : w ≡ token ∷ rest
-  pub is_mark : word_of token ≡ punctuator p
-  pub word : M b rest
-
-parts_joined : {B : Type 0} (p : Punctuator) (M : Language Token B) (c : Span × B) (w : List Token) → Then (Spot (punctuator p)) (λ _. M) c w → Parts p M c.1 w
-parts_joined p M c w (join {v = u} (spot t e) m) = record { token = t; rest = u; parts = refl; is_mark = e; word = m }
-
-pub marked_parts : {B : Type 0} (p : Punctuator) (M : Language Token B) (b : B) (w : List Token) → Marked p M b w → Parts p M b w
-marked_parts p M b w m = subst (λ b. Parts p M b w) m.is (parts_joined p M m.source w m.word)
-
-pub marked_starts : {B : Type 0} (p : Punctuator) (M : Language Token B) (b : B) (w : List Token) → Marked p M b w → StartsIn (is (punctuator p)) w
-marked_starts p M b w m = spot_starts (punctuator p) (λ _. M) m.source w m.word
-
-pub marked_begins : {B : Type 0} (p : Punctuator) (M : Language Token B) (t : Token) → is (punctuator p) t ≡ true → Begins M [] → Begins (Marked p M) (t ∷ [])
-marked_begins p M t e b =
-    let c = spot_begins (punctuator p) (λ _. M) t e b in
-    record { value = c.value.1; more = c.more; whole = record { source = c.value; is = refl; word = c.whole } }
-
-pub marked_good : {B : Type 0} (p : Punctuator) {q : Parser Token B} {M : Language Token B} {F : B → Type 0} {first : Token → Bool} {last : B → Token → Bool} →
-    Good q M F first last → Begins M [] → Good (makes (λ c. c.1) (thens (punct p) (λ _. q))) (Marked p M) F (is (punctuator p)) last
-marked_good p {q} {M} {F} {first} {last} g b = makes_good (λ c. c.1) (Marked p M) F last
-    (thens_good (λ _. q) (λ _. M) (λ _. F) first (λ _. last) (punct_good p) (λ _ _. g) (λ _. b) (λ a x e. refl))
-    (λ a w m. record { source = a; is = refl; word = m }) (λ b w m. m) (λ a w m fits. fits.1) (λ a w m fits. (tt, fits)) (λ a x e. e)
-
--- ---- arguments
-
-abbrev pub ArgumentsWord : Language Token Arguments
-ArgumentsWord a w = ArgumentList a.height a.trees w
-
-abbrev pub LowArguments : ℕ → Arguments → Type 0
-LowArguments d a = a.height ≤ d
-
-abbrev comma : Token → Bool
-comma = is (punctuator mark.Comma)
-
-abbrev pub One : Language Token Arguments
-One = Made one_argument ExpressionWord
-
-abbrev pub Further : Arguments → Language Token Arguments
-Further a = Made (λ (c : Span × Measured). more_arguments a c.1) (Then (Spot (punctuator mark.Comma)) (λ _. ExpressionWord))
-
-further_made : (a : Arguments) (c : Span × Measured) (w u : List Token) → ArgumentsWord a w → Then (Spot (punctuator mark.Comma)) (λ _. ExpressionWord) c u →
-    ArgumentsWord (more_arguments a c.1) (w ++ u)
-further_made a c w u l (join {v = v} (spot t e) m) = spells.more_argument t l e m
-
-arguments_into : (a : Arguments) (w : List Token) → Chain One Further a w → ArgumentsWord a w
-arguments_into a w (once m) = subst (λ a. ArgumentsWord a w) m.is (spells.argument m.word)
-arguments_into a w (again {a = b} {w = v} {u = u} c m) = subst (λ a. ArgumentsWord a (v ++ u)) m.is (further_made b m.source v u (arguments_into b v c) m.word)
-
-abbrev listed : List Expr → ℕ → Arguments
-listed es h = record { trees = es; height = h }
-
-arguments_out : (h : ℕ) (es : List Expr) (w : List Token) → ArgumentList h es w → Chain One Further (listed es h) w
-arguments_out h es w (spells.argument {e = e} m) = once (record { source = measured e h; is = refl; word = m })
-arguments_out h es w (spells.more_argument {h = i} {k = j} {es = fs} {e = e} {u = u} {v = v} c l isc m) =
-    again (arguments_out i fs u l) (record { source = (place_of c, measured e j); is = refl; word = join (spot c isc) m })
-
--- a comma goes on behind arguments
-abbrev argument_on : Arguments → Token → Bool
-argument_on a t = expression_on example t || comma t
-
-comma_none : operator_word (punctuator mark.Comma) ≡ None
-unfolding operator_word
-comma_none = refl
-
-close_none : operator_word (punctuator mark.RightParen) ≡ None
-unfolding operator_word
-close_none = refl
-
-bracket_none : operator_word (punctuator mark.RightBracket) ≡ None
-unfolding operator_word
-bracket_none = refl
-
-arguments_begin : Begins ArgumentsWord []
-arguments_begin = record { value = one_argument example; more = example_token ∷ []; whole = spells.argument (example_expression) }
-
--- ---- members and steps
-
--- a name by a token
-named_kind : (place : Span) (kind : Lexeme) (n : Named) → named_at place kind ≡ Some n → (kind ≡ lexeme.Name n.name) × (n.place ≡ place)
-named_kind place (lexeme.Name b) n h =
-    let same : record { name = b; place = place } ≡ n = cc in (ap (λ (n : Named). lexeme.Name n.name) same, ap (λ (n : Named). n.place) (sym same))
-named_kind place (lexeme.Number value ty) n h = cc
-named_kind place (lexeme.Character value) n h = cc
-named_kind place (lexeme.Text b) n h = cc
-named_kind place lexeme.Include n h = cc
-named_kind place (lexeme.Keyword k) n h = cc
-named_kind place (lexeme.Punct p) n h = cc
-
-abbrev named_example : Named
-named_example = record { name = []; place = place_of (token_of (lexeme.Name [])) }
-
-name_good : Good name (Word pick_name) Always (picks pick_name) nothing
-unfolding name
-name_good = word_good pick_name (record { token = token_of (lexeme.Name []); value = named_example; is = refl })
-
-name_begins : Begins (Word pick_name) []
-name_begins = record { value = named_example; more = token_of (lexeme.Name []) ∷ []; whole = one_word_of refl }
-
-abbrev MemberWord : Language Token Suffix
-MemberWord = Made (λ (c : Span × Named). suffix.Member c.1) (Then (Spot (punctuator mark.Dot)) (λ _. Word pick_name))
-
-abbrev ArrowWord : Language Token Suffix
-ArrowWord = Made (λ (c : Span × Named). suffix.Arrow c.1) (Then (Spot (punctuator mark.Arrow)) (λ _. Word pick_name))
-
-abbrev ShortWord : Language Token Suffix
-ShortWord = Either MemberWord (Either ArrowWord (Word pick_step))
-
--- the token is this step behind an operand
-record IsStep (t : Token) (s : Suffix) : Type 0 where
-  step : Step
-  is_suffix : suffix.Step step (place_of t) ≡ s
-  word : StepWord Behind step t
-
-step_is : (t : Token) (s : Suffix) (x : Bool) → is (punctuator mark.PlusPlus) t ≡ x → (y : Bool) → is (punctuator mark.MinusMinus) t ≡ y →
-    (if x then Some (suffix.Step step.PostIncrement (place_of t)) else (if y then Some (suffix.Step step.PostDecrement (place_of t)) else None)) ≡ Some s → IsStep t s
-step_is t s true h y k e = record { step = step.PostIncrement; is_suffix = cc; word = (refl, equal_is (word_of t) (punctuator mark.PlusPlus) h) }
-step_is t s false h true k e = record { step = step.PostDecrement; is_suffix = cc; word = (refl, equal_is (word_of t) (punctuator mark.MinusMinus) k) }
-step_is t s false h false k e = cc
-
-abbrev step_at : Span → ℕ → Option Suffix
-step_at place w = if w == punctuator mark.PlusPlus then Some (suffix.Step step.PostIncrement place)
-    else (if w == punctuator mark.MinusMinus then Some (suffix.Step step.PostDecrement place) else None)
-
-step_picked : (t : Token) (s : Step) → StepWord Behind s t → pick_step t ≡ Some (suffix.Step s (place_of t))
-step_picked t step.PreIncrement h = let bad = h.0 in cc
-step_picked t step.PreDecrement h = let bad = h.0 in cc
-step_picked t step.PostIncrement h = ap (step_at (place_of t)) h.1
-step_picked t step.PostDecrement h = ap (step_at (place_of t)) h.1
-
-abbrev step_token : Token
-step_token = token_of (lexeme.Punct (punctuator_number mark.PlusPlus))
-
-abbrev LowSuffix : ℕ → Suffix → Type 0
-LowSuffix d s = height_behind s < d
-
-step_low : (d : ℕ) (s : Suffix) (w : List Token) → 0 < d → Word pick_step s w → LowSuffix d s
-step_low d s w h (one_word_of {x = t} e) =
-    let i : IsStep t s = step_is t s (is (punctuator mark.PlusPlus) t) refl (is (punctuator mark.MinusMinus) t) refl e in
-    subst (LowSuffix d) i.is_suffix h
-
--- which tokens are picked
-picked_step : (t : Token) (o : Option Suffix) → pick_step t ≡ o → is_some o ≡ true → one_word (punctuator mark.PlusPlus ∷ punctuator mark.MinusMinus ∷ []) (word_of t) ≡ true
-picked_step t None e h = cc
-picked_step t (Some s) e h =
-    let i : IsStep t s = step_is t s (is (punctuator mark.PlusPlus) t) refl (is (punctuator mark.MinusMinus) t) refl e in
-    step_word_one t i.step i.word
-  where
-    step_word_one : (t : Token) (s : Step) → StepWord Behind s t → one_word (punctuator mark.PlusPlus ∷ punctuator mark.MinusMinus ∷ []) (word_of t) ≡ true
-    step_word_one t step.PreIncrement h = let bad = h.0 in cc
-    step_word_one t step.PreDecrement h = let bad = h.0 in cc
-    step_word_one t step.PostIncrement h = ap (one_word (punctuator mark.PlusPlus ∷ punctuator mark.MinusMinus ∷ [])) h.1
-    step_word_one t step.PostDecrement h = ap (one_word (punctuator mark.PlusPlus ∷ punctuator mark.MinusMinus ∷ [])) h.1
-
-abbrev steps_list : List ℕ
-steps_list = punctuator mark.PlusPlus ∷ punctuator mark.MinusMinus ∷ []
-
-abbrev arrows_list : List ℕ
-arrows_list = punctuator mark.Arrow ∷ steps_list
-
-abbrev short_list : List ℕ
-short_list = punctuator mark.Dot ∷ arrows_list
-
-step_good : (d : ℕ) → 0 < d → Good (word pick_step) (Word pick_step) (LowSuffix d) (among steps_list) nothing
-step_good d h = good_as (Word pick_step) (LowSuffix d) (among steps_list)
-    (word_good pick_step (record { token = step_token; value = suffix.Step step.PostIncrement (place_of step_token); is = refl }))
-    (λ a w m. m) (λ a w m. m) (λ a w m _. step_low d a w h m) (λ a w m low. tt) (λ x e. picked_step x (pick_step x) refl e)
-
-named_suffix_good : (d : ℕ) → 0 < d → (p : Punctuator) (f : Named → Suffix) → ((n : Named) → height_behind (f n) ≡ 0) →
-    Good (makes (λ c. f c.1) (thens (punct p) (λ _. name))) (Made (λ (c : Span × Named). f c.1) (Then (Spot (punctuator p)) (λ _. Word pick_name))) (LowSuffix d) (is (punctuator p)) nothing
-named_suffix_good d h p f low = makes_good (λ c. f c.1) (Made (λ (c : Span × Named). f c.1) (Then (Spot (punctuator p)) (λ _. Word pick_name))) (LowSuffix d) nothing
-    (thens_good (λ _. name) (λ _. Word pick_name) (λ _. Always) (picks pick_name) (λ _. nothing) (punct_good p) (λ _ _. name_good) (λ _. name_begins) (λ a x e. refl))
-    (λ c w m. record { source = c; is = refl; word = m }) (λ b w m. m)
-    (λ c w m fits. omega (arith, low c.1)) (λ c w m fits. (tt, tt)) (λ a x e. refl)
-
-named_begins : (p : Punctuator) (f : Named → Suffix) (t : Token) → is (punctuator p) t ≡ true → Begins (Made (λ (c : Span × Named). f c.1) (Then (Spot (punctuator p)) (λ _. Word pick_name))) (t ∷ [])
-named_begins p f t e =
-    let c = spot_begins (punctuator p) (λ _. Word pick_name) t e name_begins in
-    record { value = f c.value.1; more = c.more; whole = record { source = c.value; is = refl; word = c.whole } }
-
-named_starts : (p : Punctuator) (f : Named → Suffix) (s : Suffix) (w : List Token) → Made (λ (c : Span × Named). f c.1) (Then (Spot (punctuator p)) (λ _. Word pick_name)) s w → StartsIn (is (punctuator p)) w
-named_starts p f s w m = spot_starts (punctuator p) (λ _. Word pick_name) m.source w m.word
-
-short_good : (d : ℕ) → 0 < d → Good short_suffix ShortWord (LowSuffix d) (among short_list) nothing
-unfolding short_suffix
-short_good d h =
-    either_good (is (punctuator mark.Dot)) true (among short_list) (λ r. named_suffix_good d h mark.Dot suffix.Member (λ n. refl))
-    (either_good (is (punctuator mark.Arrow)) true (among arrows_list) (λ r. named_suffix_good d h mark.Arrow suffix.Arrow (λ n. refl)) (step_good d h)
-    (named_begins mark.Arrow suffix.Arrow) (λ a w l f. refl) (named_starts mark.Arrow suffix.Arrow)
-    (λ x e. is_not_first (punctuator mark.Arrow) (word_of x) (apart_words steps_list (punctuator mark.Arrow ∷ []) refl (word_of x) e))
-    (λ x e. is_at (one_word arrows_list) (punctuator mark.Arrow) x e) (λ x e. within_words steps_list arrows_list refl (word_of x) e))
-    (named_begins mark.Dot suffix.Member) (λ a w l f. refl) (named_starts mark.Dot suffix.Member)
-    (λ x e. is_not_first (punctuator mark.Dot) (word_of x) (apart_words arrows_list (punctuator mark.Dot ∷ []) refl (word_of x) e))
-    (λ x e. is_at (one_word short_list) (punctuator mark.Dot) x e) (λ x e. within_words arrows_list short_list refl (word_of x) e)
+use Rattle.c_expressions.specs.Nodes.{one_argument, more_arguments, no_arguments, applied}
+use Rattle.c_reader.specs.WordLists.{one_word, among, is_at, is_not_first, apart_words, within_words, both_false, or_false}
+use Rattle.c_reader.specs.Depths.{below_is}
+use Rattle.c_expressions.specs.Expressions.{Expressions, has_room, further, arguments, called, indexed, behind, apply, pick_step, suffix_words, begins_suffix}
+use Rattle.c_expressions.specs.Levels.{Low, PostfixWord, ExpressionWord, begin_words, opens, begins, expression_on, GoodExpressions, closes_all, starts_postfix, postfix_span, span_behind, reach, example, example_token, example_expression, expression_begins}
+use Rattle.c_expressions.specs.PrimaryLaws.{text_behind}
+use Rattle.c_expressions.specs.MarkedLaws.{Marked, Parts, marked_parts, marked_starts, marked_begins, marked_good}
+use Rattle.c_expressions.specs.ArgumentLaws.{ArgumentsWord, LowArguments, comma, One, Further, arguments_into, listed, arguments_out, argument_on, comma_none, close_none, bracket_none}
+use Rattle.c_expressions.specs.StepLaws.{named_kind, ShortWord, IsStep, step_is, LowSuffix, steps_list, arrows_list, short_list, named_begins, short_good}
 
 -- ---- calls and indices
 
-abbrev IndexedWord : Language Token Suffix
+abbrev pub IndexedWord : Language Token Suffix
 IndexedWord = Made (λ (c : Measured × Span). suffix.Index c.0 c.1) (Then ExpressionWord (λ _. Spot (punctuator mark.RightBracket)))
 
-abbrev EmptyCall : Language Token Suffix
+abbrev pub EmptyCall : Language Token Suffix
 EmptyCall = Made (suffix.Call no_arguments) (Spot (punctuator mark.RightParen))
 
-abbrev FullCall : Language Token Suffix
+abbrev pub FullCall : Language Token Suffix
 FullCall = Made (λ (c : Arguments × Span). suffix.Call c.0 c.1) (Then ArgumentsWord (λ _. Spot (punctuator mark.RightParen)))
 
-abbrev CalledWord : Language Token Suffix
+abbrev pub CalledWord : Language Token Suffix
 CalledWord = Either EmptyCall FullCall
 
-abbrev SuffixWord : Language Token Suffix
+abbrev pub SuffixWord : Language Token Suffix
 SuffixWord = Either (Marked mark.LeftBracket IndexedWord) (Either (Marked mark.LeftParen CalledWord) ShortWord)
 
 abbrev called_list : List ℕ
@@ -287,7 +76,7 @@ empty_begins t e = record { value = suffix.Call no_arguments (place_of t); more 
 
 -- ---- an operand with what follows it
 
-applied_span : (a : Measured) (w : List Token) (t : Token) (v : List Token) (end : ℕ) → PostfixWord a w → last_end t v ≡ end → span_of (w ++ t ∷ v) ≡ reach a.tree.span.start end
+pub applied_span : (a : Measured) (w : List Token) (t : Token) (v : List Token) (end : ℕ) → PostfixWord a w → last_end t v ≡ end → span_of (w ++ t ∷ v) ≡ reach a.tree.span.start end
 applied_span a w t v end p e =
     span_behind opens w t v end (starts_postfix a.height a.tree w p) e ∙ ap (λ s. reach s.start end) (sym (postfix_span a.height a.tree w p))
 
@@ -309,7 +98,7 @@ empty_made a q w u l p isl (spot r isr) =
     subst (λ s. Postfix (suc (max a.height 0)) (expr s (node.Call a.tree [])) (w ++ (l ∷ r ∷ [])))
     (applied_span a w l (r ∷ []) (end_of r) p refl) (spells.call l r p isl spells.no_argument isr)
 
-same_height : (h : ℕ) → suc h ≡ suc (max h 0)
+pub same_height : (h : ℕ) → suc h ≡ suc (max h 0)
 same_height h = omega arith
 
 member_made : (a : Measured) (c : Span × Named) (w u : List Token) → PostfixWord a w →
@@ -340,7 +129,7 @@ called_made : (a : Measured) (s : Suffix) (w u : List Token) (l : Token) → Pos
 called_made a s w u l p isl (inl m) = subst (λ s. PostfixWord (applied a s) (w ++ l ∷ u)) m.is (empty_made a m.source w u l p isl m.word)
 called_made a s w u l p isl (inr m) = subst (λ s. PostfixWord (applied a s) (w ++ l ∷ u)) m.is (call_made a m.source w u l p isl m.word)
 
-suffix_made : (a : Measured) (s : Suffix) (w u : List Token) → PostfixWord a w → SuffixWord s u → PostfixWord (applied a s) (w ++ u)
+pub suffix_made : (a : Measured) (s : Suffix) (w u : List Token) → PostfixWord a w → SuffixWord s u → PostfixWord (applied a s) (w ++ u)
 suffix_made a s w u p (inl m) =
     let q : Parts mark.LeftBracket IndexedWord s u = marked_parts mark.LeftBracket IndexedWord s u m in
     subst (λ u. PostfixWord (applied a s) (w ++ u)) (sym q.parts)
@@ -356,52 +145,9 @@ suffix_made a s w u p (inr (inr (inr (inr m)))) = step_made a s w u p m
 abbrev pub Applied : Measured → Language Token Measured
 Applied a = Made (applied a) SuffixWord
 
-postfix_into : (v : Measured) (w : List Token) → Chain PrimaryWord Applied v w → PostfixWord v w
-postfix_into v w (once m) = spells.primary m
-postfix_into v w (again {a = a} {w = u} {u = x} c m) = subst (λ v. PostfixWord v (u ++ x)) m.is (suffix_made a m.source u x (postfix_into a u c) m.word)
-
-call_out : (k : ℕ) (es : List Expr) (v : List Token) (r : Token) → spells.Arguments k es v → word_of r ≡ punctuator mark.RightParen → CalledWord (suffix.Call (listed es k) (place_of r)) (v ++ r ∷ [])
+pub call_out : (k : ℕ) (es : List Expr) (v : List Token) (r : Token) → spells.Arguments k es v → word_of r ≡ punctuator mark.RightParen → CalledWord (suffix.Call (listed es k) (place_of r)) (v ++ r ∷ [])
 call_out k es v r spells.no_argument isr = inl (record { source = place_of r; is = refl; word = spot r isr })
 call_out k es v r (spells.arguments m) isr = inr (record { source = (listed es k, place_of r); is = refl; word = join m (spot r isr) })
-
-abbrev spanned : Node → ℕ → Span → Measured
-spanned n h s = measured (expr s n) h
-
-postfix_out : (h : ℕ) (e : Expr) (w : List Token) → Postfix h e w → Chain PrimaryWord Applied (measured e h) w
-postfix_out h e w (spells.primary p) = once p
-postfix_out h e w (spells.index {h = i} {k = k} {e = a} {i = b} {u = u} {v = v} l r p isl m isr) = again (postfix_out i a u p) (record {
-  source = suffix.Index (measured b k) (place_of r);
-  is = ap (spanned (node.Index a b) (suc (max i k))) (sym (applied_span (measured a i) u l (v ++ r ∷ []) (end_of r) p (last_end_append l v r [])));
-  word = inl (marked_into mark.LeftBracket IndexedWord l (suffix.Index (measured b k) (place_of r)) (v ++ r ∷ []) isl (record { source = (measured b k, place_of r); is = refl; word = join m (spot r isr) }));
-})
-postfix_out h e w (spells.call {h = i} {k = k} {e = a} {es = es} {u = u} {v = v} l r p isl m isr) = again (postfix_out i a u p) (record {
-  source = suffix.Call (listed es k) (place_of r);
-  is = ap (spanned (node.Call a es) (suc (max i k))) (sym (applied_span (measured a i) u l (v ++ r ∷ []) (end_of r) p (last_end_append l v r [])));
-  word = inr (inl (marked_into mark.LeftParen CalledWord l (suffix.Call (listed es k) (place_of r)) (v ++ r ∷ []) isl (call_out k es v r m isr)));
-})
-postfix_out h e w (spells.member {h = i} {e = a} {n = n} {u = u} d t p isd ist) = again (postfix_out i a u p) (record {
-  source = suffix.Member (record { name = n; place = place_of t });
-  is = ap (λ h. measured (expr (reach a.span.start (end_of t)) (node.Member a n)) h) (sym (same_height i))
-      ∙ ap (spanned (node.Member a n) (suc i)) (sym (applied_span (measured a i) u d (t ∷ []) (end_of t) p refl));
-  word = inr (inr (inl (record { source = (place_of d, record { name = n; place = place_of t }); is = refl; word = join (spot d isd) (one_word_of (ap (named_at (place_of t)) ist)) })));
-})
-postfix_out h e w (spells.arrow {h = i} {e = a} {n = n} {u = u} d t p isd ist) = again (postfix_out i a u p) (record {
-  source = suffix.Arrow (record { name = n; place = place_of t });
-  is = ap (λ h. measured (expr (reach a.span.start (end_of t)) (node.Arrow a n)) h) (sym (same_height i))
-      ∙ ap (spanned (node.Arrow a n) (suc i)) (sym (applied_span (measured a i) u d (t ∷ []) (end_of t) p refl));
-  word = inr (inr (inr (inl (record { source = (place_of d, record { name = n; place = place_of t }); is = refl; word = join (spot d isd) (one_word_of (ap (named_at (place_of t)) ist)) }))));
-})
-postfix_out h e w (spells.step_behind {h = i} {e = a} {s = s} {u = u} t p ist) = again (postfix_out i a u p) (record {
-  source = suffix.Step s (place_of t);
-  is = ap (λ h. measured (expr (reach a.span.start (end_of t)) (node.Step s a)) h) (sym (same_height i))
-      ∙ ap (spanned (node.Step s a) (suc i)) (sym (applied_span (measured a i) u t [] (end_of t) p refl));
-  word = inr (inr (inr (inr (one_word_of (step_picked t s ist)))));
-})
-
-may_apply : (d : ℕ) (a b : Measured) (u : List Token) → Applied a b u → Low d b → MayTurn (Low d) (has_room d) a
-may_apply d a b u m low =
-    let high : suc (max a.height (height_behind m.source)) ≡ b.height = ap (λ v. v.height) m.is in
-    record { fits = omega arith; has_room = is_below a.height d (omega arith) }
 
 -- ---- the parsers
 
@@ -478,7 +224,7 @@ module _ (d : ℕ) (below : Expressions) (good : 0 < d → GoodExpressions (d - 
       (λ c w m. record { source = c; is = refl; word = m }) (λ b w m. m)
       (λ c w m fits. omega (arith, fits)) (λ c w m fits. omega (arith, fits)) (λ c x e. refl)
 
-  suffix_begins : (a : Measured) (t : Token) → begins_suffix t ≡ true → Begins (Applied a) (t ∷ [])
+  pub suffix_begins : (a : Measured) (t : Token) → begins_suffix t ≡ true → Begins (Applied a) (t ∷ [])
   suffix_begins a t e = made_begins t (begins_of t e)
     where
       made_begins : (t : Token) → Begins SuffixWord (t ∷ []) → Begins (Applied a) (t ∷ [])
@@ -515,12 +261,3 @@ module _ (d : ℕ) (below : Expressions) (good : 0 < d → GoodExpressions (d - 
 
       begins_of : (t : Token) → begins_suffix t ≡ true → Begins SuffixWord (t ∷ [])
       begins_of t e = by_bracket t (is (punctuator mark.LeftBracket) t) refl e
-
-  pub postfix_good : Good (postfix d below) PostfixWord (Low d) opens (λ _ t. among operand_words t)
-  unfolding postfix
-  postfix_good = good_as PostfixWord (Low d) opens
-      (chain_good begins_suffix (has_room d) (apply d below) Applied apply_good (λ _ t. among operand_words t) (primary_good d below good)
-      suffix_begins (may_apply d)
-      (λ a x e. is_not_first 4 (word_of x) (apart_words suffix_words (4 ∷ []) refl (word_of x) e))
-      (λ a x e. (is_not operand_words 4 x refl e, none_within suffix_words operand_words refl (word_of x) e)))
-      postfix_into (λ v w c. postfix_out v.height v.tree w c) (λ v w c low. low) (λ v w c low. low) (λ x e. e)

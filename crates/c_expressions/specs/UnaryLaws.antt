@@ -1,6 +1,6 @@
 -- What stands before an operand is read.
-use Rattle.std.specs.Prelude.{◌≡◌, ℕ, suc, ◌-◌, ◌<◌, ◌==◌, Bool, true, false, ◌||◌, if◌then◌else◌, List, [], ◌∷◌, ◌++◌, Option, Some, None, is_some, refl}
-use Rattle.std.proofs.Common.{sym, ◌∙◌, ap, subst, arith, inl, inr}
+use Rattle.std.specs.Prelude.{◌≡◌, ℕ, suc, ◌-◌, ◌<◌, ◌==◌, Bool, true, false, ◌||◌, if◌then◌else◌, List, [], ◌∷◌, Option, Some, None, is_some, refl}
+use Rattle.std.proofs.Common.{sym, ◌∙◌, ap, subst, arith}
 use Rattle.c_ast.specs.declared.token.Span.{Span}
 use Rattle.c_ast.specs.declared.token.Token.{Token}
 use Rattle.c_ast.specs.declared.token.Lexeme.TheVariants as lexeme
@@ -15,21 +15,21 @@ use Rattle.c_ast.specs.declared.operator.UnaryOperator.{UnaryOperator}
 use Rattle.c_ast.specs.declared.operator.UnaryOperator.TheVariants as operator
 use Rattle.c_ast.specs.declared.punctuator.Punctuator.TheVariants as mark
 use Rattle.c_grammar.specs.Words.{word_of, punctuator, span_of}
-use Rattle.c_grammar.specs.Operators.{StepWord, Before, step_side}
+use Rattle.c_grammar.specs.Operators.{UnaryWord, StepWord, Before, step_side}
+use Rattle.c_grammar.specs.Expressions as spells
+use Rattle.c_grammar.specs.Expressions.{Unary, Cast, Binary}
 use Rattle.c_reader.specs.Answer.{word}
 use Rattle.c_reader.specs.Good.{Language, Begins, StartsIn, Good}
-use Rattle.c_reader.specs.Languages.{Word, word_of as one_word_of, Then, join, Either}
-use Rattle.c_reader.specs.Laws.{Always, nothing, word_good, thens_good, Made, makes_good, either_good}
+use Rattle.c_reader.specs.Languages.{Word, word_of as one_word_of, Then, join}
+use Rattle.c_reader.specs.Laws.{Always, nothing, word_good, thens_good, Made, makes_good}
 use Rattle.c_reader.specs.Words.{place_of}
 use Rattle.c_reader.specs.WordGood.{token_of, good_as, equal_is}
 use Rattle.c_expressions.specs.declared.measured.Measured.{Measured}
 use Rattle.c_expressions.specs.Nodes.{step_of, unary_of}
-use Rattle.c_expressions.specs.WordLists.{one_word, among, apart_from, apart_words, within_words}
-use Rattle.c_expressions.specs.Expressions.{Expressions, room, placed, step_word, unary_word, pick_placed, has_word, stepped, operated, unary}
-use Rattle.c_expressions.specs.Levels.{Low, UnaryWords, PostfixWord, BinaryWords, primary_words, step_words, unary_words, begin_words, operand_words, begins, GoodExpressions, measured, below_is, is_below, starts_unary, unary_span, span_before, reach, example, example_token, example_unary, binary_begins}
-use Rattle.c_expressions.specs.SuffixLaws.{postfix_good}
-use Rattle.c_expressions.specs.Sums as spells
-use Rattle.c_expressions.specs.Sums.{Unary, Cast, Binary}
+use Rattle.c_reader.specs.WordLists.{one_word, among, apart_from, apart_words}
+use Rattle.c_reader.specs.Depths.{below_is, is_below}
+use Rattle.c_expressions.specs.Expressions.{Expressions, room, placed, step_word, unary_word, pick_placed, has_word, step_words, unary_words, stepped, operated}
+use Rattle.c_expressions.specs.Levels.{Low, UnaryWords, BinaryWords, operand_words, begins, GoodExpressions, measured, starts_unary, starts_cast, unary_span, cast_span, span_before, reach, example, example_token, example_unary, binary_begins}
 
 -- ---- which words they are
 
@@ -38,12 +38,12 @@ pub chosen : {A : Type 0} (w v : ℕ) (a : A) (rest : Option A) (list : List ℕ
 chosen w v a rest list later true e h = refl
 chosen w v a rest list later false e h = later h
 
-step_listed : (w : ℕ) → is_some (step_word w) ≡ true → one_word step_words w ≡ true
+pub step_listed : (w : ℕ) → is_some (step_word w) ≡ true → one_word step_words w ≡ true
 step_listed w = chosen w (punctuator mark.PlusPlus) step.PreIncrement _ (punctuator mark.MinusMinus ∷ [])
     (chosen w (punctuator mark.MinusMinus) step.PreDecrement None [] (λ h. cc) (w == punctuator mark.MinusMinus) refl)
     (w == punctuator mark.PlusPlus) refl
 
-unary_listed : (w : ℕ) → is_some (unary_word w) ≡ true → one_word unary_words w ≡ true
+pub unary_listed : (w : ℕ) → is_some (unary_word w) ≡ true → one_word unary_words w ≡ true
 unary_listed w = chosen w (punctuator mark.Ampersand) operator.AddressOf _ (punctuator mark.Star ∷ punctuator mark.Plus ∷ punctuator mark.Minus ∷ punctuator mark.Tilde ∷ punctuator mark.Exclamation ∷ [])
     (chosen w (punctuator mark.Star) operator.Dereference _ (punctuator mark.Plus ∷ punctuator mark.Minus ∷ punctuator mark.Tilde ∷ punctuator mark.Exclamation ∷ [])
     (chosen w (punctuator mark.Plus) operator.Plus _ (punctuator mark.Minus ∷ punctuator mark.Tilde ∷ punctuator mark.Exclamation ∷ [])
@@ -124,53 +124,40 @@ Stepped = Made step_of (Then (Word (pick_placed step_word)) (λ _. UnaryWords))
 abbrev pub Operated : Language Token Measured
 Operated = Made unary_of (Then (Word (pick_placed unary_word)) (λ _. BinaryWords 0))
 
-abbrev UnaryParts : Language Token Measured
-UnaryParts = Either Stepped (Either Operated PostfixWord)
+-- an operand
+pub cast_of_operand : (h : ℕ) (e : Expr) (w : List Token) → Binary 0 h e w → Cast h e w
+cast_of_operand h e w (spells.operand c) = c
 
-pub operand_out : (h : ℕ) (e : Expr) (w : List Token) → Binary 0 h e w → Unary h e w
-operand_out h e w (spells.operand (spells.unary p)) = p
-
-before_span : (t : Token) (a : Measured) (u : List Token) → UnaryWords a u → span_of (t ∷ u) ≡ reach t.start a.tree.span.end
+pub before_span : (t : Token) (a : Measured) (u : List Token) → UnaryWords a u → span_of (t ∷ u) ≡ reach t.start a.tree.span.end
 before_span t a u m = span_before begins t u (starts_unary a.height a.tree u m) ∙ ap (λ (s : Span). reach t.start s.end) (sym (unary_span a.height a.tree u m))
 
-stepped_made : (c : (Step × Span) × Measured) (w : List Token) → Then (Word (pick_placed step_word)) (λ _. UnaryWords) c w → UnaryWords (step_of c) w
+pub stepped_made : (c : (Step × Span) × Measured) (w : List Token) → Then (Word (pick_placed step_word)) (λ _. UnaryWords) c w → UnaryWords (step_of c) w
 stepped_made c w (join {a = s} {b = a} {v = u} (one_word_of {x = t} e) m) =
     let p = placed_is (place_of t) (step_word (word_of t)) s e in
     subst (λ k. Unary (suc a.height) (expr k (node.Step s.0 a.tree)) (t ∷ u))
     (before_span t a u m ∙ ap (λ (k : Span). reach k.start a.tree.span.end) (sym p.1)) (spells.step_before t (step_is t s.0 p.0) m)
 
-operated_made : (c : (UnaryOperator × Span) × Measured) (w : List Token) → Then (Word (pick_placed unary_word)) (λ _. BinaryWords 0) c w → UnaryWords (unary_of c) w
+pub operated_made : (c : (UnaryOperator × Span) × Measured) (w : List Token) → Then (Word (pick_placed unary_word)) (λ _. BinaryWords 0) c w → UnaryWords (unary_of c) w
 operated_made c w (join {a = o} {b = a} {v = u} (one_word_of {x = t} e) m) =
     let p = placed_is (place_of t) (unary_word (word_of t)) o e in
-    let q = operand_out a.height a.tree u m in
+    let q = cast_of_operand a.height a.tree u m in
     subst (λ k. Unary (suc a.height) (expr k (node.Unary o.0 a.tree)) (t ∷ u))
-    (before_span t a u q ∙ ap (λ (k : Span). reach k.start a.tree.span.end) (sym p.1)) (spells.operated t (unary_is (word_of t) o.0 p.0) (spells.unary q))
+    (span_before begins t u (starts_cast a.height a.tree u q) ∙ ap (λ (s : Span). reach t.start s.end) (sym (cast_span a.height a.tree u q)) ∙ ap (λ (k : Span). reach k.start a.tree.span.end) (sym p.1))
+    (spells.operated t (unary_is (word_of t) o.0 p.0) q)
 
-unary_into : (v : Measured) (w : List Token) → UnaryParts v w → UnaryWords v w
-unary_into v w (inl m) = subst (λ v. UnaryWords v w) m.is (stepped_made m.source w m.word)
-unary_into v w (inr (inl m)) = subst (λ v. UnaryWords v w) m.is (operated_made m.source w m.word)
-unary_into v w (inr (inr p)) = spells.postfix p
+-- `++` or `--` and its operand
+pub stepped_out : (h : ℕ) (e : Expr) (s : Step) (t : Token) (u : List Token) → StepWord Before s t → Unary h e u → Stepped (step_of ((s, place_of t), measured e h)) (t ∷ u)
+stepped_out h e s t u is m = record { source = ((s, place_of t), measured e h); is = refl; word = join (one_word_of (ap (placed (place_of t)) (step_found t s is))) m }
 
-cast_out : (h : ℕ) (e : Expr) (w : List Token) → Cast h e w → Unary h e w
-cast_out h e w (spells.unary m) = m
+-- an operator and its operand
+pub operated_out : (h : ℕ) (e : Expr) (o : UnaryOperator) (t : Token) (u : List Token) → UnaryWord o t → Cast h e u → Operated (unary_of ((o, place_of t), measured e h)) (t ∷ u)
+operated_out h e o t u is m =
+    record { source = ((o, place_of t), measured e h); is = refl; word = join (one_word_of (ap (placed (place_of t)) (unary_found (word_of t) o is))) (spells.operand m) }
 
-unary_out : (h : ℕ) (e : Expr) (w : List Token) → Unary h e w → UnaryParts (measured e h) w
-unary_out h e w (spells.postfix p) = inr (inr p)
-unary_out h e w (spells.step_before {h = k} {e = a} {s = s} {u = u} t is m) = inl (record {
-  source = ((s, place_of t), measured a k);
-  is = ap (λ p. measured (expr p (node.Step s a)) (suc k)) (sym (before_span t (measured a k) u m));
-  word = join (one_word_of (ap (placed (place_of t)) (step_found t s is))) m;
-})
-unary_out h e w (spells.operated {h = k} {e = a} {o = o} {u = u} t is m) = inr (inl (record {
-  source = ((o, place_of t), measured a k);
-  is = ap (λ p. measured (expr p (node.Unary o a)) (suc k)) (sym (before_span t (measured a k) u (cast_out k a u m)));
-  word = join (one_word_of (ap (placed (place_of t)) (unary_found (word_of t) o is))) (spells.operand m);
-}))
-
-unary_begin : Begins UnaryWords []
+pub unary_begin : Begins UnaryWords []
 unary_begin = record { value = example; more = example_token ∷ []; whole = example_unary }
 
-begins_with : {A B : Type 0} (f : ℕ → Option A) (make : (A × Span) × Measured → B) (M : Language Token Measured) (t : Token) (o : Option A) → f (word_of t) ≡ o → is_some o ≡ true → Begins M [] →
+pub begins_with : {A B : Type 0} (f : ℕ → Option A) (make : (A × Span) × Measured → B) (M : Language Token Measured) (t : Token) (o : Option A) → f (word_of t) ≡ o → is_some o ≡ true → Begins M [] →
     Begins (Made make (Then (Word (pick_placed f)) (λ _. M))) (t ∷ [])
 begins_with f make M t None e h b = cc
 begins_with f make M t (Some a) e h b = record {
@@ -179,13 +166,22 @@ begins_with f make M t (Some a) e h b = record {
   whole = record { source = ((a, place_of t), b.value); is = refl; word = join (one_word_of (ap (placed (place_of t)) e)) b.whole };
 }
 
-starts_with : {A : Type 0} (f : ℕ → Option A) (M : Language Token Measured) (c : (A × Span) × Measured) (w : List Token) → Then (Word (pick_placed f)) (λ _. M) c w → StartsIn (has_word f) w
+pub starts_with : {A : Type 0} (f : ℕ → Option A) (M : Language Token Measured) (c : (A × Span) × Measured) (w : List Token) → Then (Word (pick_placed f)) (λ _. M) c w → StartsIn (has_word f) w
 starts_with f M c w (join {v = u} (one_word_of {x = t} e) m) = record { head = t; tail = u; parts = refl; is_first = placed_some (place_of t) (f (word_of t)) (ap is_some e) }
+
+-- a word that has a value is in no list that is apart from the list of these words
+pub apart_if : {A : Type 0} (f : ℕ → Option A) (vs ws : List ℕ) → ((w : ℕ) → is_some (f w) ≡ true → one_word vs w ≡ true) → apart_from ws vs ≡ true →
+    (x : Token) → among ws x ≡ true → has_word f x ≡ false
+apart_if f vs ws listed h x e = not_true (has_word f x) (λ k. let no_more = apart_words ws vs h (word_of x) e in let one = listed (word_of x) k in cc)
+  where
+    not_true : (b : Bool) → (b ≡ true → false ≡ true) → b ≡ false
+    not_true true h = sym (h refl)
+    not_true false h = refl
 
 -- ---- the parsers
 
 module _ (d : ℕ) (below : Expressions) (good : 0 < d → GoodExpressions (d - 1) below) where
-  stepped_good : room d ≡ true → Good (stepped d below) Stepped (Low d) (has_word step_word) (λ _ t. among operand_words t)
+  pub stepped_good : room d ≡ true → Good (stepped d below) Stepped (Low d) (has_word step_word) (λ _ t. among operand_words t)
   unfolding stepped
   stepped_good r =
       let deep : 0 < d = below_is 0 d r in
@@ -195,7 +191,7 @@ module _ (d : ℕ) (below : Expressions) (good : 0 < d → GoodExpressions (d - 
       (λ c w m. record { source = c; is = refl; word = m }) (λ b w m. m)
       (λ c w m fits. omega (arith, fits.1)) (λ c w m fits. (tt, omega (arith, fits))) (λ a x e. e)
 
-  operated_good : room d ≡ true → Good (operated d below) Operated (Low d) (has_word unary_word) (λ _ t. among operand_words t)
+  pub operated_good : room d ≡ true → Good (operated d below) Operated (Low d) (has_word unary_word) (λ _ t. among operand_words t)
   unfolding operated
   operated_good r =
       let deep : 0 < d = below_is 0 d r in
@@ -208,32 +204,8 @@ module _ (d : ℕ) (below : Expressions) (good : 0 < d → GoodExpressions (d - 
       operand_good : 0 < d → Good (below.binary 0) (BinaryWords 0) (Low (d - 1)) begins (λ _ t. among operand_words t)
       operand_good h = (good h).operand
 
-  abbrev no_step : List ℕ
-  no_step = unary_words ++ primary_words
-
-  low_stepped : (v : Measured) (w : List Token) → Stepped v w → Low d v → room d ≡ true
+  pub low_stepped : (v : Measured) (w : List Token) → Stepped v w → Low d v → room d ≡ true
   low_stepped v w m low = is_below 0 d (omega (arith, ap (λ v. v.height) m.is))
 
-  low_operated : (v : Measured) (w : List Token) → Operated v w → Low d v → room d ≡ true
+  pub low_operated : (v : Measured) (w : List Token) → Operated v w → Low d v → room d ≡ true
   low_operated v w m low = is_below 0 d (omega (arith, ap (λ v. v.height) m.is))
-
-  apart_if : {A : Type 0} (f : ℕ → Option A) (vs ws : List ℕ) → ((w : ℕ) → is_some (f w) ≡ true → one_word vs w ≡ true) → apart_from ws vs ≡ true →
-      (x : Token) → among ws x ≡ true → has_word f x ≡ false
-  apart_if f vs ws listed h x e = not_true (has_word f x) (λ k. let no_more = apart_words ws vs h (word_of x) e in let one = listed (word_of x) k in cc)
-    where
-      not_true : (b : Bool) → (b ≡ true → false ≡ true) → b ≡ false
-      not_true true h = sym (h refl)
-      not_true false h = refl
-
-  pub unary_good : Good (unary d below) UnaryWords (Low d) begins (λ _ t. among operand_words t)
-  unfolding unary
-  unary_good = good_as UnaryWords (Low d) begins
-      (either_good (has_word step_word) (room d) begins stepped_good
-      (either_good (has_word unary_word) (room d) (among no_step) operated_good (postfix_good d below good)
-      (λ x h. begins_with unary_word unary_of (BinaryWords 0) x (unary_word (word_of x)) refl h (binary_begins 0)) low_operated (λ a w m. starts_with unary_word (BinaryWords 0) m.source w m.word)
-      (apart_if unary_word unary_words primary_words unary_listed refl)
-      (λ x h. within_words unary_words no_step refl (word_of x) (unary_listed (word_of x) h)) (λ x h. within_words primary_words no_step refl (word_of x) h))
-      (λ x h. begins_with step_word step_of UnaryWords x (step_word (word_of x)) refl h unary_begin) low_stepped (λ a w m. starts_with step_word UnaryWords m.source w m.word)
-      (apart_if step_word step_words no_step step_listed refl)
-      (λ x h. within_words step_words begin_words refl (word_of x) (step_listed (word_of x) h)) (λ x h. within_words no_step begin_words refl (word_of x) h))
-      unary_into (λ v w c. unary_out v.height v.tree w c) (λ v w c low. low) (λ v w c low. low) (λ x h. h)

@@ -1,12 +1,17 @@
 -- What the code of single words needs of their parsers.
-use Rattle.std.specs.Prelude.{ℕ, ◌≡◌, ◌<◌, Bool, true, false, ◌||◌, if◌then◌else◌, List, [], ◌∷◌, Option, Some, None, is_some, length, refl}
+use Rattle.std.specs.Prelude.{ℕ, ◌≡◌, ◌<◌, ◌+◌, ◌*◌, Bool, true, false, ◌||◌, if◌then◌else◌, List, [], ◌∷◌, Option, Some, None, is_some, length, refl}
 use Rattle.std.proofs.Common.{◌∙◌, ap, arith}
+use Rattle.std.proofs.lemmas.Bool.Decides.{nat_tests}
 use Rattle.c_ast.specs.declared.token.Span.{Span}
 use Rattle.c_ast.specs.declared.token.Token.{Token}
+use Rattle.c_ast.specs.declared.token.Lexeme.{Lexeme}
+use Rattle.c_ast.specs.declared.token.Lexeme.TheVariants as lexeme
 use Rattle.c_ast.specs.declared.operator.Step.TheVariants as step
+use Rattle.c_ast.specs.declared.operator.UnaryOperator.TheVariants as operator
+use Rattle.c_ast.specs.declared.keyword.Keyword.TheVariants as key
 use Rattle.c_ast.specs.declared.punctuator.Punctuator.{Punctuator}
 use Rattle.c_ast.specs.declared.punctuator.Punctuator.TheVariants as mark
-use Rattle.c_grammar.specs.Words.{word_of, punctuator}
+use Rattle.c_grammar.specs.Words.{word_of, lexeme_word, keyword, punctuator}
 use Rattle.c_reader.specs.declared.fault.Fault.TheVariants.{Unexpected}
 use Rattle.c_reader.specs.Answer.{Answer, Parser, Read, Stuck, and_then, word, word_or, thens, makes, either, repeats, sees}
 use Rattle.c_reader.specs.LoopLaws.{turns_stop, turns_read}
@@ -19,8 +24,8 @@ use Rattle.c_expressions.specs.declared.measured.Measured.{Measured}
 use Rattle.c_expressions.specs.declared.suffix.Suffix.{Suffix}
 use Rattle.c_expressions.specs.declared.suffix.Suffix.TheVariants as suffix
 use Rattle.c_expressions.specs.Nodes.{Quoted, text_of, joined}
-use Rattle.c_expressions.specs.Expressions.{assign_word, placed, step_word, unary_word, pick_placed, has_word, Reader, constant, pick_constant, pick_text, is_text, more_texts, texts, plain, pick_step, short_suffix, suffix_words, sees_suffix}
-use Rattle.c_expressions.specs.WordLists.{one_word, is_at}
+use Rattle.c_expressions.specs.Expressions.{assign_word, placed, step_word, unary_word, pick_placed, has_word, Reader, constant, pick_constant, pick_text, is_text, more_texts, texts, plain, pick_step, short_suffix, suffix_words, sees_suffix, plain_words, begins_bare, first_words}
+use Rattle.c_reader.specs.WordLists.{one_word, among, is_at}
 use Rattle.c_expressions.specs.PrimaryLaws.{MoreTexts, more_texts_good}
 
 pub constant_end : (ts : List Token) → next_of ts ≡ None → constant ts ≡ Stuck Unexpected ts
@@ -225,3 +230,61 @@ any_taken f (x ∷ ts) a {e = stop.Fault g} h k = let bad = k.is in cc
 pub assign_missing : (ts : List Token) → sees (is (punctuator mark.Equal)) ts ≡ false → sees (is (punctuator mark.PlusEqual)) ts ≡ false → sees (is (punctuator mark.MinusEqual)) ts ≡ false → sees (is (punctuator mark.StarEqual)) ts ≡ false → sees (is (punctuator mark.SlashEqual)) ts ≡ false → sees (is (punctuator mark.PercentEqual)) ts ≡ false → sees (is (punctuator mark.ShiftLeftEqual)) ts ≡ false → sees (is (punctuator mark.ShiftRightEqual)) ts ≡ false → sees (is (punctuator mark.AmpersandEqual)) ts ≡ false → sees (is (punctuator mark.CaretEqual)) ts ≡ false → sees (is (punctuator mark.BarEqual)) ts ≡ false → next_word assign_word ts ≡ None
 assign_missing [] a b c d e f g h i j k = refl
 assign_missing (x ∷ ts) a b c d e f g h i j k = skipped _ _ a ∙ skipped _ _ b ∙ skipped _ _ c ∙ skipped _ _ d ∙ skipped _ _ e ∙ skipped _ _ f ∙ skipped _ _ g ∙ skipped _ _ h ∙ skipped _ _ i ∙ skipped _ _ j ∙ skipped _ _ k
+
+-- ---- whether an operand begins
+
+keyword_not_plain : (k : ℕ) → one_word plain_words (5 + 2 * k) ≡ false
+keyword_not_plain k = grind (arith, nat_tests)
+
+punct_not_plain : (p : ℕ) → one_word plain_words (6 + 2 * p) ≡ false
+punct_not_plain p = grind (arith, nat_tests)
+
+-- the lexeme is an expression by itself, or a text
+abbrev pub plain_kind : Lexeme → Bool
+plain_kind (lexeme.Name n) = true
+plain_kind (lexeme.Number value ty) = true
+plain_kind (lexeme.Character value) = true
+plain_kind (lexeme.Text b) = true
+plain_kind _ = false
+
+plain_is : (kind : Lexeme) → one_word plain_words (lexeme_word kind) ≡ plain_kind kind
+plain_is (lexeme.Name n) = refl
+plain_is (lexeme.Number value ty) = refl
+plain_is (lexeme.Character value) = refl
+plain_is (lexeme.Text b) = refl
+plain_is lexeme.Include = refl
+plain_is (lexeme.Keyword k) = keyword_not_plain k
+plain_is (lexeme.Punct p) = punct_not_plain p
+
+pub plain_next : (ts : List Token) (x : Token) → next_of ts ≡ Some x → sees (among plain_words) ts ≡ plain_kind x.kind
+plain_next [] x e = cc
+plain_next (y ∷ ts) x e = let same : y ≡ x = cc in plain_is y.kind ∙ ap (λ (t : Token). plain_kind t.kind) same
+
+pub plain_end : (ts : List Token) → next_of ts ≡ None → sees (among plain_words) ts ≡ false
+plain_end [] e = refl
+plain_end (y ∷ ts) e = cc
+
+before_operand : (a b c d e f g h r : Bool) → (a || (b || (c || (d || (e || (f || (g || (h || r)))))))) ≡
+    (is_some (if a then Some step.PreIncrement else (if b then Some step.PreDecrement else None))
+    || (is_some (if c then Some operator.AddressOf else (if d then Some operator.Dereference else (if e then Some operator.Plus else (if f then Some operator.Minus else (
+    if g then Some operator.Complement else (if h then Some operator.Not else None)))))) || r))
+before_operand true b c d e f g h r = refl
+before_operand false true c d e f g h r = refl
+before_operand false false true d e f g h r = refl
+before_operand false false false true e f g h r = refl
+before_operand false false false false true f g h r = refl
+before_operand false false false false false true g h r = refl
+before_operand false false false false false false true h r = refl
+before_operand false false false false false false false true r = refl
+before_operand false false false false false false false false r = refl
+
+-- an operand begins that is no cast and does not begin with "("
+pub bare_seen : (ts : List Token) → sees begins_bare ts ≡ (is_some (next_word step_word ts) || (is_some (next_word unary_word ts) || (sees (is (keyword key.Sizeof)) ts || sees (among plain_words) ts)))
+bare_seen [] = refl
+bare_seen (x ∷ ts) = before_operand (is (punctuator mark.PlusPlus) x) (is (punctuator mark.MinusMinus) x) (is (punctuator mark.Ampersand) x) (is (punctuator mark.Star) x)
+    (is (punctuator mark.Plus) x) (is (punctuator mark.Minus) x) (is (punctuator mark.Tilde) x) (is (punctuator mark.Exclamation) x) (is (keyword key.Sizeof) x || among plain_words x)
+
+-- an expression begins
+pub first_seen : (ts : List Token) → sees (among first_words) ts ≡ (sees (is (punctuator mark.LeftParen)) ts || sees begins_bare ts)
+first_seen [] = refl
+first_seen (x ∷ ts) = refl

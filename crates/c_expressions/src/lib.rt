@@ -2,6 +2,7 @@
 #![tactic(auto)]
 
 mod assignment;
+mod begins;
 mod measured;
 mod node;
 mod operator;
@@ -13,7 +14,8 @@ mod suffix;
 mod tests;
 mod whole;
 
+pub use begins::begins_expression;
 pub use measured::Measured;
-pub use parser::expression;
+pub use parser::{conditional, expression};
 pub use suffix::{Arguments, Suffix};
 pub use whole::parse;

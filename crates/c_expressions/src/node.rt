@@ -6,6 +6,7 @@ ghost use Rattle.c_expressions.specs.Nodes as spec;
 use crate::measured::Measured;
 use crate::suffix::Suffix;
 use c_ast::{AssignOperator, BinaryOperator, Bytes, Expr, Node, Span, Step, UnaryOperator};
+use c_type_names::TypeRead;
 use std::alloc::{AllocError, Global};
 
 /// The bytes of adjacent texts.
@@ -75,6 +76,61 @@ pub fn unary(
     Ok(Measured {
         tree: Expr::new(alloc, span, Node::Unary(operator, operand.tree))?,
         height: operand.height + 1,
+    })
+}
+
+/// `sizeof operand`
+pub fn size_of(alloc: Global, place: Span, operand: Measured) -> Result<Measured, AllocError>
+    requires { operand.height + 1 < 2 ^ 32 }
+    ensures { IfOk result (λ made. made ≡ spec.size_of place operand) }
+{
+    let span = Span {
+        start: place.start,
+        end: operand.tree.span.end,
+    };
+    Ok(Measured {
+        tree: Expr::new(alloc, span, Node::SizeofExpr(operand.tree))?,
+        height: operand.height + 1,
+    })
+}
+
+/// `sizeof ( type )`
+pub fn size_name(
+    alloc: Global,
+    place: Span,
+    read: TypeRead,
+    right: Span,
+) -> Result<Measured, AllocError>
+    ensures { IfOk result (λ made. made ≡ spec.size_name_of place (read, right)) }
+{
+    let span = Span {
+        start: place.start,
+        end: right.end,
+    };
+    Ok(Measured {
+        tree: Expr::new(alloc, span, Node::SizeofName(read.ty))?,
+        height: read.height,
+    })
+}
+
+/// `( type ) operand`
+pub fn cast(
+    alloc: Global,
+    left: Span,
+    parts: (TypeRead, (Span, Measured)),
+) -> Result<Measured, AllocError>
+    requires { parts.1.1.height + 1 < 2 ^ 32 }
+    ensures { IfOk result (λ made. made ≡ spec.cast_of left parts) }
+{
+    let (read, (_, operand)) = parts;
+    let span = Span {
+        start: left.start,
+        end: operand.tree.span.end,
+    };
+    let height = read.height.max(operand.height + 1);
+    Ok(Measured {
+        tree: Expr::new(alloc, span, Node::Cast(read.ty, operand.tree))?,
+        height,
     })
 }
 

@@ -6,51 +6,35 @@ ghost use Rattle.c_reader.specs.WordLaws.{next_value};
 ghost use Rattle.c_expressions.specs.Expressions as spec;
 ghost use Rattle.c_expressions.specs.Nodes.{height_behind};
 ghost use Rattle.c_expressions.specs.Operators.{pick_binary};
-ghost use Rattle.c_expressions.specs.Code.{branches_of};
+ghost use Rattle.c_expressions.specs.Code.{branches_of, more_suffixes};
 ghost use Rattle.c_expressions.specs.WordCode.{next_word};
 
 use crate::assignment::{is_assignable, next_assign};
+use crate::begins::{begins_bare, begins_expression};
 use crate::measured::Measured;
 use crate::node;
 use crate::operator::tier_operator;
 use crate::plain::plain;
 use crate::prefix::{next_step, next_unary};
 use crate::suffix::{Arguments, Suffix, sees_suffix, short_suffix};
-use c_ast::{BinaryOperator, Punctuator, Span, Step, UnaryOperator};
+use c_ast::{BinaryOperator, Keyword, Punctuator, Span, Step, UnaryOperator};
 use c_reader::{Cursor, Fault, Stop};
+use c_type_names::{begins_type, type_name};
 use std::alloc::Global;
 
-/// `expr )`, behind a `(` that stands there.
-#[cycle(expression)]
-fn opened(
+/// `tname )`, behind `sizeof (`.
+fn size_name(
     alloc: Global,
     cursor: &mut Cursor<'_, '_>,
     depth: u32,
-    left: Span,
+    place: Span,
 ) -> Result<Measured, Stop>
-    requires { 0 < depth }
-    ensures answers { Answers (spec.opened depth (spec.under depth) left cursor.old) result cursor.new }
+    ensures answers { Answers (spec.size_name depth (spec.under depth) place cursor.old) result cursor.new }
     ensures low { IfOk result (λ read. read.height ≤ depth) }
 {
-    let inner = assignment(alloc, cursor, depth - 1)?;
+    let read = type_name(alloc, cursor, depth)?;
     let right = cursor.expect(Punctuator::RightParen)?;
-    Ok(node::paren(alloc, left, inner, right)?)
-}
-
-/// `( expr )`, or texts or a word.
-#[cycle(expression)]
-fn primary(alloc: Global, cursor: &mut Cursor<'_, '_>, depth: u32) -> Result<Measured, Stop>
-    ensures answers { Answers (spec.primary depth (spec.under depth) cursor.old) result cursor.new }
-    ensures low { IfOk result (λ read. read.height ≤ depth) }
-{
-    if !cursor.sees(Punctuator::LeftParen) {
-        return plain(alloc, cursor);
-    }
-    if depth == 0 {
-        return Err(Stop::Fault(Fault::TooDeep));
-    }
-    let left = cursor.expect(Punctuator::LeftParen)?;
-    opened(alloc, cursor, depth, left)
+    Ok(node::size_name(alloc, place, read, right)?)
 }
 
 /// `expr { , expr }`
@@ -106,13 +90,19 @@ fn behind(alloc: Global, cursor: &mut Cursor<'_, '_>, depth: u32) -> Result<Suff
     short_suffix(alloc, cursor)
 }
 
-/// An operand, and what follows it.
+/// An operand that was read, and what follows it.
 #[cycle(expression)]
-fn postfix(alloc: Global, cursor: &mut Cursor<'_, '_>, depth: u32) -> Result<Measured, Stop>
-    ensures answers { Answers (spec.postfix depth (spec.under depth) cursor.old) result cursor.new }
+fn suffixes(
+    alloc: Global,
+    cursor: &mut Cursor<'_, '_>,
+    depth: u32,
+    operand: Measured,
+) -> Result<Measured, Stop>
+    requires { operand.height ≤ depth }
+    ensures answers { Answers (more_suffixes depth operand cursor.old) result cursor.new }
     ensures low { IfOk result (λ read. read.height ≤ depth) }
 {
-    let mut read = primary(alloc, cursor, depth)?;
+    let mut read = operand;
     while sees_suffix(cursor) {
         if read.height >= depth {
             return Err(Stop::Fault(Fault::TooDeep));
@@ -121,6 +111,24 @@ fn postfix(alloc: Global, cursor: &mut Cursor<'_, '_>, depth: u32) -> Result<Mea
         read = node::apply(alloc, read, suffix)?;
     }
     Ok(read)
+}
+
+/// `expr )` and what follows, behind a `(` that stands there.
+#[cycle(expression)]
+fn grouped(
+    alloc: Global,
+    cursor: &mut Cursor<'_, '_>,
+    depth: u32,
+    left: Span,
+) -> Result<Measured, Stop>
+    requires { 0 < depth }
+    ensures answers { Answers (spec.grouped depth (spec.under depth) left cursor.old) result cursor.new }
+    ensures low { IfOk result (λ read. read.height ≤ depth) }
+{
+    let inner = assignment(alloc, cursor, depth - 1)?;
+    let right = cursor.expect(Punctuator::RightParen)?;
+    let read = node::paren(alloc, left, inner, right)?;
+    suffixes(alloc, cursor, depth, read)
 }
 
 /// `++` or `--`, which comes next, and its operand.
@@ -159,10 +167,50 @@ fn operated(
     Ok(node::unary(alloc, place, operator, operand)?)
 }
 
-/// An operand, with what stands before it.
+/// What stands behind `sizeof (`: an expression, which is two levels below, or a type name.
 #[cycle(expression)]
-fn unary(alloc: Global, cursor: &mut Cursor<'_, '_>, depth: u32) -> Result<Measured, Stop>
-    ensures answers { Answers (spec.unary depth (spec.under depth) cursor.old) result cursor.new }
+fn size_opened(
+    alloc: Global,
+    cursor: &mut Cursor<'_, '_>,
+    depth: u32,
+    place: Span,
+    left: Span,
+) -> Result<Measured, Stop>
+    ensures answers { Answers (spec.size_opened depth (spec.under depth) place left cursor.old) result cursor.new }
+    ensures low { IfOk result (λ read. read.height ≤ depth) }
+{
+    if !begins_expression(cursor) {
+        return size_name(alloc, cursor, depth, place);
+    }
+    if depth <= 1 {
+        return Err(Stop::Fault(Fault::TooDeep));
+    }
+    let operand = grouped(alloc, cursor, depth - 1, left)?;
+    Ok(node::size_of(alloc, place, operand)?)
+}
+
+/// `sizeof`, and its operand or type name (C11 6.5.3.4).
+#[cycle(expression)]
+fn sized(alloc: Global, cursor: &mut Cursor<'_, '_>, depth: u32) -> Result<Measured, Stop>
+    ensures answers { Answers (spec.sized depth (spec.under depth) cursor.old) result cursor.new }
+    ensures low { IfOk result (λ read. read.height ≤ depth) }
+{
+    let place = cursor.expect_keyword(Keyword::Sizeof)?;
+    if begins_bare(cursor) {
+        if depth == 0 {
+            return Err(Stop::Fault(Fault::TooDeep));
+        }
+        let operand = bare(alloc, cursor, depth - 1)?;
+        return Ok(node::size_of(alloc, place, operand)?);
+    }
+    let left = cursor.expect(Punctuator::LeftParen)?;
+    size_opened(alloc, cursor, depth, place, left)
+}
+
+/// An operand that is no cast and has no `(` before it.
+#[cycle(expression)]
+fn bare(alloc: Global, cursor: &mut Cursor<'_, '_>, depth: u32) -> Result<Measured, Stop>
+    ensures answers { Answers (spec.bare depth (spec.under depth) cursor.old) result cursor.new }
     ensures low { IfOk result (λ read. read.height ≤ depth) }
 {
     if let Some(step) = next_step(cursor) {
@@ -177,7 +225,64 @@ fn unary(alloc: Global, cursor: &mut Cursor<'_, '_>, depth: u32) -> Result<Measu
         }
         return operated(alloc, cursor, depth, operator);
     }
-    postfix(alloc, cursor, depth)
+    if cursor.sees_keyword(Keyword::Sizeof) {
+        return sized(alloc, cursor, depth);
+    }
+    let read = plain(alloc, cursor)?;
+    suffixes(alloc, cursor, depth, read)
+}
+
+/// An operand that is no cast.
+#[cycle(expression)]
+fn unary(alloc: Global, cursor: &mut Cursor<'_, '_>, depth: u32) -> Result<Measured, Stop>
+    ensures answers { Answers (spec.unary depth (spec.under depth) cursor.old) result cursor.new }
+    ensures low { IfOk result (λ read. read.height ≤ depth) }
+{
+    if !cursor.sees(Punctuator::LeftParen) {
+        return bare(alloc, cursor, depth);
+    }
+    if depth == 0 {
+        return Err(Stop::Fault(Fault::TooDeep));
+    }
+    let left = cursor.expect(Punctuator::LeftParen)?;
+    grouped(alloc, cursor, depth, left)
+}
+
+/// `tname ) cast`, behind a `(` that stands there.
+#[cycle(expression)]
+fn casted(
+    alloc: Global,
+    cursor: &mut Cursor<'_, '_>,
+    depth: u32,
+    left: Span,
+) -> Result<Measured, Stop>
+    requires { 0 < depth }
+    ensures answers { Answers (spec.casted depth (spec.under depth) left cursor.old) result cursor.new }
+    ensures low { IfOk result (λ read. read.height ≤ depth) }
+{
+    let read = type_name(alloc, cursor, depth)?;
+    let right = cursor.expect(Punctuator::RightParen)?;
+    let inner = binary(alloc, cursor, depth - 1, 0)?;
+    Ok(node::cast(alloc, left, (read, (right, inner)))?)
+}
+
+/// An operand, which may be a cast (C11 6.5.4).
+#[cycle(expression)]
+fn operand(alloc: Global, cursor: &mut Cursor<'_, '_>, depth: u32) -> Result<Measured, Stop>
+    ensures answers { Answers (spec.operand depth (spec.under depth) cursor.old) result cursor.new }
+    ensures low { IfOk result (λ read. read.height ≤ depth) }
+{
+    if !cursor.sees(Punctuator::LeftParen) {
+        return bare(alloc, cursor, depth);
+    }
+    if depth == 0 {
+        return Err(Stop::Fault(Fault::TooDeep));
+    }
+    let left = cursor.expect(Punctuator::LeftParen)?;
+    if begins_type(cursor) {
+        return casted(alloc, cursor, depth, left);
+    }
+    grouped(alloc, cursor, depth, left)
 }
 
 /// The operator that comes next, and its right operand.
@@ -214,7 +319,7 @@ fn binary(
     ensures low { IfOk result (λ read. read.height ≤ depth) }
 {
     if tier == 0 {
-        return unary(alloc, cursor, depth);
+        return operand(alloc, cursor, depth);
     }
     let mut left = binary(alloc, cursor, depth, tier - 1)?;
     while let Some(operator) = tier_operator(cursor, tier) {
@@ -243,10 +348,10 @@ fn branches(
     Ok((chosen, (colon, other)))
 }
 
-/// Operators between operands, and perhaps a choice (C11 6.5.15).
+/// A conditional expression with at most this many levels below it: operators between operands, and perhaps a choice (C11 6.5.15).
 #[cycle(expression)]
-fn conditional(alloc: Global, cursor: &mut Cursor<'_, '_>, depth: u32) -> Result<Measured, Stop>
-    ensures answers { Answers (spec.conditional depth (spec.under depth) cursor.old) result cursor.new }
+pub fn conditional(alloc: Global, cursor: &mut Cursor<'_, '_>, depth: u32) -> Result<Measured, Stop>
+    ensures answers { Answers ((spec.at depth).conditional cursor.old) result cursor.new }
     ensures low { IfOk result (λ read. read.height ≤ depth) }
 {
     let condition = binary(alloc, cursor, depth, 10)?;

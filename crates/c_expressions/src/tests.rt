@@ -1,5 +1,7 @@
 //! Whole lists of tokens, read and refused.
 
+mod operands;
+
 use super::*;
 use c_ast::{
     AssignOperator, BinaryOperator, Bytes, IntType, Lexeme, Name, Node, Punctuator, Step, Token,

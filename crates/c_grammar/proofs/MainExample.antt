@@ -16,7 +16,7 @@ use Rattle.c_ast.specs.declared.program.Function.{Function}
 use Rattle.c_ast.specs.declared.program.External.TheVariants as external
 use Rattle.c_ast.specs.declared.keyword.Keyword.TheVariants as key
 use Rattle.c_ast.specs.declared.punctuator.Punctuator.TheVariants as mark
-use Rattle.c_grammar.specs.Types.{Keywords, word, none, int, words, Stars}
+use Rattle.c_grammar.specs.Types.{word, none, int, words, Stars}
 use Rattle.c_grammar.specs.Types as types
 use Rattle.c_grammar.specs.Expressions.{Expression, conditional, binary, tighter, operand, unary, postfix, primary, number, Primary}
 use Rattle.c_grammar.specs.Statements.{Block, Outside, no_item, more_item, statement, return_word, written, block}

@@ -15,7 +15,7 @@ use Rattle.c_ast.specs.declared.program.Function.{Function}
 use Rattle.c_ast.specs.declared.program.External.TheVariants as external
 use Rattle.c_ast.specs.declared.keyword.Keyword.TheVariants as key
 use Rattle.c_ast.specs.declared.punctuator.Punctuator.TheVariants as mark
-use Rattle.c_grammar.specs.Types.{Base, word, char, int, long, words, Stars, star}
+use Rattle.c_grammar.specs.Types.{word, char, int, long, words, Stars, star}
 use Rattle.c_grammar.specs.Types as types
 use Rattle.c_grammar.specs.Expressions.{number, variable}
 use Rattle.c_grammar.specs.Declarators.{arrays, no_bracket, bracket, no_length, declarator}

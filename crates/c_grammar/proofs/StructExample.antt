@@ -16,7 +16,7 @@ use Rattle.c_ast.specs.declared.program.Program.{Program}
 use Rattle.c_ast.specs.declared.program.External.TheVariants as external
 use Rattle.c_ast.specs.declared.keyword.Keyword.TheVariants as key
 use Rattle.c_ast.specs.declared.punctuator.Punctuator.TheVariants as mark
-use Rattle.c_grammar.specs.Types.{Base, word, int, words, Stars, star}
+use Rattle.c_grammar.specs.Types.{word, int, words, Stars, star}
 use Rattle.c_grammar.specs.Types as types
 use Rattle.c_grammar.specs.Expressions.{Conditional, binary, tighter, operand, unary, postfix, primary, number}
 use Rattle.c_grammar.specs.Declarators.{arrays, Brackets, no_bracket, bracket, length_of, Declarator, declarator}

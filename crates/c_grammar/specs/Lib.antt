@@ -10,3 +10,6 @@ pub mod Statements
 pub mod EndingLaws
 pub mod Externals
 pub mod Spells
+pub mod Moved
+pub mod MovedExpressions
+pub mod MovedPrograms

@@ -12,3 +12,4 @@ pub mod Scanner
 pub mod Reading
 pub mod Tokens
 pub mod Refusal
+pub mod Starts

@@ -1,5 +1,5 @@
 -- What is printed of a list or a name that is empty, and of one that is not.
-use Rattle.std.proofs.Common.{◌≡◌, refl, ℕ, suc, ◌+◌, ◌<◌, ◌≢◌, List, [], ◌∷◌, ◌++◌, map, length, Option, Some, None, arith, slice_get}
+use Rattle.std.proofs.Common.{◌≡◌, refl, ℕ, ◌≢◌, List, [], ◌∷◌, ◌++◌, map, length, Option, Some, None, arith, slice_get}
 use Rattle.c_ast.specs.declared.token.Lexeme.TheVariants as lexeme
 use Rattle.c_ast.specs.declared.expr.Expr.{Expr}
 use Rattle.c_ast.specs.declared.declaration.Decl.{Decl}

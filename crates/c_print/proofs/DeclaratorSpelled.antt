@@ -1,5 +1,5 @@
 -- The lexemes of a declarator spell it.
-use Rattle.std.proofs.Common.{◌≡◌, refl, ℕ, suc, ◌+◌, max, List, [], ◌∷◌, ◌++◌, map, flat_map, length, Option, Some, None, ap, sym, ◌∙◌, subst}
+use Rattle.std.proofs.Common.{◌≡◌, refl, ℕ, List, [], ◌∷◌, ◌++◌, map, flat_map, Option, Some, None, ap, ◌∙◌}
 use Rattle.std.proofs.lemmas.List.{append-nil, map-append, length-map}
 use Rattle.std.proofs.lemmas.Grind.{flat_map-append}
 use Rattle.c_ast.specs.Opened.{given_trees}
@@ -7,39 +7,27 @@ use Rattle.c_ast.specs.declared.token.Lexeme.{Lexeme}
 use Rattle.c_ast.specs.declared.token.Lexeme.TheVariants as lexeme
 use Rattle.c_ast.specs.declared.token.Token.{Token}
 use Rattle.c_ast.specs.declared.expr.CType.{CType}
-use Rattle.c_ast.specs.declared.expr.CType.TheVariants as type
 use Rattle.c_ast.specs.declared.expr.CType.TheOpen.{CType-F}
 use Rattle.c_ast.specs.declared.expr.Expr.{Expr}
 use Rattle.c_ast.specs.declared.punctuator.Punctuator.TheVariants as mark
-use Rattle.c_grammar.specs.Types.{Stars}
 use Rattle.c_grammar.specs.Declarators.{arrays, Length, no_length, length_of, Brackets, no_bracket, bracket, Declarator, declarator}
 use Rattle.c_print.specs.Words.{punct}
 use Rattle.c_print.specs.Tokens.{token_of, tokens_of}
-use Rattle.c_print.specs.Expressions.{lexemes_of, parts_of}
+use Rattle.c_print.specs.Expressions.{parts_of}
 use Rattle.c_print.specs.Statements.{maybe_of}
 use Rattle.c_print.specs.Declarations.{among}
-use Rattle.c_print.specs.Spans.{option_map, bare, bare_type}
-use Rattle.c_print.proofs.Lists.{tokens-append, tokens-inside, tokens-behind}
+use Rattle.c_print.specs.Spans.{bare_type}
+use Rattle.c_print.specs.BareLaws.{bare_length, arrays_bare}
+use Rattle.c_print.proofs.Lists.{tokens-append, tokens-behind}
 use Rattle.c_print.proofs.Made.{type_made}
 use Rattle.c_print.proofs.TypeSpelled.{Plain, stars_spelled, stars_base, stars_brackets}
 use Rattle.c_print.proofs.ExpressionSpelled.{conditional_spelled}
-
-abbrev pub bare_length : Option Expr → Option Expr
-bare_length = option_map bare
 
 abbrev pub bracket_of : Option Expr → List Lexeme
 bracket_of size = punct mark.LeftBracket ∷ maybe_of size ++ punct mark.RightBracket ∷ []
 
 abbrev pub brackets_of : List (Option Expr) → List Lexeme
 brackets_of = flat_map bracket_of
-
--- what the lengths of an array add to a type
-pub arrays_bare : (ty : CType) (sizes : List (Option Expr)) → bare_type (arrays ty sizes) ≡ arrays (bare_type ty) (map bare_length sizes)
-unfolding given_trees arrays
-arrays_bare ty [] = refl
-arrays_bare ty (None ∷ sizes) = type_made (λ t p. t ≡ type.Array (arrays (bare_type ty) (map bare_length sizes)) None) (CType-F.Array (arrays ty sizes) None) (ap (λ t. type.Array t None) (arrays_bare ty sizes))
-arrays_bare ty (Some e ∷ sizes) =
-    type_made (λ t p. t ≡ type.Array (arrays (bare_type ty) (map bare_length sizes)) (Some (bare e))) (CType-F.Array (arrays ty sizes) (Some e)) (ap (λ t. type.Array t (Some (bare e))) (arrays_bare ty sizes))
 
 pub arrays_base : (ty : CType) (sizes : List (Option Expr)) → (parts_of (arrays ty sizes)).base ≡ (parts_of ty).base
 unfolding given_trees arrays

@@ -1,5 +1,5 @@
 -- The lexemes of an expression spell it.
-use Rattle.std.proofs.Common.{◌≡◌, refl, ℕ, suc, max, List, [], ◌∷◌, ◌++◌, map, Option, ap}
+use Rattle.std.proofs.Common.{refl, ℕ, List, [], map}
 use Rattle.std.proofs.lemmas.List.{append-nil, map-append}
 use Rattle.c_ast.specs.Opened.{given_trees}
 use Rattle.c_ast.specs.declared.token.Token.{Token}
@@ -9,7 +9,7 @@ use Rattle.c_ast.specs.declared.expr.CType.TheOpen.{Node-F}
 use Rattle.c_grammar.specs.Expressions.{Primary, Postfix, Arguments, ArgumentList, Unary, Cast, Binary, Conditional, Expression, one_text}
 use Rattle.c_grammar.specs.Expressions as grammar
 use Rattle.c_print.specs.Words.{with_commas}
-use Rattle.c_print.specs.Tokens.{token_of, tokens_of}
+use Rattle.c_print.specs.Tokens.{tokens_of}
 use Rattle.c_print.specs.Expressions.{lexemes_of}
 use Rattle.c_print.specs.Spans.{bare}
 use Rattle.c_print.proofs.Lists.{tokens-append, tokens-inside, tokens-inside_two, tokens-behind, tokens-step_before, tokens-step_behind, NonEmpty, nonempty-append, with_commas-append}

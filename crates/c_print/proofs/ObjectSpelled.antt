@@ -1,5 +1,5 @@
 -- The lexemes of a declaration of objects spell it.
-use Rattle.std.proofs.Common.{◌≡◌, refl, ℕ, suc, max, List, [], ◌∷◌, ◌++◌, map, Option, Some, None, ap, sym, ◌∙◌, subst}
+use Rattle.std.proofs.Common.{◌≡◌, refl, ℕ, suc, max, List, [], ◌∷◌, ◌++◌, map, Some, None, sym, ◌∙◌, subst}
 use Rattle.std.proofs.lemmas.List.{append-nil, map-append}
 use Rattle.c_ast.specs.Opened.{given_trees}
 use Rattle.c_ast.specs.declared.token.Lexeme.{Lexeme}
@@ -8,21 +8,20 @@ use Rattle.c_ast.specs.declared.token.Token.{Token}
 use Rattle.c_ast.specs.declared.token.Span.{Span}
 use Rattle.c_ast.specs.declared.expr.CType.{CType}
 use Rattle.c_ast.specs.declared.expr.Expr.{Expr}
-use Rattle.c_ast.specs.declared.declaration.Init.{Init, roll-Init}
+use Rattle.c_ast.specs.declared.declaration.Init.{Init}
 use Rattle.c_ast.specs.declared.declaration.Init.TheVariants as init
 use Rattle.c_ast.specs.declared.declaration.Init.TheOpen.{Init-F}
 use Rattle.c_ast.specs.declared.declaration.Init.TheFolds.{fold-roll-Init}
 use Rattle.c_ast.specs.declared.declaration.Decl.{Decl}
 use Rattle.c_ast.specs.declared.punctuator.Punctuator.TheVariants as mark
-use Rattle.c_grammar.specs.Words.{span_of}
-use Rattle.c_grammar.specs.Types.{Base}
 use Rattle.c_grammar.specs.Objects.{Initial, Initials, Object, Objects, Local}
 use Rattle.c_grammar.specs.Objects as grammar
 use Rattle.c_print.specs.Words.{punct, with_commas}
 use Rattle.c_print.specs.Tokens.{token_of, tokens_of}
 use Rattle.c_print.specs.Expressions.{lexemes_of, parts_of}
 use Rattle.c_print.specs.Declarations.{init_step, init_of, among, object_of, base_of, objects_of}
-use Rattle.c_print.specs.Spans.{no_span, bare, bare_type, bare_init_step, bare_init, bare_decl}
+use Rattle.c_print.specs.Spans.{no_span, bare, bare_type, bare_init, bare_decl}
+use Rattle.c_print.specs.BareLaws.{one_bare, list_bare}
 use Rattle.c_print.proofs.Lists.{tokens-append, tokens-inside, tokens-three, NonEmpty, nonempty-append, with_commas-append, placed}
 use Rattle.c_print.proofs.TypeSpelled.{Plain, base_plain, base_spelled}
 use Rattle.c_print.proofs.ExpressionSpelled.{expression_spelled}
@@ -32,7 +31,7 @@ use Rattle.c_print.proofs.DeclaratorSpelled.{declarator_spelled, declarator_base
 value_made : (P : Init → List Token → Type 0) (e : Expr) → P (init.One (bare e)) (tokens_of (lexemes_of e)) → P (bare_init (init.One e)) (tokens_of (init_of (init.One e)))
 unfolding given_trees
 value_made P e p =
-    let tree = fold-roll-Init Init bare_init_step (Init-F.One e) in
+    let tree = one_bare e in
     let words = fold-roll-Init (List Lexeme) init_step (Init-F.One e) in
     let Q : Init → Type 0 = λ i. P i (tokens_of (lexemes_of e)) in
     let R : List Lexeme → Type 0 = λ ls. P (bare_init (init.One e)) (tokens_of ls) in
@@ -42,7 +41,7 @@ list_made : (P : Init → List Token → Type 0) (is : List Init) (s : Span) →
     P (init.List (map bare_init is) no_span) (tokens_of (init_step (Init-F.List (map init_of is) s))) → P (bare_init (init.List is s)) (tokens_of (init_of (init.List is s)))
 unfolding given_trees
 list_made P is s p =
-    let tree = fold-roll-Init Init bare_init_step (Init-F.List is s) in
+    let tree = list_bare is s in
     let words = fold-roll-Init (List Lexeme) init_step (Init-F.List is s) in
     let Q : Init → Type 0 = λ i. P i (tokens_of (init_step (Init-F.List (map init_of is) s))) in
     let R : List Lexeme → Type 0 = λ ls. P (bare_init (init.List is s)) (tokens_of ls) in

@@ -1,5 +1,5 @@
 -- The lexemes of a program spell it.
-use Rattle.std.proofs.Common.{◌≡◌, ◌≢◌, refl, ℕ, suc, max, List, [], ◌∷◌, ◌++◌, map, flat_map, Option, Some, None, ap, sym, ◌∙◌, subst, append_assoc, arith}
+use Rattle.std.proofs.Common.{◌≡◌, ◌≢◌, refl, ℕ, suc, max, List, [], ◌∷◌, ◌++◌, map, flat_map, Some, None, ap, sym, ◌∙◌, subst, append_assoc, arith}
 use Rattle.std.proofs.lemmas.List.{append-nil, map-append}
 use Rattle.std.proofs.lemmas.List.Elements.{All-map}
 use Rattle.std.proofs.lemmas.Grind.{flat_map-append}
@@ -8,7 +8,6 @@ use Rattle.c_ast.specs.declared.token.Lexeme.{Lexeme}
 use Rattle.c_ast.specs.declared.token.Lexeme.TheVariants as lexeme
 use Rattle.c_ast.specs.declared.token.Token.{Token}
 use Rattle.c_ast.specs.declared.expr.CType.{CType}
-use Rattle.c_ast.specs.declared.expr.CType.TheVariants as type
 use Rattle.c_ast.specs.declared.expr.CType.TheOpen.{CType-F}
 use Rattle.c_ast.specs.declared.declaration.Storage.{Storage}
 use Rattle.c_ast.specs.declared.declaration.Decl.{Decl}
@@ -24,17 +23,16 @@ use Rattle.c_grammar.specs.Externals as grammar
 use Rattle.c_grammar.specs.Parameters.{Parameters, AllNamed}
 use Rattle.c_grammar.specs.Objects.{Objects}
 use Rattle.c_grammar.specs.Statements.{Outside, Block}
-use Rattle.c_grammar.specs.Words.{IsName, span_of}
-use Rattle.c_ast.specs.declared.program.Function.{Function}
+use Rattle.c_grammar.specs.Words.{span_of}
 use Rattle.c_grammar.specs.Spells.{Spells}
 use Rattle.c_print.specs.Words.{punct, with_commas}
 use Rattle.c_print.specs.Tokens.{token_of, tokens_of}
 use Rattle.c_print.specs.Expressions.{parts_of}
 use Rattle.c_print.specs.Declarations.{object_of, parameters_of, storage_of}
 use Rattle.c_print.specs.Statements.{stmt_of}
-use Rattle.c_print.specs.Program.{head_of, external_of, lexemes_of_program}
+use Rattle.c_print.specs.Program.{external_of, lexemes_of_program}
 use Rattle.c_print.specs.Spans.{no_span, bare_type, bare_decl, bare_stmt, bare_external, bare_program}
-use Rattle.c_print.proofs.Lists.{tokens-append, tokens-three, tokens-four, placed}
+use Rattle.c_print.proofs.Lists.{tokens-append, tokens-four, placed}
 use Rattle.c_print.proofs.Made.{type_made}
 use Rattle.c_print.proofs.TypeSpelled.{Plain, base_plain, base_spelled, stars_spelled, stars_base}
 use Rattle.c_print.proofs.ObjectSpelled.{objects_base, objects_spelled}

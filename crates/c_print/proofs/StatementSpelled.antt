@@ -1,5 +1,5 @@
 -- The lexemes of a statement spell it.
-use Rattle.std.proofs.Common.{◌≡◌, refl, ℕ, suc, max, List, [], ◌∷◌, ◌++◌, map, flat_map, Option, Some, None, ap, sym, ◌∙◌, subst}
+use Rattle.std.proofs.Common.{◌≡◌, refl, ℕ, List, [], ◌∷◌, ◌++◌, map, Option, Some, None, ap, sym, ◌∙◌, subst}
 use Rattle.std.proofs.lemmas.List.{append-nil, map-append}
 use Rattle.std.proofs.lemmas.Grind.{flat_map-append}
 use Rattle.c_ast.specs.Opened.{given_trees}
@@ -17,35 +17,29 @@ use Rattle.c_ast.specs.declared.keyword.Keyword.TheVariants as key
 use Rattle.c_ast.specs.declared.punctuator.Punctuator.TheVariants as mark
 use Rattle.c_grammar.specs.Objects as objects
 use Rattle.c_grammar.specs.Objects.{Local}
-use Rattle.c_grammar.specs.Statements.{Place, Ending, Closed, MaybeExpression, left_out, written, First, first_local, first_expression, Statement, Block, BlockItems, BlockItem}
+use Rattle.c_grammar.specs.Statements.{Place, Ending, MaybeExpression, left_out, written, First, first_local, first_expression, Statement, Block, BlockItems, BlockItem}
 use Rattle.c_grammar.specs.Statements as grammar
 use Rattle.c_print.specs.Words.{word, punct}
 use Rattle.c_print.specs.Tokens.{token_of, tokens_of}
-use Rattle.c_print.specs.Expressions.{lexemes_of}
 use Rattle.c_print.specs.Declarations.{objects_of}
 use Rattle.c_print.specs.Statements.{maybe_of, first_of_for, joined, item_step, stmt_step, stmt_of, item_of}
-use Rattle.c_print.specs.Spans.{no_span, option_map, bare, bare_decl, bare_item_step, bare_stmt_step, bare_stmt, bare_item}
+use Rattle.c_print.specs.Spans.{option_map, bare, bare_decl, bare_item_step, bare_stmt_step, bare_stmt, bare_item}
+use Rattle.c_print.specs.BareLaws.{bare_in_stmt, bare_in_item, stmt_bare, item_bare}
 use Rattle.c_print.proofs.Lists.{tokens-append, tokens-inside, tokens-inside_two, tokens-behind, NonEmpty, placed}
 use Rattle.c_print.proofs.ExpressionSpelled.{expression_spelled}
 use Rattle.c_print.proofs.ObjectSpelled.{some_object, local_spelled}
 
-abbrev bare_in : StmtLayer → StmtLayer
-bare_in = map-Stmt Item Stmt Item Stmt bare_item bare_stmt
-
 abbrev lexemes_in : StmtLayer → Stmt-F (List Lexeme) (List Lexeme)
 lexemes_in = map-Stmt Item Stmt (List Lexeme) (List Lexeme) item_of stmt_of
-
-abbrev bare_in_item : ItemLayer → ItemLayer
-bare_in_item = map-Item Item Stmt Item Stmt bare_item bare_stmt
 
 abbrev lexemes_in_item : ItemLayer → Item-F (List Lexeme) (List Lexeme)
 lexemes_in_item = map-Item Item Stmt (List Lexeme) (List Lexeme) item_of stmt_of
 
 -- a fact of a statement made of its parts
-stmt_made : (P : Stmt → List Token → Type 0) (d : StmtLayer) {w : List Token} → tokens_of (stmt_step (lexemes_in d)) ≡ w → P (bare_stmt_step (bare_in d)) w →
+stmt_made : (P : Stmt → List Token → Type 0) (d : StmtLayer) {w : List Token} → tokens_of (stmt_step (lexemes_in d)) ≡ w → P (bare_stmt_step (bare_in_stmt d)) w →
     P (bare_stmt (roll-Stmt d)) (tokens_of (stmt_of (roll-Stmt d)))
 stmt_made P d {w} is p =
-    let tree = fold-roll-Stmt Item Stmt bare_item_step bare_stmt_step d in
+    let tree = stmt_bare d in
     let words = fold-roll-Stmt (List Lexeme) (List Lexeme) item_step stmt_step d in
     let Q : Stmt → Type 0 = λ s. P s w in
     let R : List Token → Type 0 = P (bare_stmt (roll-Stmt d)) in
@@ -54,7 +48,7 @@ stmt_made P d {w} is p =
 item_made : (P : Item → List Token → Type 0) (d : ItemLayer) → P (bare_item_step (bare_in_item d)) (tokens_of (item_step (lexemes_in_item d))) →
     P (bare_item (roll-Item d)) (tokens_of (item_of (roll-Item d)))
 item_made P d p =
-    let tree = fold-roll-Item Item Stmt bare_item_step bare_stmt_step d in
+    let tree = item_bare d in
     let words = fold-roll-Item (List Lexeme) (List Lexeme) item_step stmt_step d in
     let Q : Item → Type 0 = λ s. P s (tokens_of (item_step (lexemes_in_item d))) in
     let R : List Token → Type 0 = P (bare_item (roll-Item d)) in

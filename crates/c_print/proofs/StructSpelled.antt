@@ -1,5 +1,5 @@
 -- The lexemes of a struct spell it.
-use Rattle.std.proofs.Common.{◌≡◌, refl, ℕ, suc, max, ◌≤◌, List, [], ◌∷◌, ◌++◌, map, flat_map, Option, Some, None, ap, sym, ◌∙◌, subst, append_assoc, arith}
+use Rattle.std.proofs.Common.{◌≡◌, refl, ℕ, suc, max, List, [], ◌∷◌, ◌++◌, map, flat_map, Some, None, ap, subst, append_assoc, arith}
 use Rattle.std.proofs.lemmas.List.{append-nil, map-append}
 use Rattle.std.proofs.lemmas.Grind.{flat_map-append}
 use Rattle.c_ast.specs.declared.token.Lexeme.{Lexeme}
@@ -21,7 +21,7 @@ use Rattle.c_print.specs.Expressions.{parts_of}
 use Rattle.c_print.specs.Declarations.{among, member_of, struct_of}
 use Rattle.c_print.specs.Spans.{no_span, bare_type, bare_decl, bare_struct}
 use Rattle.c_print.proofs.Lists.{tokens-append, tokens-inside, tokens-three, span_of-tokens, placed}
-use Rattle.c_print.proofs.TypeSpelled.{Plain, base_plain, base_spelled}
+use Rattle.c_print.proofs.TypeSpelled.{base_plain, base_spelled}
 use Rattle.c_print.proofs.DeclaratorSpelled.{declarator_spelled, declarator_base}
 
 -- one member as a declaration of its own

@@ -1,7 +1,6 @@
 -- The lexemes of a type spell it.
-use Rattle.std.proofs.Common.{◌≡◌, refl, ℕ, suc, List, [], ◌∷◌, ◌++◌, ap, ◌∙◌}
+use Rattle.std.proofs.Common.{◌≡◌, refl, ℕ, suc, List, []}
 use Rattle.c_ast.specs.Opened.{given_trees}
-use Rattle.c_ast.specs.declared.token.Lexeme.{Lexeme}
 use Rattle.c_ast.specs.declared.token.Token.{Token}
 use Rattle.c_ast.specs.declared.int_type.IntType.{IntType}
 use Rattle.c_ast.specs.declared.int_type.IntType.TheVariants as integer
@@ -10,8 +9,8 @@ use Rattle.c_ast.specs.declared.expr.CType.TheVariants as type
 use Rattle.c_ast.specs.declared.expr.CType.TheOpen.{CType-F}
 use Rattle.c_grammar.specs.Types.{Keywords, Base, TypeName, Stars, char, signed_char, unsigned_char, short, unsigned_short, int, unsigned, long, unsigned_long, words, word, type_name, star}
 use Rattle.c_grammar.specs.Types as types
-use Rattle.c_print.specs.Tokens.{token_of, tokens_of}
-use Rattle.c_print.specs.Expressions.{TypeParts, int_words, type_name_of, parts_of}
+use Rattle.c_print.specs.Tokens.{tokens_of}
+use Rattle.c_print.specs.Expressions.{int_words, type_name_of, parts_of}
 use Rattle.c_print.specs.Spans.{bare_type}
 use Rattle.c_print.proofs.Lists.{tokens-append}
 use Rattle.c_print.proofs.Made.{type_made}

@@ -11,7 +11,6 @@ use Rattle.c_ast.specs.declared.expr.CType.TheOpen.{CType-F, Node-F, Expr-F}
 use Rattle.c_ast.specs.declared.expr.CType.TheFolds.{fold-CType, fold-Node, fold-Expr}
 use Rattle.c_ast.specs.declared.keyword.Keyword.TheVariants as key
 use Rattle.c_ast.specs.declared.punctuator.Punctuator.TheVariants as mark
-use Rattle.c_ast.specs.declared.operator.Step.{Step}
 use Rattle.c_ast.specs.Operators.{unary_punctuator, binary_punctuator, step_punctuator}
 use Rattle.c_grammar.specs.Operators.{assign_mark, Side, Before, Behind, step_side}
 use Rattle.c_print.specs.Words.{word, punct, with_commas}

@@ -1,5 +1,5 @@
 -- Trees without their spans: two trees are equal but for spans where they are equal without them (this project's own).
-use Rattle.std.specs.Prelude.{List, map, Option, Some, None}
+use Rattle.std.specs.Prelude.{map, Option, Some, None}
 use Rattle.c_ast.specs.declared.declaration.Init.{Init}
 use Rattle.c_ast.specs.declared.declaration.Init.TheVariants as init
 use Rattle.c_ast.specs.declared.declaration.Init.TheOpen.{Init-F}
@@ -20,7 +20,7 @@ use Rattle.c_ast.specs.declared.token.Span.{Span}
 use Rattle.c_ast.specs.declared.expr.CType.{CType, roll-CType}
 use Rattle.c_ast.specs.declared.expr.Expr.{Expr}
 use Rattle.c_ast.specs.declared.expr.Node.{Node, roll-Node}
-use Rattle.c_ast.specs.declared.expr.CType.TheOpen.{CType-F, Node-F, Expr-F}
+use Rattle.c_ast.specs.declared.expr.CType.TheOpen.{Expr-F}
 use Rattle.c_ast.specs.declared.expr.CType.TheFolds.{fold-CType, fold-Node, fold-Expr}
 
 abbrev pub option_map : {A B : Type 0} → (A → B) → Option A → Option B

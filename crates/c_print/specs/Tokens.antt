@@ -1,5 +1,5 @@
 -- Tokens that have nothing but their lexemes.
-use Rattle.std.specs.Prelude.{ℕ, List, [], map}
+use Rattle.std.specs.Prelude.{List, [], map}
 use Rattle.c_ast.specs.declared.token.Lexeme.{Lexeme}
 use Rattle.c_ast.specs.declared.token.Token.{Token}
 
@@ -9,3 +9,7 @@ token_of kind = record { kind = kind; text = record { ref_ptr = (0, 0); now = []
 
 abbrev pub tokens_of : List Lexeme → List Token
 tokens_of = map token_of
+
+-- the lexemes of tokens
+abbrev pub kinds : List Token → List Lexeme
+kinds = map (λ t. t.kind)

@@ -16,3 +16,9 @@ pub mod WordLaws
 pub mod WordGood
 pub mod SpanLaws
 pub mod OptionalLaws
+pub mod Starting
+pub mod Guarded
+pub mod Rounds
+pub mod RoundLaws
+pub mod Depths
+pub mod WordLists

@@ -33,8 +33,9 @@ module _ {T A : Type 0} (test : T → Bool) (allowed room : A → Bool) (q : A �
       (gp : Good p L F first more) (gs : (a : A) → MayFollow F allowed room a → Good (q a) (S a) F test last)
       (begins : (a : A) (x : T) → allowed a ≡ true → test x ≡ true → Begins (S a) (x ∷ []))
       (back : (a b : A) (u : List T) → S a b u → F b → MayFollow F allowed room a)
-      (apart : (a : A) (x : T) → test x ≡ true → more a x ≡ false)
-      (ends : (a : A) (x : T) → goes_on a x ≡ false → (more a x ≡ false) × (test x ≡ false) × (last a x ≡ false)) where
+      (apart : (a : A) (x : T) → allowed a ≡ true → test x ≡ true → more a x ≡ false)
+      (ends : (a : A) (w : List T) → L a w → (x : T) → goes_on a x ≡ false → (more a x ≡ false) × (test x ≡ false))
+      (ends_behind : (a b : A) (u : List T) → S a b u → (x : T) → goes_on b x ≡ false → last b x ≡ false) where
     abbrev rest_of : A → Parser T A
     rest_of = follows test allowed room q
 
@@ -160,30 +161,42 @@ module _ {T A : Type 0} (test : T → Bool) (allowed room : A → Bool) (q : A �
     optional_starts a w (alone l) = gp.starts a w l
     optional_starts a w (followed {a = b} {w = v} {u = u} l s) = starts_append first v u (gp.starts b v l)
 
-    stops_more : (a : A) (rest : List T) → Stops (goes_on a) rest → Stops (more a) rest
-    stops_more a [] h = tt
-    stops_more a (x ∷ rest) h = (ends a x h).0
+    stops_more : (a : A) (w rest : List T) → L a w → Stops (goes_on a) rest → Stops (more a) rest
+    stops_more a w [] l h = tt
+    stops_more a w (x ∷ rest) l h = (ends a w l x h).0
 
-    stops_last : (a : A) (rest : List T) → Stops (goes_on a) rest → Stops (last a) rest
-    stops_last a [] h = tt
-    stops_last a (x ∷ rest) h = (ends a x h).2
+    stops_test : (a : A) (w rest : List T) → L a w → Stops (goes_on a) rest → sees test rest ≡ false
+    stops_test a w [] l h = refl
+    stops_test a w (x ∷ rest) l h = (ends a w l x h).1
 
-    stops_test : (a : A) (rest : List T) → Stops (goes_on a) rest → sees test rest ≡ false
-    stops_test a [] h = refl
-    stops_test a (x ∷ rest) h = (ends a x h).1
+    stops_last : (a b : A) (u rest : List T) → S a b u → Stops (goes_on b) rest → Stops (last b) rest
+    stops_last a b u [] s h = tt
+    stops_last a b u (x ∷ rest) s h = ends_behind a b u s x h
 
     part_starts : (a b : A) (u rest : List T) → StartsIn test u → MayFollow F allowed room a → rest_of a (u ++ rest) ≡ q a (u ++ rest)
     part_starts a b u rest s may = ap (λ w. rest_of a (w ++ rest)) s.parts ∙ follows_part a (s.head ∷ s.tail ++ rest) s.is_first may.is_allowed may.has_room ∙ ap (λ w. q a (w ++ rest)) (sym s.parts)
 
     optional_complete : (a : A) (w rest : List T) → Perhaps L S a w → F a → Stops (goes_on a) rest → whole (w ++ rest) ≡ Read a rest
     optional_complete a w rest (alone l) fits stop =
-        ap (λ o. and_then o rest_of) (gp.complete a w rest l fits (stops_more a rest stop)) ∙ follows_stop a rest (stops_test a rest stop)
+        ap (λ o. and_then o rest_of) (gp.complete a w rest l fits (stops_more a w rest l stop)) ∙ follows_stop a rest (stops_test a w rest l stop)
     optional_complete a w rest (followed {a = b} {w = v} {u = u} l s) fits stop =
         let may : MayFollow F allowed room b = back b a u s fits in
         let starts : StartsIn test u = (gs b may).starts a u s in
         ap whole (append_assoc v u rest)
-        ∙ ap (λ o. and_then o rest_of) (gp.complete b v (u ++ rest) l may.fits (stops_before (more b) test u rest starts (apart b)))
-        ∙ part_starts b a u rest starts may ∙ (gs b may).complete a u rest s fits (stops_last a rest stop)
+        ∙ ap (λ o. and_then o rest_of) (gp.complete b v (u ++ rest) l may.fits (stops_before (more b) test u rest starts (λ x e. apart b x may.is_allowed e)))
+        ∙ part_starts b a u rest starts may ∙ (gs b may).complete a u rest s fits (stops_last b a u rest s stop)
 
-    pub optional_good : Good whole (Perhaps L S) F first goes_on
-    optional_good = record { some = lone [] gp.some; starts = optional_starts; complete = optional_complete; tells = λ ts. optional_tells ts (p ts) (gp.tells ts) }
+    -- what goes on behind the whole may hang on whether the part was there
+    pub optional_good_by : Good whole (Perhaps L S) F first goes_on
+    optional_good_by = record { some = lone [] gp.some; starts = optional_starts; complete = optional_complete; tells = λ ts. optional_tells ts (p ts) (gp.tells ts) }
+
+  -- likewise, where no more goes on behind the whole than behind each part
+  pub optional_good : {p : Parser T A} {L : Language T A} {F : A → Type 0} {first : T → Bool} {more last : A → T → Bool} (S : A → Language T A) (goes_on : A → T → Bool) →
+      Good p L F first more → ((a : A) → MayFollow F allowed room a → Good (q a) (S a) F test last) →
+      ((a : A) (x : T) → allowed a ≡ true → test x ≡ true → Begins (S a) (x ∷ [])) →
+      ((a b : A) (u : List T) → S a b u → F b → MayFollow F allowed room a) →
+      ((a : A) (x : T) → test x ≡ true → more a x ≡ false) →
+      ((a : A) (x : T) → goes_on a x ≡ false → (more a x ≡ false) × (test x ≡ false) × (last a x ≡ false)) →
+      Good (optional test allowed room p q) (Perhaps L S) F first goes_on
+  optional_good S goes_on gp gs begins back apart ends =
+      optional_good_by S goes_on gp gs begins back (λ a x may e. apart a x e) (λ a w l x h. ((ends a x h).0, (ends a x h).1)) (λ a b u s x h. (ends b x h).2)

@@ -28,3 +28,14 @@ span_join first second u t v s r =
 -- a word between two tokens
 pub span_between : (l : Token) (u : List Token) (r : Token) → span_of (l ∷ u ++ r ∷ []) ≡ record { start = l.start; end = end_of r }
 span_between l u r = ap (λ end. record { start = l.start; end = end }) (last_end_append l u r [])
+
+-- two words, one behind the other
+pub span_append : (first second : Token → Bool) (u v : List Token) → StartsIn first u → StartsIn second v → span_of (u ++ v) ≡ join_spans (span_of u) (span_of v)
+span_append first second u v s r =
+    ap (λ u. span_of (u ++ v)) s.parts ∙ ap (λ v. span_of ((s.head ∷ s.tail) ++ v)) r.parts
+    ∙ ap (λ end. record { start = s.head.start; end = end }) (last_end_append s.head s.tail r.head r.tail)
+    ∙ ap (λ u. join_spans (span_of u) (span_of (r.head ∷ r.tail))) (sym s.parts) ∙ ap (λ v. join_spans (span_of u) (span_of v)) (sym r.parts)
+
+pub end_last : (w : List Token) (t : Token) → (span_of (w ++ t ∷ [])).end ≡ end_of t
+end_last [] t = refl
+end_last (x ∷ u) t = last_end_append x u t []

@@ -115,3 +115,6 @@ spot_starts w M c u (join {v = v} (spot t e) m) = record { head = t; tail = v; p
 -- some word begins with this word
 pub spot_begins : {B : Type 0} (w : ℕ) (M : Span → Language Token B) (t : Token) → is w t ≡ true → Begins (M (place_of t)) [] → Begins (Then (Spot w) M) (t ∷ [])
 spot_begins w M t e b = record { value = (place_of t, b.value); more = b.more; whole = join (spot t (equal_is (word_of t) w e)) b.whole }
+
+pub starts_spot : (w : ℕ) (place : Span) (u : List Token) → Spot w place u → StartsIn (is w) u
+starts_spot w place u (spot t e) = record { head = t; tail = []; parts = refl; is_first = is_equal (word_of t) w e }

@@ -5,6 +5,7 @@ ghost use Rattle.std.specs.Option.{option_copied};
 ghost use Rattle.c_grammar.specs.Words.{end_of, keyword, punctuator, word_of};
 ghost use Rattle.c_reader.specs.Answer.{sees};
 ghost use Rattle.c_reader.specs.Reading.{Answers, next_of, rest_of};
+ghost use Rattle.c_reader.specs.Starting.{start_of};
 ghost use Rattle.c_reader.specs.Words as spec;
 
 use crate::fault::{Fault, Stop};
@@ -52,6 +53,16 @@ impl<'s, 't> Cursor<'s, 't> {
         ensures { option_copied result ≡ next_of self.now }
     {
         self.left.first()
+    }
+
+    /// Where the next token starts, or 0 at the end.
+    pub fn start(&self) -> u32
+        ensures { result ≡ start_of self.now }
+    {
+        match self.left {
+            [] => 0,
+            [next, ..] => next.start,
+        }
     }
 
     /// How many tokens are left.

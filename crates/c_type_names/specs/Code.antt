@@ -1,7 +1,6 @@
 -- What the code of the parser needs of the parser.
-use Rattle.std.specs.Prelude.{◌≡◌, ℕ, ◌<◌, ◌≤◌, Bool, true, false, nat_lt, ◌||◌, if◌then◌else◌, List, [], ◌∷◌, Option, Some, None, is_some, Ok, refl}
+use Rattle.std.specs.Prelude.{◌≡◌, ℕ, ◌<◌, ◌≤◌, Bool, true, false, ◌||◌, if◌then◌else◌, List, [], ◌∷◌, Option, Some, None, is_some, Ok, refl}
 use Rattle.std.proofs.Common.{sym, ◌∙◌, ap, arith}
-use Rattle.std.proofs.lemmas.Bool.Decides.{nat_tests}
 use Rattle.c_ast.specs.declared.token.Span.{Span}
 use Rattle.c_ast.specs.declared.token.Token.{Token}
 use Rattle.c_ast.specs.declared.keyword.Keyword.{Keyword}
@@ -19,12 +18,13 @@ use Rattle.c_reader.specs.Reading.{Answers, error, next_of, rest_of, either_one,
 use Rattle.c_reader.specs.Words as read
 use Rattle.c_reader.specs.Words.{is, place_of, any, punct}
 use Rattle.c_reader.specs.WordLaws.{next_value, sees_value, value_passed}
+use Rattle.c_reader.specs.Depths.{is_below, not_below}
 use Rattle.c_type_names.specs.declared.type_words.SizeWord.{SizeWord}
 use Rattle.c_type_names.specs.declared.type_words.TypeWords.{TypeWords}
 use Rattle.c_type_names.specs.declared.type_read.TypeRead.{TypeRead}
 use Rattle.c_type_names.specs.TypeWords.{among, first_at, size_at, ending, pick_first, pick_size, is_size, first_of, sized_of, int_of}
-use Rattle.c_type_names.specs.TypeNames.{Reader, WordReader, free, takes_size, takes_int, first_word, size_word, int_word, sized, type_words, integer_of, integer, struct_of, void_of, struct_type, void_type, void_or_integer, base, begins_type, has_room, pick_star, star_of, star, type_name}
-use Rattle.c_type_names.specs.TypeNameLaws.{Low, StarBehind, star_good, is_below}
+use Rattle.c_type_names.specs.TypeNames.{Reader, WordReader, free, takes_size, takes_int, first_word, size_word, int_word, sized, type_words, integer_of, integer, struct_of, void_of, struct_type, void_type, void_or_integer, base, begins_type, has_room, pick_star, star_of, star, stars, type_name}
+use Rattle.c_type_names.specs.TypeNameLaws.{Low, StarBehind, star_good}
 
 -- ---- which word comes next
 
@@ -178,11 +178,9 @@ pub type_is : (d : ℕ) (ts : List Token) → type_name d ts ≡ and_then (base 
 unfolding type_name more_stars
 type_is d ts = refl
 
-pub type_first : (d : ℕ) (ts us : List Token) (a : TypeRead) → base ts ≡ Read a us → type_name d ts ≡ more_stars d a us
-type_first d ts us a e = type_is d ts ∙ ap (λ o. and_then o (more_stars d)) e
-
-not_below : (m n : ℕ) → n ≤ m → nat_lt m n ≡ false
-not_below m n h = grind (arith, nat_tests)
+pub stars_is : (d : ℕ) (a : TypeRead) (ts : List Token) → stars d a ts ≡ and_then (makes (star_of a) (punct mark.Star) ts) (more_stars d)
+unfolding stars more_stars star
+stars_is d a ts = refl
 
 pub stars_end : (d : ℕ) (a : TypeRead) (ts : List Token) → next_value pick_star ts ≡ None → more_stars d a ts ≡ Read a ts
 unfolding more_stars

@@ -4,6 +4,8 @@ pub mod NameLaws
 pub mod TypeWordLaws
 pub mod TypeOrders
 pub mod TypeNameLaws
+pub mod StarLaws
 pub mod Growth
 pub mod Code
 pub mod WholeCode
+pub mod Bases

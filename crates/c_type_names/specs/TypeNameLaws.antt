@@ -1,7 +1,6 @@
 -- The parser of type names reads their language.
-use Rattle.std.specs.Prelude.{◌≡◌, ℕ, suc, ◌<◌, ◌≤◌, Bool, true, false, ◌==◌, ◌||◌, nat_lt, List, [], ◌∷◌, ◌++◌, is_some, refl}
+use Rattle.std.specs.Prelude.{◌≡◌, ℕ, suc, ◌<◌, ◌≤◌, Bool, true, false, ◌==◌, ◌||◌, List, [], ◌∷◌, ◌++◌, is_some, refl}
 use Rattle.std.proofs.Common.{sym, ◌∙◌, ap, subst, append_assoc, append-nil, arith, inl, inr}
-use Rattle.std.proofs.lemmas.Bool.Decides.{nat_tests}
 use Rattle.c_ast.specs.declared.token.Span.{Span}
 use Rattle.c_ast.specs.declared.token.Token.{Token}
 use Rattle.c_ast.specs.declared.expr.CType.{CType}
@@ -9,22 +8,24 @@ use Rattle.c_ast.specs.declared.expr.CType.TheVariants as type
 use Rattle.c_ast.specs.declared.int_type.IntType.{IntType}
 use Rattle.c_ast.specs.declared.keyword.Keyword.TheVariants as key
 use Rattle.c_ast.specs.declared.punctuator.Punctuator.TheVariants as mark
-use Rattle.c_grammar.specs.Words.{word_of, keyword, punctuator, end_of, span_of}
+use Rattle.c_grammar.specs.Words.{word_of, keyword, punctuator, span_of}
 use Rattle.c_grammar.specs.Types as grammar
 use Rattle.c_grammar.specs.Types.{Base, Stars, TypeName}
 use Rattle.c_reader.specs.declared.words.Named.{Named}
-use Rattle.c_reader.specs.Good.{Language, Begins, StartsIn, Good}
+use Rattle.c_reader.specs.Good.{Language, Begins, Good}
 use Rattle.c_reader.specs.Languages.{Then, join, Either, Chain, once, again}
 use Rattle.c_reader.specs.Laws.{Always, nothing, picks, thens_good, Made, makes_good, either_good}
 use Rattle.c_reader.specs.ChainLaws.{MayTurn, chain_good}
-use Rattle.c_reader.specs.SpanLaws.{last_end_append}
+use Rattle.c_reader.specs.SpanLaws.{end_last}
 use Rattle.c_reader.specs.Words.{is, place_of, pick_name, name}
-use Rattle.c_reader.specs.WordGood.{Spot, spot, Naming, naming, good_as, good_on, key_good, punct_good, spot_starts, spot_begins, equal_is, is_equal}
+use Rattle.c_reader.specs.WordGood.{Spot, spot, Naming, naming, good_as, good_on, key_good, punct_good, spot_starts, spot_begins, equal_is, starts_spot}
+use Rattle.c_reader.specs.Depths.{below_is, is_below}
+use Rattle.c_reader.specs.WordLists.{or_left, or_right, both_false}
 use Rattle.c_type_names.specs.declared.type_read.TypeRead.{TypeRead}
 use Rattle.c_type_names.specs.TypeWords.{first_at, size_at}
 use Rattle.c_type_names.specs.TypeNames.{struct_of, void_of, integer_of, void_type, struct_type, void_or_integer, base, begins_type, begins_integer, has_room, star_of, star, type_name}
 use Rattle.c_type_names.specs.NameLaws.{name_good, name_begins}
-use Rattle.c_type_names.specs.TypeWordLaws.{Words, more_words, is_first_word, other_word, no_word, or_no, integer_good}
+use Rattle.c_type_names.specs.TypeWordLaws.{Words, more_words, is_first_word, other_word, no_word, integer_good}
 use Rattle.c_type_names.specs.TypeOrders.{BaseWord, integer_into, Spelled, words_out}
 
 -- ---- `void`, a struct by its tag, and integer types
@@ -47,13 +48,6 @@ goes_on_base a t = more_words t
 
 abbrev begins_void_or_integer : Token → Bool
 begins_void_or_integer t = is (keyword key.Void) t || is_first_word t
-
-or_left : (a b : Bool) → a ≡ true → (a || b) ≡ true
-or_left a b e = ap (λ a. a || b) e
-
-or_right : (a b : Bool) → b ≡ true → (a || b) ≡ true
-or_right true b e = refl
-or_right false b e = e
 
 void_no_first : is_some (first_at (keyword key.Void)) ≡ false
 unfolding first_at
@@ -90,14 +84,11 @@ struct_begins t e =
     let b = spot_begins (keyword key.Struct) (λ _. Naming) t e name_begins in
     record { value = struct_of b.value; more = b.more; whole = record { source = b.value; is = refl; word = b.whole } }
 
-spot_first : (w : ℕ) (place : Span) (u : List Token) → Spot w place u → StartsIn (is w) u
-spot_first w place u (spot t e) = record { head = t; tail = []; parts = refl; is_first = is_equal (word_of t) w e }
-
 void_or_integer_good : Good void_or_integer VoidOrInteger Always begins_void_or_integer goes_on_base
 unfolding void_or_integer
 void_or_integer_good = either_good (is (keyword key.Void)) true begins_void_or_integer
     (λ _. good_on goes_on_base void_good (λ a x h. refl)) integer_good
-    void_begins (λ a w m h. refl) (λ a w m. spot_first (keyword key.Void) m.source w m.word)
+    void_begins (λ a w m h. refl) (λ a w m. starts_spot (keyword key.Void) m.source w m.word)
     (λ x h. other_word begins_integer (keyword key.Void) (word_of x) void_no_first h)
     (λ x h. or_left (is (keyword key.Void) x) (is_first_word x) h) (λ x h. or_right (is (keyword key.Void) x) (is_first_word x) h)
 
@@ -114,7 +105,7 @@ base_into v w (inl m) = subst (λ v. BaseWord v w) m.is (struct_pair m.source w 
 base_into v w (inr (inl m)) = subst (λ v. BaseWord v w) m.is (void_spot m.source w m.word)
 base_into v w (inr (inr m)) = integer_into v w m
 
-abbrev typed : CType → ℕ → ℕ → TypeRead
+abbrev pub typed : CType → ℕ → ℕ → TypeRead
 typed ty height end = record { ty = ty; height = height; end = end }
 
 integer_back : (ty : IntType) (w : List Token) → Spelled ty w → Either StructType VoidOrInteger (typed (type.Int ty) 0 (span_of w).end) w
@@ -162,10 +153,6 @@ StarBehind a = Made (star_of a) (Spot (punctuator mark.Star))
 abbrev pub goes_on_type : TypeRead → Token → Bool
 goes_on_type a t = more_words t || is (punctuator mark.Star) t
 
-end_last : (w : List Token) (t : Token) → (span_of (w ++ t ∷ [])).end ≡ end_of t
-end_last [] t = refl
-end_last (x ∷ u) t = last_end_append x u t []
-
 star_name : (n : ℕ) (ty : CType) (w : List Token) (t : Token) → TypeName n ty w → word_of t ≡ punctuator mark.Star → TypeName (suc n) (type.Pointer ty) (w ++ t ∷ [])
 star_name n ty w t (grammar.type_name {u = u} {v = v} b s) e =
     subst (λ w. TypeName (suc n) (type.Pointer ty) w) (sym (append_assoc u v (t ∷ []))) (grammar.type_name b (grammar.star t s e))
@@ -193,30 +180,28 @@ name_chain n ty w (grammar.type_name {base = of} {u = u} {v = v} b s) = stars_ou
 type_out : (v : TypeRead) (w : List Token) → TypeWord v w → Chain BaseWord StarBehind v w
 type_out v w m = subst (λ end. Chain BaseWord StarBehind (typed v.ty v.height end) w) (sym m.end) (name_chain v.height v.ty w m.name)
 
-star_begins : (a : TypeRead) (t : Token) → is (punctuator mark.Star) t ≡ true → Begins (StarBehind a) (t ∷ [])
+pub star_begins : (a : TypeRead) (t : Token) → is (punctuator mark.Star) t ≡ true → Begins (StarBehind a) (t ∷ [])
 star_begins a t e = record {
   value = star_of a (place_of t);
   more = [];
   whole = record { source = place_of t; is = refl; word = spot t (equal_is (word_of t) (punctuator mark.Star) e) };
 }
 
-below_is : (m n : ℕ) → nat_lt m n ≡ true → m < n
-below_is m n h = grind (arith, nat_tests)
-
-pub is_below : (m n : ℕ) → m < n → nat_lt m n ≡ true
-is_below m n h = grind (arith, nat_tests)
-
-may_star : (d : ℕ) (a b : TypeRead) (u : List Token) → StarBehind a b u → Low d b → MayTurn (Low d) (has_room d) a
+pub may_star : (d : ℕ) (a b : TypeRead) (u : List Token) → StarBehind a b u → Low d b → MayTurn (Low d) (has_room d) a
 may_star d a b u m low =
     let high : suc a.height ≡ b.height = ap (λ v. v.height) m.is in
     record { fits = omega arith; has_room = is_below a.height d (omega arith) }
 
-pub star_good : (d : ℕ) (a : TypeRead) → MayTurn (Low d) (has_room d) a → Good (star a) (StarBehind a) (Low d) (is (punctuator mark.Star)) goes_on_base
+-- a star is read
+pub lone_star_good : (d : ℕ) (a : TypeRead) → MayTurn (Low d) (has_room d) a → Good (star a) (StarBehind a) (Low d) (is (punctuator mark.Star)) nothing
 unfolding star
-star_good d a may =
+lone_star_good d a may =
     let room : a.height < d = below_is a.height d may.has_room in
-    makes_good (star_of a) (StarBehind a) (Low d) goes_on_base (punct_good mark.Star)
+    makes_good (star_of a) (StarBehind a) (Low d) nothing (punct_good mark.Star)
     (λ c w m. record { source = c; is = refl; word = m }) (λ b w m. m) (λ c w m fits. omega arith) (λ c w m fits. tt) (λ c x h. refl)
+
+pub star_good : (d : ℕ) (a : TypeRead) → MayTurn (Low d) (has_room d) a → Good (star a) (StarBehind a) (Low d) (is (punctuator mark.Star)) goes_on_base
+star_good d a may = good_on goes_on_base (lone_star_good d a may) (λ a x h. refl)
 
 -- a type name is read
 pub type_good : (d : ℕ) → Good (type_name d) TypeWord (Low d) begins_type goes_on_type
@@ -224,5 +209,5 @@ unfolding type_name
 type_good d = good_as TypeWord (Low d) begins_type
     (chain_good (is (punctuator mark.Star)) (has_room d) star StarBehind (star_good d) goes_on_type (base_good d) star_begins (may_star d)
     (λ a x h. no_word (λ w. is_some (size_at w) || (w == keyword key.Int)) (punctuator mark.Star) (word_of x) star_no_word h)
-    (λ a x h. or_no (more_words x) (is (punctuator mark.Star) x) h))
+    (λ a x h. both_false (more_words x) (is (punctuator mark.Star) x) h))
     type_into type_out (λ v w m h. h) (λ v w m h. h) (λ x h. h)

@@ -103,3 +103,7 @@ star a = makes (star_of a) (punct mark.Star)
 -- a base, and then stars
 unfoldable pub type_name : ℕ → Reader
 type_name d = chain (is (punctuator mark.Star)) (has_room d) base star
+
+-- stars behind a type, at least one
+unfoldable pub stars : ℕ → TypeRead → Reader
+stars d a = chain (is (punctuator mark.Star)) (has_room d) (star a) star

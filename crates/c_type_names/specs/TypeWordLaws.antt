@@ -13,6 +13,7 @@ use Rattle.c_reader.specs.Laws.{Always, nothing, word_good, Made, makes_good}
 use Rattle.c_reader.specs.OptionalLaws.{MayFollow, optional_good}
 use Rattle.c_reader.specs.Words.{is, place_of}
 use Rattle.c_reader.specs.WordGood.{token_of, Spot, spot, good_as, key_good, equal_is}
+use Rattle.c_reader.specs.WordLists.{both_false}
 use Rattle.c_type_names.specs.declared.type_words.FirstWord.{FirstWord}
 use Rattle.c_type_names.specs.declared.type_words.FirstWord.TheVariants as first
 use Rattle.c_type_names.specs.declared.type_words.SizeWord.{SizeWord}
@@ -68,10 +69,6 @@ other_word test v w fails passes = go (w == v) refl
 -- likewise, the other way round
 pub no_word : (test : ℕ → Bool) (v w : ℕ) → test v ≡ false → (w == v) ≡ true → test w ≡ false
 no_word test v w fails same = ap test (equal_is w v same) ∙ fails
-
-pub or_no : (a b : Bool) → (a || b) ≡ false → (a ≡ false) × (b ≡ false)
-or_no false b e = (refl, e)
-or_no true b e = cc
 
 -- ---- one word
 
@@ -181,7 +178,7 @@ words_good = optional_good (is (keyword key.Int)) takes_int free int_word Int go
     (λ a x may h. int_begins a x may h)
     (λ a b u m h. record { fits = tt; is_allowed = m.allowed; has_room = refl })
     (λ a x h. no_word (λ w. is_some (size_at w)) (keyword key.Int) (word_of x) int_no_size h)
-    (λ a x h. let n = or_no (is_size x) (is (keyword key.Int) x) h in (n.0, n.1, refl))
+    (λ a x h. let n = both_false (is_size x) (is (keyword key.Int) x) h in (n.0, n.1, refl))
 
 -- the words of an integer type are read
 pub integer_good : Good integer (Made integer_of Words) Always is_first_word (λ a. more_words)

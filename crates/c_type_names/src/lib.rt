@@ -8,6 +8,6 @@ mod type_read;
 mod type_words;
 mod whole;
 
-pub use parser::{base, begins_type, type_name};
+pub use parser::{base, begins_type, stars, type_name};
 pub use type_read::TypeRead;
 pub use whole::parse_type_name;

@@ -4,6 +4,7 @@ ghost use Rattle.std.specs.Prelude.{◌≡◌, ◌<◌, ◌≤◌, ◌+◌, ◌^
 ghost use Rattle.c_reader.specs.Answer.{sees};
 ghost use Rattle.c_reader.specs.Reading.{Answers};
 ghost use Rattle.c_reader.specs.WordLaws.{next_value};
+ghost use Rattle.c_type_names.specs.Code as code;
 ghost use Rattle.c_type_names.specs.TypeNames as spec;
 
 use crate::type_read::TypeRead;
@@ -141,12 +142,17 @@ fn star(alloc: Global, read: TypeRead, place: Span) -> Result<TypeRead, AllocErr
     })
 }
 
-/// A type name with at most this many stars (C11 6.7.7).
-pub fn type_name(alloc: Global, cursor: &mut Cursor<'_, '_>, depth: u32) -> Result<TypeRead, Stop>
-    ensures answers { Answers (spec.type_name depth cursor.old) result cursor.new }
+/// The stars that are left behind a type.
+fn more_stars(
+    alloc: Global,
+    cursor: &mut Cursor<'_, '_>,
+    mut read: TypeRead,
+    depth: u32,
+) -> Result<TypeRead, Stop>
+    requires { read.height ≤ depth }
+    ensures answers { Answers (code.more_stars depth read cursor.old) result cursor.new }
     ensures low { IfOk result (λ read. read.height ≤ depth) }
 {
-    let mut read = base(alloc, cursor)?;
     while let Some(place) = next_star(cursor) {
         if read.height >= depth {
             return Err(Stop::Fault(Fault::TooDeep));
@@ -155,6 +161,31 @@ pub fn type_name(alloc: Global, cursor: &mut Cursor<'_, '_>, depth: u32) -> Resu
         read = star(alloc, read, place)?;
     }
     Ok(read)
+}
+
+/// One or more stars behind a type (C11 6.7.6.1).
+pub fn stars(
+    alloc: Global,
+    cursor: &mut Cursor<'_, '_>,
+    read: TypeRead,
+    depth: u32,
+) -> Result<TypeRead, Stop>
+    requires { read.height < depth }
+    ensures answers { Answers (spec.stars depth read cursor.old) result cursor.new }
+    ensures low { IfOk result (λ read. read.height ≤ depth) }
+{
+    let place = cursor.expect(Punctuator::Star)?;
+    let first = star(alloc, read, place)?;
+    more_stars(alloc, cursor, first, depth)
+}
+
+/// A type name with at most this many stars (C11 6.7.7).
+pub fn type_name(alloc: Global, cursor: &mut Cursor<'_, '_>, depth: u32) -> Result<TypeRead, Stop>
+    ensures answers { Answers (spec.type_name depth cursor.old) result cursor.new }
+    ensures low { IfOk result (λ read. read.height ≤ depth) }
+{
+    let read = base(alloc, cursor)?;
+    more_stars(alloc, cursor, read, depth)
 }
 
 /// Whether the next token begins a type.

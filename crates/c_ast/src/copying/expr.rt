@@ -25,6 +25,7 @@ fn copy_exprs(alloc: Global, exprs: &[Expr]) -> Result<Items<Expr>, AllocError>
     Ok(copied)
 }
 
+/// An equal type in memory of its own. The error is want of memory.
 #[cycle(expr)]
 pub fn copy_type(alloc: Global, ty: &CType) -> Result<CType, AllocError>
     ensures { IfOk result (λ copied. copied ≡ ty.now) }

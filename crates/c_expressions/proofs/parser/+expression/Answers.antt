@@ -2,47 +2,36 @@ use Rattle.std.proofs.Common.{◌-◌, suc, arith, sym, ◌∙◌, ap, refl}
 use Rattle.c_reader.specs.Reading.{rest_of, answers_on, answers_by, answers_stop, answers_next, answers_behind, answers_made, passed}
 use Rattle.c_reader.specs.WordLaws.{value_passed}
 use Rattle.c_expressions.specs.Operators.{pick_binary}
-use Rattle.c_expressions.specs.Code.{branches_of, branches_is, chosen_is, conditional_is, no_choice, choice_deep, choice_read, assignment_is, no_assign, assign_wrong, assign_deep, assign_read, assigned_is, stepped_is, operated_is, unary_step, unary_step_deep, unary_operated, unary_operated_deep, unary_postfix, rest_arguments, arguments_is, arguments_first, arguments_end, arguments_turn, arguments_read, argument_takes, called_empty, called_full, indexed_is, behind_index, behind_call, behind_short, more_suffixes, postfix_chain, postfix_first, suffixes_end, suffixes_deep, suffixes_turn, suffixes_read, suffix_takes, opened_is, primary_plain, primary_deep, primary_paren, operation_is, tier_is, tier_zero, tier_first, operations_end, operations_deep, operations_read, operation_takes, operations_turn, tier_chain, at_tier}
+use Rattle.c_expressions.specs.Code.{branches_of, branches_is, chosen_is, conditional_is, no_choice, choice_deep, choice_read, assignment_is, no_assign, assign_wrong, assign_deep, assign_read, assigned_is, rest_arguments, arguments_is, arguments_first, arguments_end, arguments_turn, arguments_read, argument_takes, called_empty, called_full, indexed_is, behind_index, behind_call, behind_short, more_suffixes, suffixes_end, suffixes_deep, suffixes_turn, suffixes_read, suffix_takes, operation_is, tier_is, tier_zero, tier_first, operations_end, operations_deep, operations_read, operation_takes, operations_turn, tier_chain, at_tier}
+use Rattle.c_expressions.specs.OperandCode.{grouped_is, stepped_is, operated_is, size_opened_name, size_opened_deep, size_opened_group, size_rest_bare, size_rest_deep, size_rest_open, sized_is, bare_step, bare_step_deep, bare_operated, bare_operated_deep, bare_sized, bare_worded, unary_bare, unary_deep, unary_group, casted_is, open_type, open_group, operand_bare, operand_deep, operand_open}
+use Rattle.c_ast.specs.declared.keyword.Keyword.TheVariants as key
 use Rattle.c_ast.specs.declared.punctuator.Punctuator.TheVariants as mark
+use Rattle.c_reader.specs.Words as read
 use Rattle.c_reader.specs.Words.{punct}
-use Rattle.c_expressions.specs.Expressions.{assignment, opened, called, under, tier}
+use Rattle.c_expressions.specs.Expressions.{assignment, called, grouped, size_opened, size_rest, cast_or_group, under, tier}
 use Rattle.c_expressions.specs.declared.suffix.Suffix.TheVariants as suffix
 use Rattle.c_expressions.specs.WordCode.{any_taken, placed_read}
 use Rattle.c_expressions.specs.Expressions.{step_word, unary_word}
 use Rattle.c_expressions.proofs.parser.+expression.Goals as goal
 
-pub opened-returns-in_err-inner-clause-answers : goal.opened-returns-in_err-inner-clause-answers
-opened-returns-in_err-inner-clause-answers t c =
+pub grouped-returns-in_err-inner-clause-answers : goal.grouped-returns-in_err-inner-clause-answers
+grouped-returns-in_err-inner-clause-answers t c =
     answers_on _ c.from_residual.ensures.1
-    (answers_by (opened_is c.args.depth c.args.left c.args.cursor.now c.requires) (answers_stop _ (answers_stop _ c.in_err-inner.ensures.answers)))
+    (answers_by (grouped_is c.args.depth c.args.left c.args.cursor.now c.requires) (answers_stop _ (answers_stop _ (answers_stop _ c.in_err-inner.ensures.answers))))
 
-pub opened-returns-in_err-right-clause-answers : goal.opened-returns-in_err-right-clause-answers
-opened-returns-in_err-right-clause-answers t c =
+pub grouped-returns-in_err-right-clause-answers : goal.grouped-returns-in_err-right-clause-answers
+grouped-returns-in_err-right-clause-answers t c =
     answers_on _ c.from_residual-in_err-right.ensures.1
-    (answers_by (opened_is c.args.depth c.args.left c.args.cursor.now c.requires)
-    (answers_stop _ (answers_next _ c.in_ok-inner.ensures.answers (answers_stop _ c.in_err-right.ensures))))
+    (answers_by (grouped_is c.args.depth c.args.left c.args.cursor.now c.requires)
+    (answers_stop _ (answers_stop _ (answers_next _ c.in_ok-inner.ensures.answers (answers_stop _ c.in_err-right.ensures)))))
 
-pub opened-returns-clause-answers : goal.opened-returns-clause-answers
-opened-returns-clause-answers t c =
-    answers_made c.in_ok-paren.ensures
-    (answers_by (opened_is c.args.depth c.args.left c.args.cursor.now c.requires)
+pub grouped-returns-clause-answers : goal.grouped-returns-clause-answers
+grouped-returns-clause-answers t c =
+    answers_by (grouped_is c.args.depth c.args.left c.args.cursor.now c.requires)
+    (answers_next _
+    (answers_made c.in_ok-read.ensures
     (answers_next _ (answers_next _ c.in_ok-inner.ensures.answers (answers_next _ c.in_ok-right.ensures (record { is = refl }))) (record { is = refl })))
-
-pub primary-returns-then-not-sees-clause-answers : goal.primary-returns-then-not-sees-clause-answers
-primary-returns-then-not-sees-clause-answers t c = answers_by (primary_plain c.args.depth c.args.cursor.now (sym c.if-not-sees.ensures)) c.plain.ensures.answers
-
-pub primary-returns-then-depth-eq0-clause-answers : goal.primary-returns-then-depth-eq0-clause-answers
-primary-returns-then-depth-eq0-clause-answers t c = record { is = primary_deep c.args.depth c.args.cursor.now (sym c.if-not-sees.ensures) (omega arith) }
-
-pub primary-returns-in_err-left-clause-answers : goal.primary-returns-in_err-left-clause-answers
-primary-returns-in_err-left-clause-answers t c =
-    answers_on _ c.from_residual.ensures.1
-    (answers_by (primary_paren c.args.depth c.args.cursor.now (sym c.if-not-sees.ensures) (omega arith)) (answers_stop _ (answers_stop _ c.in_err-left.ensures)))
-
-pub primary-returns-clause-answers : goal.primary-returns-clause-answers
-primary-returns-clause-answers t c =
-    answers_by (primary_paren c.args.depth c.args.cursor.now (sym c.if-not-sees.ensures) (omega arith))
-    (answers_behind (punct mark.LeftParen) (opened c.args.depth (under c.args.depth)) _ c.in_ok-left.ensures c.opened.ensures.answers)
+    c.suffixes.ensures.answers)
 
 pub operation-returns-in_err-right-clause-answers : goal.operation-returns-in_err-right-clause-answers
 operation-returns-in_err-right-clause-answers t c =
@@ -60,7 +49,7 @@ operation-returns-clause-answers t c =
 
 pub binary-returns-then-tier-eq0-clause-answers : goal.binary-returns-then-tier-eq0-clause-answers
 binary-returns-then-tier-eq0-clause-answers t c =
-    answers_by (tier_is c.args.depth c.args.tier 0 c.args.cursor.now c.if-tier-eq0.true ∙ tier_zero c.args.depth c.args.cursor.now) c.unary.ensures.answers
+    answers_by (tier_is c.args.depth c.args.tier 0 c.args.cursor.now c.if-tier-eq0.true ∙ tier_zero c.args.depth c.args.cursor.now) c.operand.ensures.answers
 
 pub binary-returns-in_err-left-clause-answers : goal.binary-returns-in_err-left-clause-answers
 binary-returns-in_err-left-clause-answers t c =
@@ -195,40 +184,33 @@ pub behind-returns-clause-answers : goal.behind-returns-clause-answers
 behind-returns-clause-answers t c =
     answers_by (behind_short c.args.depth c.args.cursor.now (sym c.if-sees.ensures) (sym c.if-sees-2.ensures)) c.short_suffix.ensures.answers
 
-pub postfix-returns-in_err-read-clause-answers : goal.postfix-returns-in_err-read-clause-answers
-postfix-returns-in_err-read-clause-answers t c =
-    answers_on _ c.from_residual.ensures.1 (answers_by (postfix_chain c.args.depth c.args.cursor.now) (answers_stop _ c.in_err-read.ensures.answers))
+pub suffixes-loop-alloc-init : goal.suffixes-loop-alloc-init
+suffixes-loop-alloc-init t c = record { reads = refl; low = c.requires }
 
-pub postfix-loop-alloc-init : goal.postfix-loop-alloc-init
-postfix-loop-alloc-init t c = record {
-  reads = postfix_first c.args.depth c.args.cursor.now c.primary.new.cursor c.in_ok-read.read c.in_ok-read.ensures.answers.is;
-  low = c.in_ok-read.ensures.low;
-}
-
-pub postfix-returns-then-read-depth-clause-answers : goal.postfix-returns-then-read-depth-clause-answers
-postfix-returns-then-read-depth-clause-answers t c =
+pub suffixes-returns-then-read-depth-clause-answers : goal.suffixes-returns-then-read-depth-clause-answers
+suffixes-returns-then-read-depth-clause-answers t c =
     record { is = c.loop-alloc.invariant.reads ∙ suffixes_deep c.args.depth c.loop-alloc.read c.loop-alloc.cursor (sym c.sees_suffix.ensures ∙ c.loop-alloc-test.true) (omega arith) }
 
-pub postfix-returns-in_err-suffix-clause-answers : goal.postfix-returns-in_err-suffix-clause-answers
-postfix-returns-in_err-suffix-clause-answers t c =
-    answers_on _ c.from_residual-in_err-suffix.ensures.1
+pub suffixes-returns-in_err-suffix-clause-answers : goal.suffixes-returns-in_err-suffix-clause-answers
+suffixes-returns-in_err-suffix-clause-answers t c =
+    answers_on _ c.from_residual.ensures.1
     (answers_by (c.loop-alloc.invariant.reads ∙ suffixes_turn c.args.depth c.loop-alloc.read c.loop-alloc.cursor (sym c.sees_suffix.ensures ∙ c.loop-alloc-test.true) (omega arith))
     (answers_stop _ (answers_stop _ c.in_err-suffix.ensures.answers)))
 
-pub postfix-loop-alloc-smaller : goal.postfix-loop-alloc-smaller
-postfix-loop-alloc-smaller t c =
+pub suffixes-loop-alloc-smaller : goal.suffixes-loop-alloc-smaller
+suffixes-loop-alloc-smaller t c =
     suffix_takes c.args.depth c.loop-alloc.read c.in_ok-suffix.suffix c.loop-alloc.cursor c.behind.new.cursor (omega arith) c.in_ok-suffix.ensures.answers.is
 
-pub postfix-loop-alloc-preserved : goal.postfix-loop-alloc-preserved
-postfix-loop-alloc-preserved t c = record {
+pub suffixes-loop-alloc-preserved : goal.suffixes-loop-alloc-preserved
+suffixes-loop-alloc-preserved t c = record {
   reads = c.loop-alloc.invariant.reads
       ∙ suffixes_read c.args.depth c.loop-alloc.read c.in_ok-suffix.suffix c.loop-alloc.cursor c.behind.new.cursor (sym c.sees_suffix.ensures ∙ c.loop-alloc-test.true) (omega arith) c.in_ok-suffix.ensures.answers.is
-      ∙ ap (λ a. more_suffixes c.args.depth a c.behind.new.cursor) (sym c.in_ok-read-2.ensures);
-  low = omega (arith, ap (λ a. a.height) c.in_ok-read-2.ensures, c.in_ok-suffix.ensures.low);
+      ∙ ap (λ a. more_suffixes c.args.depth a c.behind.new.cursor) (sym c.in_ok-read.ensures);
+  low = omega (arith, ap (λ a. a.height) c.in_ok-read.ensures, c.in_ok-suffix.ensures.low);
 }
 
-pub postfix-returns-clause-answers : goal.postfix-returns-clause-answers
-postfix-returns-clause-answers t c =
+pub suffixes-returns-clause-answers : goal.suffixes-returns-clause-answers
+suffixes-returns-clause-answers t c =
     record { is = c.loop-alloc.invariant.reads ∙ suffixes_end c.args.depth c.loop-alloc.read c.loop-alloc.cursor (sym c.sees_suffix.ensures ∙ c.loop-alloc-test.false) }
 
 pub stepped-returns-in_err-place-clause-answers : goal.stepped-returns-in_err-place-clause-answers
@@ -261,25 +243,157 @@ operated-returns-clause-answers t c =
     (answers_by (operated_is c.args.depth c.args.cursor.now c.take.new.self (c.args.operator, c.in_ok-place.place) c.requires.room (placed_read unary_word c.args.cursor.now c.take.new.self c.args.operator c.in_ok-place.place c.requires.next c.in_ok-place.ensures.is))
     (answers_next _ c.in_ok-operand.ensures.answers (record { is = refl })))
 
+pub size_opened-returns-then-not-begins_expression-clause-answers : goal.size_opened-returns-then-not-begins_expression-clause-answers
+size_opened-returns-then-not-begins_expression-clause-answers t c =
+    answers_by (size_opened_name c.args.depth c.args.place c.args.left c.args.cursor.now (sym c.if-not-begins_expression.ensures)) c.size_name.ensures.answers
+
+pub size_opened-returns-then-depth-le1-clause-answers : goal.size_opened-returns-then-depth-le1-clause-answers
+size_opened-returns-then-depth-le1-clause-answers t c =
+    record { is = size_opened_deep c.args.depth c.args.place c.args.left c.args.cursor.now (sym c.if-not-begins_expression.ensures) (omega arith) }
+
+pub size_opened-returns-in_err-operand-clause-answers : goal.size_opened-returns-in_err-operand-clause-answers
+size_opened-returns-in_err-operand-clause-answers t c =
+    answers_on _ c.from_residual.ensures.1
+    (answers_by (size_opened_group c.args.depth c.args.place c.args.left c.args.cursor.now (sym c.if-not-begins_expression.ensures) (omega arith)) (answers_stop _ c.in_err-operand.ensures.answers))
+
+pub size_opened-returns-clause-answers : goal.size_opened-returns-clause-answers
+size_opened-returns-clause-answers t c =
+    answers_made c.in_ok-size_of.ensures
+    (answers_by (size_opened_group c.args.depth c.args.place c.args.left c.args.cursor.now (sym c.if-not-begins_expression.ensures) (omega arith))
+    (answers_next _ c.in_ok-operand.ensures.answers (record { is = refl })))
+
+pub sized-returns-in_err-place-clause-answers : goal.sized-returns-in_err-place-clause-answers
+sized-returns-in_err-place-clause-answers t c =
+    answers_on _ c.from_residual.ensures.1 (answers_by (sized_is c.args.depth c.args.cursor.now) (answers_stop _ (answers_stop _ c.in_err-place.ensures)))
+
+pub sized-returns-then-depth-eq0-clause-answers : goal.sized-returns-then-depth-eq0-clause-answers
+sized-returns-then-depth-eq0-clause-answers t c =
+    answers_by (sized_is c.args.depth c.args.cursor.now)
+    (answers_behind (read.key key.Sizeof) (size_rest c.args.depth (under c.args.depth)) _ c.in_ok-place.ensures
+    (record { is = size_rest_deep c.args.depth c.in_ok-place.place _ (sym c.if-begins_bare.ensures) (omega arith) }))
+
+pub sized-returns-in_err-operand-clause-answers : goal.sized-returns-in_err-operand-clause-answers
+sized-returns-in_err-operand-clause-answers t c =
+    answers_on _ c.from_residual-in_err-operand.ensures.1
+    (answers_by (sized_is c.args.depth c.args.cursor.now)
+    (answers_behind (read.key key.Sizeof) (size_rest c.args.depth (under c.args.depth)) _ c.in_ok-place.ensures
+    (answers_by (size_rest_bare c.args.depth c.in_ok-place.place _ (sym c.if-begins_bare.ensures) (omega arith)) (answers_stop _ c.in_err-operand.ensures.answers))))
+
+pub sized-returns-then-begins_bare-clause-answers : goal.sized-returns-then-begins_bare-clause-answers
+sized-returns-then-begins_bare-clause-answers t c =
+    answers_made c.in_ok-size_of.ensures
+    (answers_by (sized_is c.args.depth c.args.cursor.now)
+    (answers_behind (read.key key.Sizeof) (size_rest c.args.depth (under c.args.depth)) _ c.in_ok-place.ensures
+    (answers_by (size_rest_bare c.args.depth c.in_ok-place.place _ (sym c.if-begins_bare.ensures) (omega arith)) (answers_next _ c.in_ok-operand.ensures.answers (record { is = refl })))))
+
+pub sized-returns-in_err-left-clause-answers : goal.sized-returns-in_err-left-clause-answers
+sized-returns-in_err-left-clause-answers t c =
+    answers_on _ c.from_residual-in_err-left.ensures.1
+    (answers_by (sized_is c.args.depth c.args.cursor.now)
+    (answers_behind (read.key key.Sizeof) (size_rest c.args.depth (under c.args.depth)) _ c.in_ok-place.ensures
+    (answers_by (size_rest_open c.args.depth c.in_ok-place.place _ (sym c.if-begins_bare.ensures)) (answers_stop _ (answers_stop _ c.in_err-left.ensures)))))
+
+pub sized-returns-clause-answers : goal.sized-returns-clause-answers
+sized-returns-clause-answers t c =
+    answers_by (sized_is c.args.depth c.args.cursor.now)
+    (answers_behind (read.key key.Sizeof) (size_rest c.args.depth (under c.args.depth)) _ c.in_ok-place.ensures
+    (answers_by (size_rest_open c.args.depth c.in_ok-place.place _ (sym c.if-begins_bare.ensures))
+    (answers_behind (punct mark.LeftParen) (size_opened c.args.depth (under c.args.depth) c.in_ok-place.place) _ c.in_ok-left.ensures c.size_opened.ensures.answers)))
+
+pub bare-returns-then-depth-eq0-clause-answers : goal.bare-returns-then-depth-eq0-clause-answers
+bare-returns-then-depth-eq0-clause-answers t c =
+    record { is = bare_step_deep c.args.depth c.args.cursor.now c.in-Some.step (sym c.in-Some.ensures) (omega arith) }
+
+pub bare-returns-in-Some-clause-answers : goal.bare-returns-in-Some-clause-answers
+bare-returns-in-Some-clause-answers t c =
+    answers_by (bare_step c.args.depth c.args.cursor.now c.in-Some.step (sym c.in-Some.ensures) (omega arith)) c.stepped.ensures.answers
+
+pub bare-returns-then-depth-eq0-2-clause-answers : goal.bare-returns-then-depth-eq0-2-clause-answers
+bare-returns-then-depth-eq0-2-clause-answers t c =
+    record { is = bare_operated_deep c.args.depth c.args.cursor.now c.in-Some-next_unary.operator (sym c.next_step.ensures ∙ c.in_default.is) (sym c.in-Some-next_unary.ensures) (omega arith) }
+
+pub bare-returns-in-Some-next_unary-clause-answers : goal.bare-returns-in-Some-next_unary-clause-answers
+bare-returns-in-Some-next_unary-clause-answers t c =
+    answers_by (bare_operated c.args.depth c.args.cursor.now c.in-Some-next_unary.operator (sym c.next_step.ensures ∙ c.in_default.is) (sym c.in-Some-next_unary.ensures) (omega arith)) c.operated.ensures.answers
+
+pub bare-returns-then-sees_keyword-clause-answers : goal.bare-returns-then-sees_keyword-clause-answers
+bare-returns-then-sees_keyword-clause-answers t c =
+    answers_by (bare_sized c.args.depth c.args.cursor.now (sym c.next_step.ensures ∙ c.in_default.is) (sym c.next_unary.ensures ∙ c.in_default-next_unary.is) (sym c.if-sees_keyword.ensures)) c.sized.ensures.answers
+
+pub bare-returns-in_err-read-clause-answers : goal.bare-returns-in_err-read-clause-answers
+bare-returns-in_err-read-clause-answers t c =
+    answers_on _ c.from_residual.ensures.1
+    (answers_by (bare_worded c.args.depth c.args.cursor.now (sym c.next_step.ensures ∙ c.in_default.is) (sym c.next_unary.ensures ∙ c.in_default-next_unary.is) (sym c.if-sees_keyword.ensures))
+    (answers_stop _ c.in_err-read.ensures.answers))
+
+pub bare-returns-clause-answers : goal.bare-returns-clause-answers
+bare-returns-clause-answers t c =
+    answers_by (bare_worded c.args.depth c.args.cursor.now (sym c.next_step.ensures ∙ c.in_default.is) (sym c.next_unary.ensures ∙ c.in_default-next_unary.is) (sym c.if-sees_keyword.ensures))
+    (answers_next _ c.in_ok-read.ensures.answers c.suffixes.ensures.answers)
+
+pub unary-returns-then-not-sees-clause-answers : goal.unary-returns-then-not-sees-clause-answers
+unary-returns-then-not-sees-clause-answers t c = answers_by (unary_bare c.args.depth c.args.cursor.now (sym c.if-not-sees.ensures)) c.bare.ensures.answers
+
 pub unary-returns-then-depth-eq0-clause-answers : goal.unary-returns-then-depth-eq0-clause-answers
-unary-returns-then-depth-eq0-clause-answers t c =
-    record { is = unary_step_deep c.args.depth c.args.cursor.now c.in-Some.step (sym c.in-Some.ensures) (omega arith) }
+unary-returns-then-depth-eq0-clause-answers t c = record { is = unary_deep c.args.depth c.args.cursor.now (sym c.if-not-sees.ensures) (omega arith) }
 
-pub unary-returns-in-Some-clause-answers : goal.unary-returns-in-Some-clause-answers
-unary-returns-in-Some-clause-answers t c =
-    answers_by (unary_step c.args.depth c.args.cursor.now c.in-Some.step (sym c.in-Some.ensures) (omega arith)) c.stepped.ensures.answers
-
-pub unary-returns-then-depth-eq0-2-clause-answers : goal.unary-returns-then-depth-eq0-2-clause-answers
-unary-returns-then-depth-eq0-2-clause-answers t c =
-    record { is = unary_operated_deep c.args.depth c.args.cursor.now c.in-Some-next_unary.operator (sym c.next_step.ensures ∙ c.in_default.is) (sym c.in-Some-next_unary.ensures) (omega arith) }
-
-pub unary-returns-in-Some-next_unary-clause-answers : goal.unary-returns-in-Some-next_unary-clause-answers
-unary-returns-in-Some-next_unary-clause-answers t c =
-    answers_by (unary_operated c.args.depth c.args.cursor.now c.in-Some-next_unary.operator (sym c.next_step.ensures ∙ c.in_default.is) (sym c.in-Some-next_unary.ensures) (omega arith)) c.operated.ensures.answers
+pub unary-returns-in_err-left-clause-answers : goal.unary-returns-in_err-left-clause-answers
+unary-returns-in_err-left-clause-answers t c =
+    answers_on _ c.from_residual.ensures.1
+    (answers_by (unary_group c.args.depth c.args.cursor.now (sym c.if-not-sees.ensures) (omega arith)) (answers_stop _ (answers_stop _ c.in_err-left.ensures)))
 
 pub unary-returns-clause-answers : goal.unary-returns-clause-answers
 unary-returns-clause-answers t c =
-    answers_by (unary_postfix c.args.depth c.args.cursor.now (sym c.next_step.ensures ∙ c.in_default.is) (sym c.next_unary.ensures ∙ c.in_default-next_unary.is)) c.postfix.ensures.answers
+    answers_by (unary_group c.args.depth c.args.cursor.now (sym c.if-not-sees.ensures) (omega arith))
+    (answers_behind (punct mark.LeftParen) (grouped c.args.depth (under c.args.depth)) _ c.in_ok-left.ensures c.grouped.ensures.answers)
+
+pub casted-returns-in_err-read-clause-answers : goal.casted-returns-in_err-read-clause-answers
+casted-returns-in_err-read-clause-answers t c =
+    answers_on _ c.from_residual.ensures.1
+    (answers_by (casted_is c.args.depth c.args.left c.args.cursor.now c.requires) (answers_stop _ (answers_stop _ c.in_err-read.ensures.answers)))
+
+pub casted-returns-in_err-right-clause-answers : goal.casted-returns-in_err-right-clause-answers
+casted-returns-in_err-right-clause-answers t c =
+    answers_on _ c.from_residual-in_err-right.ensures.1
+    (answers_by (casted_is c.args.depth c.args.left c.args.cursor.now c.requires)
+    (answers_stop _ (answers_next _ c.in_ok-read.ensures.answers (answers_stop _ (answers_stop _ c.in_err-right.ensures)))))
+
+pub casted-returns-in_err-inner-clause-answers : goal.casted-returns-in_err-inner-clause-answers
+casted-returns-in_err-inner-clause-answers t c =
+    answers_on _ c.from_residual-in_err-inner.ensures.1
+    (answers_by (casted_is c.args.depth c.args.left c.args.cursor.now c.requires)
+    (answers_stop _ (answers_next _ c.in_ok-read.ensures.answers (answers_stop _ (answers_next _ c.in_ok-right.ensures (answers_stop _ c.in_err-inner.ensures.answers))))))
+
+pub casted-returns-clause-answers : goal.casted-returns-clause-answers
+casted-returns-clause-answers t c =
+    answers_made c.in_ok-cast.ensures
+    (answers_by (casted_is c.args.depth c.args.left c.args.cursor.now c.requires)
+    (answers_next _
+    (answers_next _ c.in_ok-read.ensures.answers (answers_next _ (answers_next _ c.in_ok-right.ensures (answers_next _ c.in_ok-inner.ensures.answers (record { is = refl }))) (record { is = refl })))
+    (record { is = refl })))
+
+pub operand-returns-then-not-sees-clause-answers : goal.operand-returns-then-not-sees-clause-answers
+operand-returns-then-not-sees-clause-answers t c = answers_by (operand_bare c.args.depth c.args.cursor.now (sym c.if-not-sees.ensures)) c.bare.ensures.answers
+
+pub operand-returns-then-depth-eq0-clause-answers : goal.operand-returns-then-depth-eq0-clause-answers
+operand-returns-then-depth-eq0-clause-answers t c = record { is = operand_deep c.args.depth c.args.cursor.now (sym c.if-not-sees.ensures) (omega arith) }
+
+pub operand-returns-in_err-left-clause-answers : goal.operand-returns-in_err-left-clause-answers
+operand-returns-in_err-left-clause-answers t c =
+    answers_on _ c.from_residual.ensures.1
+    (answers_by (operand_open c.args.depth c.args.cursor.now (sym c.if-not-sees.ensures) (omega arith)) (answers_stop _ (answers_stop _ c.in_err-left.ensures)))
+
+pub operand-returns-then-begins_type-clause-answers : goal.operand-returns-then-begins_type-clause-answers
+operand-returns-then-begins_type-clause-answers t c =
+    answers_by (operand_open c.args.depth c.args.cursor.now (sym c.if-not-sees.ensures) (omega arith))
+    (answers_behind (punct mark.LeftParen) (cast_or_group c.args.depth (under c.args.depth)) _ c.in_ok-left.ensures
+    (answers_by (open_type c.args.depth c.in_ok-left.left _ (sym c.if-begins_type.ensures)) c.casted.ensures.answers))
+
+pub operand-returns-clause-answers : goal.operand-returns-clause-answers
+operand-returns-clause-answers t c =
+    answers_by (operand_open c.args.depth c.args.cursor.now (sym c.if-not-sees.ensures) (omega arith))
+    (answers_behind (punct mark.LeftParen) (cast_or_group c.args.depth (under c.args.depth)) _ c.in_ok-left.ensures
+    (answers_by (open_group c.args.depth c.in_ok-left.left _ (sym c.if-begins_type.ensures)) c.grouped.ensures.answers))
 
 pub branches-returns-in_err-chosen-clause-answers : goal.branches-returns-in_err-chosen-clause-answers
 branches-returns-in_err-chosen-clause-answers t c =

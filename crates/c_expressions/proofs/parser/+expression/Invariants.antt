@@ -1,10 +1,7 @@
 use Rattle.std.proofs.Common.{◌≡◌, ◌<◌, ◌≤◌, ◌+◌, ◌*◌, ◌-◌, length}
-use Rattle.c_expressions.specs.Expressions.{arguments, postfix, tier, under}
+use Rattle.c_expressions.specs.Expressions.{arguments, tier, under}
 use Rattle.c_expressions.specs.Code.{rest_arguments, more_suffixes, more_operations}
 use Rattle.c_expressions.proofs.parser.+expression.Given as goal
-
-abbrev pub decreases-opened : goal.decreases-opened
-decreases-opened l = 64 * l.depth
 
 abbrev pub decreases-operation : goal.decreases-operation
 decreases-operation l = 64 * l.depth
@@ -18,14 +15,14 @@ decreases-called l = 64 * l.depth + 1
 abbrev pub decreases-behind : goal.decreases-behind
 decreases-behind l = 64 * l.depth + 2
 
-abbrev pub decreases-primary : goal.decreases-primary
-decreases-primary l = 64 * l.depth + 1
+abbrev pub decreases-suffixes : goal.decreases-suffixes
+decreases-suffixes l = 64 * l.depth + 3
 
-abbrev pub decreases-postfix : goal.decreases-postfix
-decreases-postfix l = 64 * l.depth + 3
+abbrev pub decreases-grouped : goal.decreases-grouped
+decreases-grouped l = 64 * l.depth + 4
 
 abbrev pub decreases-binary : goal.decreases-binary
-decreases-binary l = 64 * l.depth + l.tier + 5
+decreases-binary l = 64 * l.depth + l.tier + 7
 
 -- the arguments that are left are read from here on
 abbrev pub invariant-arguments-loop-alloc : goal.invariant-arguments-loop-alloc
@@ -38,14 +35,14 @@ abbrev pub decreases-arguments-loop-alloc : goal.decreases-arguments-loop-alloc
 decreases-arguments-loop-alloc l = length l.cursor
 
 -- the suffixes that are left are read from here on
-abbrev pub invariant-postfix-loop-alloc : goal.invariant-postfix-loop-alloc
-invariant-postfix-loop-alloc l = record {
-  reads : postfix l.fn.depth (under l.fn.depth) l.fn.cursor ≡ more_suffixes l.depth l.read l.cursor;
+abbrev pub invariant-suffixes-loop-alloc : goal.invariant-suffixes-loop-alloc
+invariant-suffixes-loop-alloc l = record {
+  reads : more_suffixes l.fn.depth l.fn.operand l.fn.cursor ≡ more_suffixes l.depth l.read l.cursor;
   low : l.read.height ≤ l.depth;
 }
 
-abbrev pub decreases-postfix-loop-alloc : goal.decreases-postfix-loop-alloc
-decreases-postfix-loop-alloc l = length l.cursor
+abbrev pub decreases-suffixes-loop-alloc : goal.decreases-suffixes-loop-alloc
+decreases-suffixes-loop-alloc l = length l.cursor
 
 -- what is left of the tier is read from here on
 abbrev pub invariant-binary-loop-operator : goal.invariant-binary-loop-operator
@@ -63,8 +60,23 @@ decreases-stepped l = 64 * l.depth
 abbrev pub decreases-operated : goal.decreases-operated
 decreases-operated l = 64 * l.depth
 
+abbrev pub decreases-size_opened : goal.decreases-size_opened
+decreases-size_opened l = 64 * l.depth
+
+abbrev pub decreases-sized : goal.decreases-sized
+decreases-sized l = 64 * l.depth + 1
+
+abbrev pub decreases-bare : goal.decreases-bare
+decreases-bare l = 64 * l.depth + 4
+
 abbrev pub decreases-unary : goal.decreases-unary
-decreases-unary l = 64 * l.depth + 4
+decreases-unary l = 64 * l.depth + 5
+
+abbrev pub decreases-casted : goal.decreases-casted
+decreases-casted l = 64 * l.depth
+
+abbrev pub decreases-operand : goal.decreases-operand
+decreases-operand l = 64 * l.depth + 6
 
 abbrev pub decreases-branches : goal.decreases-branches
 decreases-branches l = 64 * l.depth

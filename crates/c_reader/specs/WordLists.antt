@@ -78,3 +78,27 @@ or_false false b e h = h
 -- a word that is not in a list is not its first one
 pub is_not_first : (v : ℕ) (w : ℕ) → one_word (v ∷ []) w ≡ false → (w == v) ≡ false
 is_not_first v w h = (both_false (w == v) false h).0
+
+-- none of these words passes the test
+abbrev pub none_passes : (ℕ → Bool) → List ℕ → Bool
+none_passes test [] = true
+none_passes test (v ∷ vs) = if test v then false else none_passes test vs
+
+fails_step : (test : ℕ → Bool) (v w : ℕ) (left rest : Bool) → (rest ≡ true → left ≡ true → test w ≡ false) → (x : Bool) → (w == v) ≡ x → (y : Bool) → test v ≡ y →
+    (if y then false else rest) ≡ true → (x || left) ≡ true → test w ≡ false
+fails_step test v w left rest later x here true found h e = cc
+fails_step test v w left rest later true here false found h e = ap test (equal_is w v here) ∙ found
+fails_step test v w left rest later false here false found h e = later h e
+
+-- a word of such a list does not pass
+pub fails_test : (test : ℕ → Bool) (vs : List ℕ) → none_passes test vs ≡ true → (w : ℕ) → one_word vs w ≡ true → test w ≡ false
+fails_test test [] h w e = cc
+fails_test test (v ∷ vs) h w e = fails_step test v w (one_word vs w) (none_passes test vs) (λ h e. fails_test test vs h w e) (w == v) refl (test v) refl h e
+
+-- a word that passes is none of such a list
+pub not_listed : (test : ℕ → Bool) (vs : List ℕ) → none_passes test vs ≡ true → (w : ℕ) → test w ≡ true → one_word vs w ≡ false
+not_listed test vs h w e = go (one_word vs w) refl
+  where
+    go : (b : Bool) → one_word vs w ≡ b → one_word vs w ≡ false
+    go false is = is
+    go true is = let fails = fails_test test vs h w is in cc

@@ -1,12 +1,11 @@
 use Rattle.std.proofs.Common.{◌≡◌, ◌≤◌, length}
-use Rattle.c_type_names.specs.TypeNames.{type_name}
 use Rattle.c_type_names.specs.Code.{more_stars}
-use Rattle.c_type_names.proofs.parser.type_name.Given as goal
+use Rattle.c_type_names.proofs.parser.more_stars.Given as goal
 
--- what is left of the type name is read from here on
+-- the stars that are left are read from here on
 abbrev pub invariant-loop-place : goal.invariant-loop-place
 invariant-loop-place l = record {
-  reads : type_name l.depth l.fn.cursor ≡ more_stars l.depth l.read l.cursor;
+  reads : more_stars l.depth l.fn.read l.fn.cursor ≡ more_stars l.depth l.read l.cursor;
   low : l.read.height ≤ l.depth;
 }
 
