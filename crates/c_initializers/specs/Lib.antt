@@ -1,0 +1,5 @@
+pub mod Initializers
+pub mod ListLaws
+pub mod InitialLaws
+pub mod Growth
+pub mod Code

@@ -1,0 +1,5 @@
+pub mod Members
+pub mod ListLaws
+pub mod MemberLaws
+pub mod Growth
+pub mod Code
