@@ -1,1 +1,5 @@
-int main(void){return 42;}
+/* Its status is the answer. */
+int main(void)
+{
+	return 0x2A; // 42
+}

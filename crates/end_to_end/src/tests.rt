@@ -6,3 +6,4 @@ mod changed;
 mod go;
 mod machine;
 mod no_words;
+mod refused;

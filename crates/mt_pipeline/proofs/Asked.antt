@@ -50,6 +50,7 @@ pub build_of : {F S K : Type 0} (told : F → Option Contents) (read_faults writ
     BuildAnswers file out (seen told read_faults write_faults f s k) (seen told read_faults write_faults g s k) ended
 build_of told read_faults write_faults file out f g s k ended answers = record {
   builds = answers.builds;
+  refuses = answers.refuses;
   cause = answers.cause;
   silent = record { takes_nothing = refl; puts_nothing = refl };
 }

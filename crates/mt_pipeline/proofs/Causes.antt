@@ -1,6 +1,5 @@
 -- The answers of the commands, from what their parts say.
 use Rattle.std.proofs.Common.{◌≡◌, ◌⊎◌, ◌≤◌, ℕ, ◌%◌, List, [], Option, Some, None, IfSome, refl, sym, ap, ◌∙◌, subst, inl, inr}
-use Rattle.std.proofs.lemmas.Option.{same_Some, none-some}
 use Rattle.mt_outside.specs.Files.{Contents}
 use Rattle.a64_code.specs.Outside.{Outside, outside_of}
 use Rattle.a64_code.specs.declared.end.MachineEnd.{MachineEnd}
@@ -19,44 +18,32 @@ use Rattle.mt_pipeline.specs.declared.ended.Why.{Why}
 use Rattle.mt_pipeline.specs.declared.ended.Why.TheVariants.{Done, Exited, Usage, Refused, NoFile, BadImage, NoMemory, WriteFault, OutputFault, ReadFault, InputFault, TagFault, MemoryFault, AlignFault, StackFault, BadCode, Divide, OutOfSteps}
 use Rattle.mt_pipeline.specs.Answer.{ended_of}
 use Rattle.mt_pipeline.specs.Build.{BuildAnswers, CauseOfBuild}
-use Rattle.mt_pipeline.specs.Constant.{ReturnsConstant}
 use Rattle.mt_pipeline.specs.Defaults.{default_choices, default_stack}
-use Rattle.mt_pipeline.specs.Go.{GoAnswers, CauseOfGo, IsNoProgram, IsRunAnswer}
+use Rattle.mt_pipeline.specs.Go.{GoAnswers, CauseOfGo, IsRunAnswer}
 use Rattle.mt_pipeline.specs.Read.{CauseOfNoBytes}
 use Rattle.mt_pipeline.specs.Run.{RunAnswers, CauseOfRun}
 use Rattle.mt_pipeline.specs.Seen.{Seen, bytes_of, HoldsSome, ReadFailed, WriteFailed, SameFiles, IsSilent}
+use Rattle.mt_pipeline.specs.Source.{ReturnsConstant, ReturnsOnly}
 use Rattle.mt_pipeline.specs.Status.{ended_by}
 use Rattle.mt_pipeline.proofs.ConstantRun.{constant_ends, either}
-use Rattle.mt_pipeline.proofs.Line.{same_constant}
-
--- where the files are told, bytes that were read of a file are those that it holds
-pub same_bytes : (told : Option Contents) (file bytes read : List ℕ) → bytes_of told file ≡ Some bytes → IfSome told (λ files. files file ≡ Some read) → read ≡ bytes
-same_bytes None file bytes read holds is = absurd (none-some bytes holds)
-same_bytes (Some files) file bytes read holds is = same_Some _ _ (sym is ∙ holds)
-
-not_absent : (told : Option Contents) (file bytes : List ℕ) → bytes_of told file ≡ Some bytes → IfSome told (λ files. files file ≡ None) → ⊥
-not_absent None file bytes holds absent = none-some bytes holds
-not_absent (Some files) file bytes holds absent = none-some bytes (sym absent ∙ holds)
+use Rattle.mt_pipeline.proofs.ConstantTrees.{constant_in_range}
+use Rattle.mt_pipeline.proofs.RefusedCauses.{refused_none, go_refuses, build_refuses}
+use Rattle.mt_pipeline.proofs.SameBytes.{same_bytes, not_absent}
 
 -- the answer to the run of a constant's image is that of the constant which the file holds
-same_run : {S K : Type 0} (file : List ℕ) (steps : ℕ) (before : Seen S K) (ended : Ended) → HoldsSome before.files file (λ bytes. (n : ℕ) × ReturnsConstant bytes n × IsRunAnswer (constant_image n) steps ended) →
+same_run : {S K : Type 0} (file : List ℕ) (steps : ℕ) (before : Seen S K) (ended : Ended) → HoldsSome before.files file (λ bytes. (n : ℕ) × ReturnsOnly bytes n × IsRunAnswer (constant_image n) steps ended) →
     (bytes : List ℕ) (n : ℕ) → bytes_of before.files file ≡ Some bytes → ReturnsConstant bytes n → IsRunAnswer (constant_image n) steps ended
 same_run file steps before ended cause bytes n holds returns =
     let same : cause.0 ≡ bytes = same_bytes before.files file bytes cause.0 holds cause.1 in
-    let constant : cause.2.0 ≡ n = same_constant cause.2.0 n (subst (λ b. ReturnsConstant b cause.2.0) same cause.2.1) returns in
-    subst (λ m. IsRunAnswer (constant_image m) steps ended) constant cause.2.2
-
-no_program : {S K : Type 0} (file : List ℕ) (before : Seen S K) → HoldsSome before.files file IsNoProgram →
-    (bytes : List ℕ) (n : ℕ) → bytes_of before.files file ≡ Some bytes → ReturnsConstant bytes n → ⊥
-no_program file before cause bytes n holds returns =
-    cause.2 n (subst (λ b. ReturnsConstant b n) (sym (same_bytes before.files file bytes cause.0 holds cause.1)) returns)
+    let constant : n ≡ cause.2.0 = cause.2.1.only n (subst (λ b. ReturnsConstant b n) (sym same) returns) in
+    subst (λ m. IsRunAnswer (constant_image m) steps ended) (sym constant) cause.2.2
 
 -- The program runs where the file holds the text of a constant and no read failed: the other answers have no cause then.
 go_runs : {S K : Type 0} (file : List ℕ) (steps : ℕ) (before after : Seen S K) (ended : Ended) (why : Why) → CauseOfGo file steps before after ended why →
     (bytes : List ℕ) (n : ℕ) → bytes_of before.files file ≡ Some bytes → ReturnsConstant bytes n → ¬ ReadFailed before after → (IsRunAnswer (constant_image n) steps ended) ⊎ (why ≡ NoMemory)
 go_runs file steps before after ended Exited cause bytes n holds returns no_fault = inl (same_run file steps before ended cause bytes n holds returns)
 go_runs file steps before after ended OutOfSteps cause bytes n holds returns no_fault = inl (same_run file steps before ended cause bytes n holds returns)
-go_runs file steps before after ended (Refused place number byte) cause bytes n holds returns no_fault = absurd (no_program file before cause.3 bytes n holds returns)
+go_runs file steps before after ended (Refused place number byte) cause bytes n holds returns no_fault = absurd (refused_none file number byte before cause.1 bytes n holds returns)
 go_runs file steps before after ended (NoFile place) cause bytes n holds returns no_fault = absurd (not_absent before.files file bytes holds cause.1)
 go_runs file steps before after ended (ReadFault place) cause bytes n holds returns no_fault = absurd (no_fault cause.1)
 go_runs file steps before after ended NoMemory cause bytes n holds returns no_fault = inr refl
@@ -86,7 +73,8 @@ pub go_answers : {S K : Type 0} (file : List ℕ) (steps : ℕ) (before after : 
 go_answers file steps before after ended cause silent files = record {
   runs = λ bytes n holds returns no_fault. go_runs file steps before after ended ended.why cause bytes n holds returns no_fault;
   exits = λ bytes n holds returns no_fault enough.
-      go_exits n steps ended returns.in_range enough (go_runs file steps before after ended ended.why cause bytes n holds returns no_fault);
+      go_exits n steps ended (constant_in_range returns) enough (go_runs file steps before after ended ended.why cause bytes n holds returns no_fault);
+  refuses = λ bytes number byte holds refused no_fault. go_refuses file steps before after ended ended.why cause bytes number byte holds refused no_fault;
   cause = cause;
   silent = silent;
   files = files;
@@ -101,7 +89,7 @@ go_no_bytes file steps before after AnswersNoMemory cause = tt
 go_no_bytes file steps before after AnswersDone cause = absurd cause
 go_no_bytes file steps before after (Ran end) cause = absurd cause
 go_no_bytes file steps before after AnswersUsage cause = absurd cause
-go_no_bytes file steps before after (AnswersRefused place refusal) cause = absurd cause
+go_no_bytes file steps before after (AnswersRefused place byte refusal) cause = absurd cause
 go_no_bytes file steps before after (AnswersBadImage place refusal) cause = absurd cause
 go_no_bytes file steps before after (AnswersWriteFault place) cause = absurd cause
 
@@ -113,7 +101,7 @@ run_no_bytes file steps before after AnswersNoMemory cause = tt
 run_no_bytes file steps before after AnswersDone cause = absurd cause
 run_no_bytes file steps before after (Ran end) cause = absurd cause
 run_no_bytes file steps before after AnswersUsage cause = absurd cause
-run_no_bytes file steps before after (AnswersRefused place refusal) cause = absurd cause
+run_no_bytes file steps before after (AnswersRefused place byte refusal) cause = absurd cause
 run_no_bytes file steps before after (AnswersBadImage place refusal) cause = absurd cause
 run_no_bytes file steps before after (AnswersWriteFault place) cause = absurd cause
 
@@ -125,7 +113,7 @@ build_no_bytes file out before after AnswersNoMemory cause files = files
 build_no_bytes file out before after AnswersDone cause files = absurd cause
 build_no_bytes file out before after (Ran end) cause files = absurd cause
 build_no_bytes file out before after AnswersUsage cause files = absurd cause
-build_no_bytes file out before after (AnswersRefused place refusal) cause files = absurd cause
+build_no_bytes file out before after (AnswersRefused place byte refusal) cause files = absurd cause
 build_no_bytes file out before after (AnswersBadImage place refusal) cause files = absurd cause
 build_no_bytes file out before after (AnswersWriteFault place) cause files = absurd cause
 
@@ -144,7 +132,7 @@ ends_so Cause end status exits over (inr is) = subst (λ e. Cause (ended_by end)
 
 -- how a constant's run ends is the cause of its answer
 pub go_ran : {S K : Type 0} (file : List ℕ) (steps : ℕ) (before after : Seen S K) (n : ℕ) (end : MachineEnd) → n ≤ 2147483647 →
-    HoldsSome before.files file (λ bytes. ReturnsConstant bytes n) → ((outside : Outside) → end ≡ end_of (run steps (loaded (constant_image n) default_choices default_stack outside))) →
+    HoldsSome before.files file (λ bytes. ReturnsOnly bytes n) → ((outside : Outside) → end ≡ end_of (run steps (loaded (constant_image n) default_choices default_stack outside))) →
     CauseOfGo file steps before after (ended_by end) (ended_by end).why
 go_ran file steps before after n end within holds ran =
     ends_so (CauseOfGo file steps before after) end (n % 256)
@@ -158,7 +146,7 @@ build_done : {S K : Type 0} (file out : List ℕ) (before after : Seen S K) (why
 build_done file out before after Done cause bytes n holds returns reads writes = inl refl
 build_done file out before after NoMemory cause bytes n holds returns reads writes = inr refl
 build_done file out before after (WriteFault place) cause bytes n holds returns reads writes = absurd (writes cause.1)
-build_done file out before after (Refused place number byte) cause bytes n holds returns reads writes = absurd (no_program file before cause.3 bytes n holds returns)
+build_done file out before after (Refused place number byte) cause bytes n holds returns reads writes = absurd (refused_none file number byte before cause.1 bytes n holds returns)
 build_done file out before after (NoFile place) cause bytes n holds returns reads writes = absurd (not_absent before.files file bytes holds cause.1)
 build_done file out before after (ReadFault place) cause bytes n holds returns reads writes = absurd (reads cause.1)
 build_done file out before after Exited cause bytes n holds returns reads writes = absurd cause
@@ -177,6 +165,7 @@ build_done file out before after OutOfSteps cause bytes n holds returns reads wr
 pub build_answers : {S K : Type 0} (file out : List ℕ) (before after : Seen S K) (ended : Ended) → CauseOfBuild file out before after ended.why → IsSilent before after → BuildAnswers file out before after ended
 build_answers file out before after ended cause silent = record {
   builds = λ bytes n holds returns reads writes. build_done file out before after ended.why cause bytes n holds returns reads writes;
+  refuses = λ bytes number byte holds refused reads. build_refuses file out before after ended.why cause bytes number byte holds refused reads;
   cause = cause;
   silent = silent;
 }
@@ -235,7 +224,7 @@ run_no_image file steps before after AnswersNoMemory cause bytes image holds no_
 run_no_image file steps before after AnswersDone cause bytes image holds no_fault = absurd cause
 run_no_image file steps before after (Ran end) cause bytes image holds no_fault = absurd cause
 run_no_image file steps before after AnswersUsage cause bytes image holds no_fault = absurd cause
-run_no_image file steps before after (AnswersRefused place refusal) cause bytes image holds no_fault = absurd cause
+run_no_image file steps before after (AnswersRefused place byte refusal) cause bytes image holds no_fault = absurd cause
 run_no_image file steps before after (AnswersBadImage place refusal) cause bytes image holds no_fault = absurd cause
 run_no_image file steps before after (AnswersWriteFault place) cause bytes image holds no_fault = absurd cause
 

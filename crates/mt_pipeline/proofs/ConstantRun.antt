@@ -20,7 +20,7 @@ use Rattle.elf_image.specs.Image.{Image}
 use Rattle.elf_image.specs.ConstantLaws.{constant_place, constant_valid}
 use Rattle.mte_machine.specs.Answers.{RunAnswers as MachineAnswers}
 use Rattle.mte_machine.specs.Objects.{Objects, without_input, without_output}
-use Rattle.mte_machine.specs.Run.{run, end_of, Steps}
+use Rattle.mte_machine.specs.Run.{Running, Stopped, run, end_of, output_after, answers_after, Steps}
 use Rattle.mte_machine.specs.Steps.{Steps-one, Steps-add, run-ends}
 use Rattle.tag_startup.specs.Loaded.{loaded, loaded_byte, loaded_regions}
 use Rattle.tag_startup.proofs.CodeInMemory.{code_fetched}
@@ -55,18 +55,45 @@ at_start n choices stack w = loaded (constant_image n) choices stack w
 
 -- ---- runs
 
--- How a run of so many steps ends over any outside: with this status, or sooner out of steps.
+-- How a run of so many steps ends over any outside, which it leaves alone: with this status, or sooner out of steps.
 pub record EndsWith (status steps : ℕ) (start : Outside → State) : Type 0 where
   pub end : MachineEnd
   pub ends : (w : Outside) → end_of (run steps (start w)) ≡ end
   pub late : 3 ≤ steps → end ≡ Exited status
   pub soon : (end ≡ Exited status) ⊎ (end ≡ OutOfSteps)
+  pub puts_nothing : (w : Outside) → output_after (run steps (start w)) ≡ w.output
+  pub takes_nothing : (w : Outside) → answers_after (run steps (start w)) ≡ w.answers
 
-late_end : (status steps : ℕ) (start : Outside → State) → ((w : Outside) → end_of (run steps (start w)) ≡ Exited status) → EndsWith status steps start
-late_end status steps start ends = record { end = Exited status; ends = ends; late = λ enough. refl; soon = inl refl }
+-- the run has exited over this outside, or can go on
+record HasExited (status steps : ℕ) (start : State) (w : Outside) : Type 0 where
+  state : State
+  stops : run steps start ≡ Stopped (Exited status) state
+  outside : state.outside ≡ w
 
-soon_end : (status steps : ℕ) (start : Outside → State) → steps < 3 → ((w : Outside) → end_of (run steps (start w)) ≡ OutOfSteps) → EndsWith status steps start
-soon_end status steps start few ends = record { end = OutOfSteps; ends = ends; late = λ enough. absurd (omega arith); soon = inr refl }
+record GoesOn (steps : ℕ) (start : State) (w : Outside) : Type 0 where
+  state : State
+  leads : run steps start ≡ Running state
+  outside : state.outside ≡ w
+
+late_end : (status steps : ℕ) (start : Outside → State) → ((w : Outside) → HasExited status steps (start w) w) → EndsWith status steps start
+late_end status steps start exits = record {
+  end = Exited status;
+  ends = λ w. ap end_of (exits w).stops;
+  late = λ enough. refl;
+  soon = inl refl;
+  puts_nothing = λ w. ap output_after (exits w).stops ∙ ap (λ o. o.output) (exits w).outside;
+  takes_nothing = λ w. ap answers_after (exits w).stops ∙ ap (λ o. o.answers) (exits w).outside;
+}
+
+soon_end : (status steps : ℕ) (start : Outside → State) → steps < 3 → ((w : Outside) → GoesOn steps (start w) w) → EndsWith status steps start
+soon_end status steps start few goes = record {
+  end = OutOfSteps;
+  ends = λ w. ap end_of (goes w).leads;
+  late = λ enough. absurd (omega arith);
+  soon = inr refl;
+  puts_nothing = λ w. ap output_after (goes w).leads ∙ ap (λ o. o.output) (goes w).outside;
+  takes_nothing = λ w. ap answers_after (goes w).leads ∙ ap (λ o. o.answers) (goes w).outside;
+}
 
 -- the first step moves the lower half
 first_step : (n : ℕ) (choices : List ℕ) (stack : ℕ) (w : Outside) → 0 < length (constant_code n) → get_or (constant_code n) 0 0 ≡ movz_word (n % 65536) → Steps 1 (at_start n choices stack w) (low_moved n (at_start n choices stack w))
@@ -75,10 +102,14 @@ first_step n choices stack w within is =
 
 -- the lower half alone, where the constant has no other
 short_run : (n : ℕ) (choices : List ℕ) (stack steps : ℕ) → n < 65536 → EndsWith (n % 256) steps (at_start n choices stack)
-short_run n choices stack zero short = soon_end _ zero _ (omega arith) (λ w. refl)
+short_run n choices stack zero short = soon_end _ zero _ (omega arith) (λ w. record { state = at_start n choices stack w; leads = refl; outside = refl })
 short_run n choices stack (suc zero) short =
     let code : constant_code n ≡ movz_word (n % 65536) ∷ svc_word ∷ [] = constant_code-short n (omega (arith, short)) in
-    soon_end _ 1 _ (omega arith) (λ w. ap end_of (first_step n choices stack w (rw code (omega arith)) (rw code refl)).runs)
+    soon_end _ 1 _ (omega arith) (λ w. record {
+      state = low_moved n (at_start n choices stack w);
+      leads = (first_step n choices stack w (rw code (omega arith)) (rw code refl)).runs;
+      outside = refl;
+    })
 short_run n choices stack (suc (suc more)) short =
     let code : constant_code n ≡ movz_word (n % 65536) ∷ svc_word ∷ [] = constant_code-short n (omega (arith, short)) in
     late_end _ (suc (suc more)) _ (λ w.
@@ -87,7 +118,7 @@ short_run n choices stack (suc (suc more)) short =
     let last : step s ≡ Ends (Exited (n % 65536 * 2 ^ (16 * 0) % 2 ^ 32 % 2 ^ 8)) =
     step-at n stack 1 s svc_word _ (record { regions = refl; byte = refl; pc = refl }) (rw code (omega arith)) (rw code refl) svc_row in
     let value : n % 65536 * 2 ^ (16 * 0) % 2 ^ 32 % 2 ^ 8 ≡ n % 256 = omega arith in
-    ap end_of (run-ends (suc (suc more)) first last (omega arith)) ∙ ap Exited value)
+    record { state = s; stops = run-ends (suc (suc more)) first last (omega arith) ∙ ap (λ v. Stopped (Exited v) s) value; outside = refl })
 
 -- the second step moves the upper half
 second_step : (n : ℕ) (choices : List ℕ) (stack : ℕ) (w : Outside) → n ≤ 2147483647 → constant_code n ≡ movz_word (n % 65536) ∷ movk_word (n / 65536) ∷ svc_word ∷ [] →
@@ -101,12 +132,20 @@ second_step n choices stack w within code =
 
 -- both halves
 long_run : (n : ℕ) (choices : List ℕ) (stack steps : ℕ) → 65535 < n → n ≤ 2147483647 → EndsWith (n % 256) steps (at_start n choices stack)
-long_run n choices stack zero long within = soon_end _ zero _ (omega arith) (λ w. refl)
+long_run n choices stack zero long within = soon_end _ zero _ (omega arith) (λ w. record { state = at_start n choices stack w; leads = refl; outside = refl })
 long_run n choices stack (suc zero) long within =
     let code : constant_code n ≡ movz_word (n % 65536) ∷ movk_word (n / 65536) ∷ svc_word ∷ [] = constant_code-long n long in
-    soon_end _ 1 _ (omega arith) (λ w. ap end_of (first_step n choices stack w (rw code (omega arith)) (rw code refl)).runs)
+    soon_end _ 1 _ (omega arith) (λ w. record {
+      state = low_moved n (at_start n choices stack w);
+      leads = (first_step n choices stack w (rw code (omega arith)) (rw code refl)).runs;
+      outside = refl;
+    })
 long_run n choices stack (suc (suc zero)) long within =
-    soon_end _ 2 _ (omega arith) (λ w. ap end_of (second_step n choices stack w within (constant_code-long n long)).runs)
+    soon_end _ 2 _ (omega arith) (λ w. record {
+      state = high_moved n (low_moved n (at_start n choices stack w));
+      leads = (second_step n choices stack w within (constant_code-long n long)).runs;
+      outside = refl;
+    })
 long_run n choices stack (suc (suc (suc more))) long within =
     let code : constant_code n ≡ movz_word (n % 65536) ∷ movk_word (n / 65536) ∷ svc_word ∷ [] = constant_code-long n long in
     late_end _ (suc (suc (suc more))) _ (λ w.
@@ -115,7 +154,7 @@ long_run n choices stack (suc (suc (suc more))) long within =
     let last : step s ≡ Ends (Exited (with_halfword (16 * 1) (n / 65536) (n % 65536 * 2 ^ (16 * 0) % 2 ^ 32 % 2 ^ 32) % 2 ^ 32 % 2 ^ 8)) =
     step-at n stack 2 s svc_word _ (record { regions = refl; byte = refl; pc = refl }) (rw code (omega arith)) (rw code refl) svc_row in
     let value : with_halfword (16 * 1) (n / 65536) (n % 65536 * 2 ^ (16 * 0) % 2 ^ 32 % 2 ^ 32) % 2 ^ 32 % 2 ^ 8 ≡ n % 256 = omega arith in
-    ap end_of (run-ends (suc (suc (suc more))) both last (omega arith)) ∙ ap Exited value)
+    record { state = s; stops = run-ends (suc (suc (suc more))) both last (omega arith) ∙ ap (λ v. Stopped (Exited v) s) value; outside = refl })
 
 -- Its run exits with the constant modulo 256, or is out of steps before, whatever the outside is.
 pub constant_ends : (n steps : ℕ) (choices : List ℕ) (stack : ℕ) → n ≤ 2147483647 → EndsWith (n % 256) steps (loaded (constant_image n) choices stack)
@@ -136,6 +175,8 @@ constant_exits n within = record {
   sooner = λ choices stack steps outside.
       let ends = constant_ends n steps choices stack within in
       either ends.end (n % 256) (ends.ends outside) ends.soon;
+  puts_nothing = λ choices stack steps outside. (constant_ends n steps choices stack within).puts_nothing outside;
+  takes_nothing = λ choices stack steps outside. (constant_ends n steps choices stack within).takes_nothing outside;
 }
 
 -- ---- what a run of the machine leaves

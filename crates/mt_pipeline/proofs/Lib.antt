@@ -1,9 +1,14 @@
 pub mod Asked
 pub mod Digits
-pub mod Line
 pub mod Encoded
 pub mod ConstantRun
 pub mod Words
 pub mod Jobs
+pub mod SameBytes
+pub mod RefusedCauses
 pub mod Causes
 pub mod Written
+pub mod ConstantTrees
+pub mod LexCauses
+pub mod Taken
+pub mod ConstantExamples

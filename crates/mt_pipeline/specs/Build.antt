@@ -3,9 +3,9 @@ use Rattle.std.specs.Prelude.{◌≡◌, ◌⊎◌, ℕ, List, Option, Some, Non
 use Rattle.mt_outside.specs.Told.{WhereTold}
 use Rattle.mt_outside.specs.Files.{Contents, OthersStay}
 use Rattle.mt_pipeline.specs.Built.{IsBuilt}
-use Rattle.mt_pipeline.specs.Constant.{ReturnsConstant}
-use Rattle.mt_pipeline.specs.Go.{IsNoProgram}
+use Rattle.mt_pipeline.specs.Refused.{IsRefused}
 use Rattle.mt_pipeline.specs.Seen.{Seen, bytes_of, HoldsSome, ReadFailed, WriteFailed, SameFiles, IsSilent}
+use Rattle.mt_pipeline.specs.Source.{ReturnsConstant, ReturnsOnly}
 use Rattle.mt_pipeline.specs.declared.ended.Ended.{Ended}
 use Rattle.mt_pipeline.specs.declared.ended.Why.{Why}
 use Rattle.mt_pipeline.specs.declared.ended.Why.TheVariants.{Done, Refused, NoFile, NoMemory, WriteFault, ReadFault}
@@ -21,10 +21,10 @@ abbrev pub CauseOfBuild : {S K : Type 0} → List ℕ → List ℕ → Seen S K 
 CauseOfBuild file out before after Done =
     HoldsSome before.files file (WritesImage before.files after.files out)
 CauseOfBuild file out before after (WriteFault place) =
-    (place ≡ 0) × WriteFailed before after × HoldsSome before.files file (λ bytes. (n : ℕ) × ReturnsConstant bytes n)
+    (place ≡ 0) × WriteFailed before after × HoldsSome before.files file (λ bytes. (n : ℕ) × ReturnsOnly bytes n)
     × WhereTold before.files after.files (OthersStay out)
-CauseOfBuild file out before after (Refused place number byte) =
-    (place ≡ 0) × (number ≡ 44) × (byte ≡ 0) × HoldsSome before.files file IsNoProgram × SameFiles before.files after.files
+CauseOfBuild file out before after (Refused source number byte) =
+    (source ≡ 0) × HoldsSome before.files file (λ bytes. IsRefused bytes number byte) × SameFiles before.files after.files
 CauseOfBuild file out before after (NoFile place) =
     (place ≡ 0) × IfSome before.files (λ files. files file ≡ None) × SameFiles before.files after.files
 CauseOfBuild file out before after (ReadFault place) = (place ≡ 0) × ReadFailed before after × SameFiles before.files after.files
@@ -36,6 +36,9 @@ pub record BuildAnswers {S K : Type 0} (file out : List ℕ) (before after : See
   -- Where the file holds the text of a constant and nothing failed, the image is written, or memory is wanting.
   pub builds : (bytes : List ℕ) (n : ℕ) → bytes_of before.files file ≡ Some bytes → ReturnsConstant bytes n → ¬ ReadFailed before after → ¬ WriteFailed before after →
       (ended.why ≡ Done) ⊎ (ended.why ≡ NoMemory)
+  -- Where it holds a text that is refused and no read failed, it is refused so, or memory is wanting.
+  pub refuses : (bytes : List ℕ) (number byte : ℕ) → bytes_of before.files file ≡ Some bytes → IsRefused bytes number byte → ¬ ReadFailed before after →
+      (ended.why ≡ Refused 0 number byte) ⊎ (ended.why ≡ NoMemory)
   -- Each answer comes only by its cause.
   pub cause : CauseOfBuild file out before after ended.why
   pub silent : IsSilent before after

@@ -1,5 +1,10 @@
 pub mod Seen
 pub mod Constant
+pub mod Source
+pub mod Refused
+pub mod Respelled
+pub mod RefusedPlaces
+pub mod RefusedLaws
 pub mod Number
 pub mod Defaults
 pub mod Job

@@ -7,7 +7,7 @@ use crate::ended::{Ended, Why};
 use crate::refusal::{CompileRefusal, RunRefusal};
 use mte_machine::MachineEnd;
 
-/// The number of the one refusal that there is today, `NotYet`.
+/// The number of the one refusal of an image that there is today, `NotYet`.
 const NOT_YET: u8 = 44;
 
 /// What a command answers: how its run ended, or why there was none. Want of memory is an answer of its own, and
@@ -17,12 +17,26 @@ pub enum Answer {
     Done,
     Ran(MachineEnd),
     Usage,
-    Refused { file: u32, refusal: CompileRefusal },
-    NoFile { file: u32 },
-    BadImage { file: u32, refusal: RunRefusal },
+    /// The refusal of a source, and the byte that is told of it.
+    Refused {
+        file: u32,
+        place: u32,
+        refusal: CompileRefusal,
+    },
+    NoFile {
+        file: u32,
+    },
+    BadImage {
+        file: u32,
+        refusal: RunRefusal,
+    },
     NoMemory,
-    WriteFault { file: u32 },
-    ReadFault { file: u32 },
+    WriteFault {
+        file: u32,
+    },
+    ReadFault {
+        file: u32,
+    },
 }
 
 impl Answer {
@@ -34,12 +48,16 @@ impl Answer {
             Answer::Done => (0, Why::Done),
             Answer::Ran(end) => return ended_by(*end),
             Answer::Usage => (64, Why::Usage),
-            Answer::Refused { file, .. } => (
+            Answer::Refused {
+                file,
+                place,
+                refusal,
+            } => (
                 65,
                 Why::Refused {
                     file: *file,
-                    number: NOT_YET,
-                    place: 0,
+                    number: refusal.number(),
+                    place: *place,
                 },
             ),
             Answer::NoFile { file } => (66, Why::NoFile { file: *file }),

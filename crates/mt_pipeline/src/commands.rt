@@ -8,9 +8,9 @@ ghost use Rattle.mt_pipeline.specs.Run.{RunAnswers};
 ghost use Rattle.mt_pipeline.specs.Seen.{files_seen, seen};
 
 use crate::answer::Answer;
-use crate::image::{build, parts_of};
+use crate::image::{image_bytes, parts_of};
 use crate::read::read_file;
-use crate::refusal::{CompileRefusal, RunRefusal};
+use crate::refusal::RunRefusal;
 use crate::runner::{run_image, run_parts};
 use crate::source::SourceText;
 use mt_base::Tag;
@@ -39,11 +39,7 @@ pub fn go<F: Files, S: Source, K: Sink>(
     };
     let parts = match parts_of(alloc, &SourceText { bytes }) {
         Ok(parts) => parts,
-        Err(CompileRefusal::NotYet) => {
-            let refusal = CompileRefusal::NotYet;
-            return Answer::Refused { file: 0, refusal };
-        }
-        Err(CompileRefusal::NoMemory) => return Answer::NoMemory,
+        Err(refused) => return refused.answer(),
     };
     match run_parts(
         alloc,
@@ -72,13 +68,9 @@ pub fn write_built<F: Files>(alloc: Global, file: &str, out_file: &str, files: &
         Ok(bytes) => bytes,
         Err(answer) => return answer,
     };
-    let image = match build(alloc, &SourceText { bytes }) {
+    let image = match image_bytes(alloc, &SourceText { bytes }) {
         Ok(image) => image,
-        Err(CompileRefusal::NotYet) => {
-            let refusal = CompileRefusal::NotYet;
-            return Answer::Refused { file: 0, refusal };
-        }
-        Err(CompileRefusal::NoMemory) => return Answer::NoMemory,
+        Err(refused) => return refused.answer(),
     };
     match files.write(out_file, &image) {
         WriteAnswer::Done => Answer::Done,

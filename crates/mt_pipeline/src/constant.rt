@@ -1,38 +1,98 @@
-// Reads the one form of program text that is taken today.
-ghost use Rattle.std.specs.Prelude.{ℕ, ◌≤◌, IfSome, IfNone};
-ghost use Rattle.mt_pipeline.specs.Constant.{IsNumeral, ReturnsConstant};
+// Tells whether a program is of the one form that is taken today.
+ghost use Rattle.std.specs.Prelude.{◌≡◌, ◌≤◌, ◌↔◌, ℕ, IsTrue, IfSome, IfNone};
+ghost use Rattle.c_ast.specs.declared.expr.CType.{out-CType};
+ghost use Rattle.c_ast.specs.declared.expr.Node.{out-Node};
+ghost use Rattle.c_ast.specs.declared.statement.Item.{out-Item};
+ghost use Rattle.c_ast.specs.declared.statement.Stmt.{out-Stmt};
+ghost use Rattle.mt_pipeline.specs.Constant.{IsConstant, IsReturn, IsReturnItem, IsBlock, IsInt, IsMain, IsConstantProgram};
 
-// the largest value of type int (C11 5.2.4.2.1, where int has 32 bits)
-const INT_MAX: u32 = 2147483647;
+use c_ast::{CType, External, Function, IntType, Item, Node, Program, Stmt, Storage};
 
-/// The constant that the program of this text returns: the text is `int main(void){return N;}`, with nothing or one newline
-/// after it, and N is a decimal constant of at most 2147483647. `None` where the text is any other.
-pub fn constant_of(text: &[u8]) -> Option<u32>
-    ensures some { IfSome result (ReturnsConstant text.now) }
-    ensures none { IfNone result ((n : ℕ) → ¬ ReturnsConstant text.now n) }
+/// The largest value of type int (C11 5.2.4.2.1, where int has 32 bits).
+const INT_MAX: u64 = 2147483647;
+
+/// The constant that a program returns: it is `int main(void)` with the one statement `return N;`, where N is a constant
+/// of type int and nothing else. `None` where the program is any other.
+pub fn constant_of(program: &Program) -> Option<u32>
+    ensures some { IfSome result (IsConstantProgram program.now) }
+    ensures none { IfNone result ((n : ℕ) → ¬ IsConstantProgram program.now n) }
 {
-    // The newline goes first, so that what is left ends with the brace.
-    let line = text.strip_suffix(b"\n").unwrap_or(text);
-    let digits = line
-        .strip_prefix(b"int main(void){return ")?
-        .strip_suffix(b";}")?;
-    numeral(digits)
+    match program.items.as_slice() {
+        [External::Function(function)] => of_main(function),
+        _ => None,
+    }
 }
 
-// The number that the digits spell, where it has no leading zero and is at most the largest int.
-#[tactic(auto, using(crate::proofs::Digits::digit_at, crate::proofs::Digits::digits_value_so_far))]
-fn numeral(digits: &[u8]) -> Option<u32>
-    ensures some { IfSome result (λ n. IsNumeral digits.now n × (n ≤ INT_MAX)) }
-    ensures none { IfNone result ((n : ℕ) → IsNumeral digits.now n → ¬ (n ≤ INT_MAX)) }
+// The constant of a function, where it is such a `main`.
+fn of_main(function: &Function) -> Option<u32>
+    ensures some { IfSome result (IsMain function.now) }
+    ensures none { IfNone result ((n : ℕ) → ¬ IsMain function.now n) }
 {
-    if let [] | [b'0', _, ..] = digits {
+    let Storage::None = function.storage else {
+        return None;
+    };
+    if function.name.as_slice() != b"main".as_slice()
+        || !is_int(&function.result)
+        || !function.params.is_empty()
+    {
         return None;
     }
-    let mut value: u32 = 0;
-    // A sum that does not fit in 32 bits is above INT_MAX already, and further digits only raise it.
-    for byte in digits {
-        let digit = char::from(*byte).to_digit(10)?;
-        value = value.checked_mul(10)?.checked_add(digit)?;
+    match &function.body {
+        Some(body) => of_block(body),
+        None => None,
     }
-    if value <= INT_MAX { Some(value) } else { None }
+}
+
+// Whether the type is int.
+fn is_int(ty: &CType) -> bool
+    ensures { IsTrue result ↔ IsInt (out-CType ty.now) }
+{
+    matches!(ty, CType::Int(IntType::Int))
+}
+
+// The constant of `{ return N; }`.
+fn of_block(body: &Stmt) -> Option<u32>
+    ensures some { IfSome result (IsBlock (out-Stmt body.now)) }
+    ensures none { IfNone result ((n : ℕ) → ¬ IsBlock (out-Stmt body.now) n) }
+{
+    let Stmt::Block(items) = body else {
+        return None;
+    };
+    match items.as_slice() {
+        [item] => of_item(item),
+        _ => None,
+    }
+}
+
+// The constant of `return N;` as a part of a block.
+fn of_item(item: &Item) -> Option<u32>
+    ensures some { IfSome result (IsReturnItem (out-Item item.now)) }
+    ensures none { IfNone result ((n : ℕ) → ¬ IsReturnItem (out-Item item.now) n) }
+{
+    match item {
+        Item::Stmt(statement) => of_return(statement),
+        Item::Local(_) => None,
+    }
+}
+
+// The constant of `return N;`.
+fn of_return(statement: &Stmt) -> Option<u32>
+    ensures some { IfSome result (IsReturn (out-Stmt statement.now)) }
+    ensures none { IfNone result ((n : ℕ) → ¬ IsReturn (out-Stmt statement.now) n) }
+{
+    match statement {
+        Stmt::Return(Some(value), _) => of_node(value.node.get()),
+        _ => None,
+    }
+}
+
+// The value of a constant of type int.
+fn of_node(node: &Node) -> Option<u32>
+    ensures some { IfSome result (IsConstant (out-Node node.now)) }
+    ensures none { IfNone result ((n : ℕ) → ¬ IsConstant (out-Node node.now) n) }
+{
+    match node {
+        Node::Constant(value, IntType::Int) if *value <= INT_MAX => Some(*value as u32),
+        _ => None,
+    }
 }

@@ -20,7 +20,7 @@ use mt_outside::{Files, Sink, Source};
 use std::alloc::Global;
 
 /// Does what the words after the program's name ask for. The program reads `input` and writes `out`; a line on `err`
-/// says why there was no status of its own.
+/// says why the program gave no status of its own.
 pub fn drive<F: Files, S: Source, K: Sink, E: Sink>(
     alloc: Global,
     words: &[String],

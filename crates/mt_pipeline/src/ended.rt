@@ -12,7 +12,7 @@ pub enum Why {
     Exited,
     /// The words ask for nothing that there is.
     Usage,
-    /// A source is refused, by the refusal's number, at this byte.
+    /// A source is refused, by the refusal's number, at this byte: 0 where it names none.
     Refused {
         file: u32,
         number: u8,
@@ -62,7 +62,7 @@ pub enum Why {
     BadCode {
         at: u64,
     },
-    /// The program told a division by zero.
+    /// The program reported a division by zero.
     Divide,
     /// The steps that were allowed are over.
     OutOfSteps,

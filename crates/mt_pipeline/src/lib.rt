@@ -11,6 +11,7 @@ mod ended;
 mod image;
 mod read;
 mod refusal;
+mod refused;
 mod report;
 mod runner;
 mod source;

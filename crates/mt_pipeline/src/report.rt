@@ -4,6 +4,8 @@ ghost use Rattle.mt_pipeline.specs.Answer.{ended_of};
 ghost use Rattle.mt_pipeline.specs.Status.{HasNoLine, ended_by};
 
 use crate::answer::Answer;
+use crate::refusal::CompileRefusal;
+use c_lex::LexRefusal;
 use mt_outside::{PutAnswer, Sink};
 use mte_machine::MachineEnd;
 use std::fmt;
@@ -52,7 +54,22 @@ fn report_end<E: Sink>(line: &mut Line<'_, E>, end: MachineEnd) -> fmt::Result
     }
 }
 
-/// Puts the line of an answer about this file. A fault of the sink is nobody's answer.
+// Puts the line of a refused source, which leaves out the byte where the refusal names none.
+fn report_refusal<E: Sink>(
+    line: &mut Line<'_, E>,
+    file: &str,
+    place: u32,
+    refusal: &CompileRefusal,
+) -> fmt::Result {
+    match refusal {
+        CompileRefusal::Lex(LexRefusal::TextTooLong) | CompileRefusal::NotYet => {
+            write!(line, "mtcc: {file}: {refusal}\n")
+        }
+        _ => write!(line, "mtcc: {file}:{place}: {refusal}\n"),
+    }
+}
+
+/// Puts the line of an answer about this file. A fault of the sink changes no answer.
 pub fn report<E: Sink>(err: &mut E, file: &str, answer: &Answer)
     ensures quiet { HasNoLine (ended_of answer.now).why → err.new ≡ err.old }
 {
@@ -61,7 +78,7 @@ pub fn report<E: Sink>(err: &mut E, file: &str, answer: &Answer)
         Answer::Done => Ok(()),
         Answer::Ran(end) => report_end(&mut line, *end),
         Answer::Usage => write!(line, "mtcc: usage\n"),
-        Answer::Refused { refusal, .. } => write!(line, "mtcc: {file}: {refusal}\n"),
+        Answer::Refused { place, refusal, .. } => report_refusal(&mut line, file, *place, refusal),
         Answer::NoFile { .. } => write!(line, "mtcc: {file}: no such file\n"),
         Answer::BadImage { refusal, .. } => write!(line, "mtcc: {file}: {refusal}\n"),
         Answer::NoMemory => write!(line, "mtcc: out of memory\n"),

@@ -1,7 +1,12 @@
-//! The status and the line of each end of a run, as docs/COMMANDS.md has them: no program that can be built today ends so.
+//! The status and the line of each end of a run, as docs/COMMANDS.md has them: no program that can be built today ends so. And those
+//! of each refusal of a source.
 
 use crate::answer::Answer;
+use crate::ended::Why;
+use crate::refusal::CompileRefusal;
 use crate::report::report;
+use c_lex::LexRefusal;
+use c_parse::ParseRefusal;
 use mt_base::Tag;
 use mt_outside::MemSink;
 use mte_machine::MachineEnd;
@@ -46,6 +51,80 @@ fn every_end_of_a_run_has_its_status_and_its_line(rt: HostRuntime) -> Result<(),
         report(&mut err, "a.c", &answer);
         assert_eq!(rt; err.taken(), line.as_bytes());
         assert_eq!(rt; answer.ended().status, status, "{line}");
+    }
+    Ok(())
+}
+
+#[test]
+fn every_refusal_of_a_source_has_its_number_and_its_line(rt: HostRuntime) -> Result<(), Fail> {
+    let alloc = rt.alloc();
+    let rows = [
+        (
+            CompileRefusal::Lex(LexRefusal::BadByte { at: 5 }),
+            5,
+            1,
+            "mtcc: a.c:5: BadByte\n",
+        ),
+        (
+            CompileRefusal::Lex(LexRefusal::UnclosedText { at: 0 }),
+            0,
+            2,
+            "mtcc: a.c:0: UnclosedText\n",
+        ),
+        (
+            CompileRefusal::Lex(LexRefusal::UnclosedComment { at: 7 }),
+            7,
+            3,
+            "mtcc: a.c:7: UnclosedComment\n",
+        ),
+        (
+            CompileRefusal::Lex(LexRefusal::NumberTooLarge { at: 22 }),
+            22,
+            4,
+            "mtcc: a.c:22: NumberTooLarge\n",
+        ),
+        (
+            CompileRefusal::Lex(LexRefusal::BadDirective { at: 65535 }),
+            65535,
+            5,
+            "mtcc: a.c:65535: BadDirective\n",
+        ),
+        (
+            CompileRefusal::Lex(LexRefusal::TextTooLong),
+            0,
+            6,
+            "mtcc: a.c: TextTooLong\n",
+        ),
+        (
+            CompileRefusal::Parse(ParseRefusal::Unexpected { place: 8 }),
+            23,
+            7,
+            "mtcc: a.c:23: Unexpected\n",
+        ),
+        (
+            CompileRefusal::Parse(ParseRefusal::TooDeep { place: 204 }),
+            219,
+            8,
+            "mtcc: a.c:219: TooDeep\n",
+        ),
+        (CompileRefusal::NotYet, 0, 44, "mtcc: a.c: NotYet\n"),
+    ];
+    for (refusal, place, number, line) in rows {
+        let answer = Answer::Refused {
+            file: 0,
+            place,
+            refusal,
+        };
+        let mut err = MemSink::new(alloc, 100, Vec::new(alloc))?;
+        report(&mut err, "a.c", &answer);
+        assert_eq!(rt; err.taken(), line.as_bytes());
+        let why = Why::Refused {
+            file: 0,
+            number,
+            place,
+        };
+        assert_eq!(rt; answer.ended().why, why, "{line}");
+        assert_eq!(rt; answer.ended().status, 65, "{line}");
     }
     Ok(())
 }

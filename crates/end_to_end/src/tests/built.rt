@@ -73,7 +73,7 @@ fn a_build_that_fails_leaves_all_files(rt: HostRuntime) -> Result<(), Fail> {
         for (failing_puts, line) in [(none, line), (&[0], "")] {
             let texts = [
                 ("a.c", ANSWER),
-                ("b.c", "int main(void){return 042;}"),
+                ("b.c", "int main(void){return -42;}"),
                 ("x", "before"),
             ];
             let mut files = files_of(alloc, &texts, failing)?;

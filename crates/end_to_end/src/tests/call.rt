@@ -42,16 +42,22 @@ pub(crate) fn bad_image() -> Ended {
 /// How the program ends with this status, where no program ran and the file that it names is its first.
 pub(crate) fn refused(status: u8) -> Ended {
     let why = match status {
-        65 => Why::Refused {
-            file: 0,
-            number: 44,
-            place: 0,
-        },
+        65 => return refused_at(44, 0),
         66 => Why::NoFile { file: 0 },
         73 => Why::WriteFault { file: 0 },
         _ => Why::ReadFault { file: 0 },
     };
     ended(status, why)
+}
+
+/// How the program ends where its one source is refused with this number at this byte.
+pub(crate) fn refused_at(number: u8, place: u32) -> Ended {
+    let why = Why::Refused {
+        file: 0,
+        number,
+        place,
+    };
+    ended(65, why)
 }
 
 /// What is answered to a run that ends with this status: 86 where it is out of steps, else its own.

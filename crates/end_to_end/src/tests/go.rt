@@ -1,4 +1,4 @@
-// The command `go`, and words that are no command.
+// The command `go` on texts that it takes, and words that are no command.
 
 use crate::tests::call::{call, ended, files_of, holds, ran, refused};
 use mt_pipeline::Why;
@@ -16,6 +16,16 @@ fn a_program_exits_with_its_constant_modulo_256(rt: HostRuntime) -> Result<(), F
         ("int main(void){return 65536;}", 0),
         ("int main(void){return 16909060;}", 4),
         ("int main(void){return 2147483647;}", 255),
+        ("int main(void){return 042;}", 34),
+        ("int main(void){return 0x2A;}", 42),
+        ("int main(void){return 'a';}", 97),
+        ("int main(void){return '\\xff';}", 255),
+        (
+            "/* the answer */ int\tmain ( void )\n{ // 42\n  return 42 ;\n}\n\n",
+            42,
+        ),
+        ("int main(){return 7;}", 7),
+        ("signed int main(void){return 8;}", 8),
     ];
     for (text, status) in cases {
         let mut files = files_of(alloc, &[("a.c", text)], &[])?;
@@ -47,29 +57,6 @@ fn a_program_takes_two_steps_or_three(rt: HostRuntime) -> Result<(), Fail> {
         let mut files = files_of(alloc, &[("a.c", text)], &[])?;
         let called = call(alloc, &["go", "a.c", "--steps", steps], &mut files, &[])?;
         assert_eq!(rt; called.answer(), ran(status), "{text} for {steps}");
-    }
-    Ok(())
-}
-
-#[test]
-fn other_texts_are_refused_in_a_line_without_a_byte(rt: HostRuntime) -> Result<(), Fail> {
-    let alloc = rt.alloc();
-    let texts = [
-        "",
-        "int main(void){return 2147483648;}",
-        "int main(void){return 4294967338;}",
-        "int main(void){return 042;}",
-        "int main(void){return ;}",
-        "int main(void){return -1;}",
-        "int main(void){return 42}",
-        "int main(void){return 42;}\n\n",
-        "int main(void){return 42;} ",
-    ];
-    for text in texts {
-        let mut files = files_of(alloc, &[("a.c", text)], &[])?;
-        let called = call(alloc, &["go", "a.c"], &mut files, &[])?;
-        let want = (refused(65), "", "mtcc: a.c: NotYet\n");
-        assert_eq!(rt; called.answer(), want, "{text}");
     }
     Ok(())
 }

@@ -1,26 +1,14 @@
-use Rattle.std.proofs.Common.{◌≡◌, Err, ap, subst, sym}
-use Rattle.elf_image.specs.ConstantLaws.{constant_valid}
-use Rattle.elf_image.specs.Image.{Image}
-use Rattle.elf_image.specs.ImageFile.{ImageFile}
-use Rattle.elf_image.specs.Places.{IsValid}
-use Rattle.mt_pipeline.specs.declared.refusal.CompileRefusal.TheVariants.{NotYet}
-use Rattle.mt_pipeline.proofs.ConstantRun.{constant_exits}
+use Rattle.mt_pipeline.specs.RefusedLaws.{no_constant}
+use Rattle.mt_pipeline.proofs.Taken.{constant_taken, refused_once}
 use Rattle.mt_pipeline.proofs.image.build.Goals as goal
 
-pub write_image-requires : goal.write_image-requires
-write_image-requires c = subst (λ (p : Image). IsValid p) (sym c.in-Ok.ensures.parts.2) (constant_valid c.in-Ok.ensures.parts.0)
+-- a text that was built returns a constant
+pub returns-in-Ok-clause-refuses : goal.returns-in-Ok-clause-refuses
+returns-in-Ok-clause-refuses c = λ refusal byte refuses. no_constant refuses c.in-Ok.ensures.built.constant c.in-Ok.ensures.built.returns.returns
 
-pub returns-in_ok-write_image-in-Ok-clause-built : goal.returns-in_ok-write_image-in-Ok-clause-built
-returns-in_ok-write_image-in-Ok-clause-built c =
-    let parts = c.in-Ok.ensures.parts in
-    record {
-      constant = parts.0;
-      returns = parts.1;
-      file_is = subst (λ (p : Image). ImageFile p c.in_ok-write_image-in-Ok.field-0.items) parts.2 c.in_ok-write_image-in-Ok.ensures;
-      exits = constant_exits parts.0 parts.1.in_range;
-    }
+-- what was refused has its cause
+pub returns-in-Err-clause-takes : goal.returns-in-Err-clause-takes
+returns-in-Err-clause-takes c = λ n returns. constant_taken c.args.text.now.bytes.items c.in-Err.refused n c.in-Err.ensures.refused returns
 
-pub returns-in-Err-clause-not_yet : goal.returns-in-Err-clause-not_yet
-returns-in-Err-clause-not_yet c = λ same.
-    let refusal : c.in-Err.refusal ≡ NotYet = cc in
-    c.in-Err.ensures.not_yet (ap Err refusal)
+pub returns-in-Err-clause-refuses : goal.returns-in-Err-clause-refuses
+returns-in-Err-clause-refuses c = λ refusal byte refuses. refused_once c.args.text.now.bytes.items c.in-Err.refused refusal byte c.in-Err.ensures.refused refuses
