@@ -1,5 +1,5 @@
 #!/usr/bin/env python3
-"""Holds the tables of tokens and faults in the tests of c_ast and c_lex against clang.
+"""Compares the rows of words, tokens and faults of tools/source-rows/by_hand.txt with clang.
 
     tools/check_tokens.py         fails where a row is not what clang says
     tools/check_tokens.py TEXT    prints the tokens that clang finds in TEXT, as the rows write them
@@ -14,7 +14,12 @@ import subprocess
 import sys
 import tempfile
 
-CRATES = pathlib.Path(__file__).parent.parent / "crates"
+sys.dont_write_bytecode = True
+sys.path.insert(0, str(pathlib.Path(__file__).parent / "source-rows"))
+
+from make import unquoted
+
+ROWS = pathlib.Path(__file__).parent / "source-rows/by_hand.txt"
 
 # As C11 6.4.1 prints them, in three columns. A keyword's number counts down the columns.
 KEYWORD_LINES = """
@@ -69,7 +74,7 @@ OTHERWISE = {
     b"09.5": FLOATING, b"1.5": FLOATING, b"1.": FLOATING, b"1e3": FLOATING, b"0x1.8": FLOATING, b"0b1": "clang names the first byte",
     b"0x": PREFIX, b"0x;": PREFIX, b"0xg": PREFIX, b"0xu": PREFIX, b"1ll": "C has the suffix ll", b"1lL": SUFFIX, b"12uu": SUFFIX, b"1ulu": SUFFIX, b"1lul": SUFFIX,
     b"''": OPENING, b"'ab'": "C has characters of several bytes", b"'\x80'": OPENING, b"\"\t\"": WIDER, b"\"\x7f\"": WIDER, b"\"a\x00\"": WIDER,
-    b"\"a\\\n\"": SPLICED, b"\"a\\": OPENING,
+    b"\"a\\\n\"": SPLICED,
     b"#": OTHERS, b"#\ninclude <stdio.h>": OTHERS, b"#include \"stdio.h\"": OTHERS, b"\n #define X": OTHERS, b"#include <stdio.h> // c": COMMENT, b"#include/**/<stdio.h>": COMMENT,
     b"/**/#include <stdio.h>": COMMENT, b"/*\n*/ #include <stdio.h>": COMMENT, b"\x0c#include <stdio.h>": COMMENT, b"x\n\r#include <stdio.h>": COMMENT,
     b"#include <stdio.h>\x0b": COMMENT, b"#include <stdio.h>\r x": "clang takes a carriage return for the end of a line",
@@ -167,70 +172,46 @@ def kind_shown(kind, spelled, values):
     return f"k{KEYWORDS.index(spelled.decode())}" if spelled.decode() in KEYWORDS and kind == spelled.decode() else kind
 
 
-def unescaped(literal):
-    """The bytes of a byte string as Rust writes it."""
-    names = {"n": b"\n", "t": b"\t", "r": b"\r", "0": b"\0", "\\": b"\\", "'": b"'", '"': b'"'}
-    parts = re.findall(r"\\x[0-9a-f]{2}|\\\n\s*|\\.|[^\\]", literal, re.DOTALL)
-    def one(part):
-        if part.startswith("\\x"):
-            return bytes([int(part[2:], 16)])
-        if part.startswith("\\\n"):
-            return b""
-        return names[part[1]] if part.startswith("\\") else part.encode()
-    return b"".join(map(one, parts))
-
-
-def rows():
-    """The rows of the tests of c_lex: texts, and their tokens or fault."""
-    tests = "".join((CRATES / "c_lex/src/tests" / name).read_text() for name in ("tokens.rt", "faults.rt"))
-    return [(unescaped(text), expected) for text, expected in re.findall(r'\(\s*b"((?:[^"\\]|\\.)*)",\s*"((?:[^"\\]|\\.)*)",?\s*\)', tests, re.DOTALL)]
+def rows(kind):
+    """The rows of a kind by hand: texts, and their answers. Texts of more than 65,536 bytes are not for clang."""
+    for row in ROWS.read_text().splitlines():
+        if row.startswith(kind + " "):
+            question, answer = row.rsplit(" =>", 1)
+            text = unquoted(question.split(" ", 1)[1])
+            if len(text) <= 65536:
+                yield text, answer.strip()
 
 
 def words_wrong(clang):
-    """What is wrong in the tables of words of c_ast."""
-    tests = (CRATES / "c_ast/src/tests/words.rt").read_text()
+    """What is wrong in the rows of words, each of which has a number and the name in this repository."""
+    found = {text.decode(): answer.split() for text, answer in rows("word") if answer != "none"}
     wrong = []
-    keywords = re.findall(r'b"(\w+)", Keyword::(\w+)\)', tests)
-    if [spelled for spelled, _ in keywords] != [word for line in LINES for word in line]:
-        wrong.append("the keywords are not those of C11 6.4.1")
-    for spelled, name in keywords:
-        if name.lower() != spelled.replace("_", "").lower() or clang.dump(spelled.encode())[0] != [(0, spelled, spelled.encode())]:
-            wrong.append(f"keyword {spelled}")
-    punctuators = re.findall(r'b"(\W+)", Punctuator::(\w+)\)', tests)
-    if [spelled for spelled, _ in punctuators] != list(PUNCTUATORS):
-        wrong.append("the punctuators are others")
-    for spelled, name in punctuators:
-        kind, named = PUNCTUATORS[spelled]
-        if name != named or clang.dump(spelled.encode())[0] != [(0, kind, spelled.encode())]:
+    for number, (spelled, (kind, name)) in enumerate(PUNCTUATORS.items()):
+        if found.get(spelled) != ["punctuator", str(number), name, str(number)]:
+            wrong.append(f"punctuator {spelled}: {found.get(spelled)}")
+        if clang.dump(spelled.encode())[0] != [(0, kind, spelled.encode())]:
             wrong.append(f"punctuator {spelled}")
+    for number, spelled in enumerate(KEYWORDS):
+        name = found.get(spelled, ["", "", "", ""])
+        if name[2].lower() != spelled.replace("_", "").lower() or name != ["keyword", str(number), name[2], str(number)]:
+            wrong.append(f"keyword {spelled}: {name}")
+        if clang.dump(spelled.encode())[0] != [(0, spelled, spelled.encode())]:
+            wrong.append(f"keyword {spelled}")
+    if len(found) != len(KEYWORDS) + len(PUNCTUATORS):
+        wrong.append(f"{len(found)} words")
     return wrong
 
 
 def row_wrong(clang, text, expected):
-    """What is wrong in a row of c_lex, and none where clang agrees."""
-    if not re.match(r"[A-Z]", expected):
-        shown = clang.shown(text)
+    """What is wrong in a row of tokens, and none where clang agrees."""
+    if not re.match(r"\d [A-Z]", expected):
+        shown = clang.shown(text).strip()
         return None if shown == expected else f"{expected}, and clang says {shown}"
-    name, at = expected.split()
+    _, name, at = expected.split()
     found = clang.refuses(text)
     # Of a directive's line the profile names the `#`, and clang what is wrong in the line.
     end = text.find(b"\n", int(at)) % (len(text) + 1) if name == "BadDirective" else int(at)
     return None if any(int(at) <= place <= end for place, _ in found) else f"{expected}, and clang says {found}"
-
-
-def declared():
-    """How many rows the tables say that they have."""
-    return sum(int(count) for path in (CRATES / "c_lex/src/tests").iterdir() for count in re.findall(r"; (\d+)\] =", path.read_text()))
-
-
-def numbers():
-    """The rows of numbers, each as a text with the five suffixes and its tokens."""
-    tests = (CRATES / "c_lex/src/tests/tokens.rt").read_text()
-    for number, value, types in re.findall(r'\(\s*"(\w+)",\s*([0-9_]+),\s*"([a-z ]+)",?\s*\)', tests):
-        texts = [number + suffix for suffix in ("", "u", "l", "ul", "lu")]
-        places = [sum(len(one) + 1 for one in texts[:count]) for count in range(5)]
-        tokens = [f" {place}+{len(text)}:{value.replace('_', '')}{name}" for place, text, name in zip(places, texts, types.split(), strict=True)]
-        yield " ".join(texts).encode(), "".join(tokens)
 
 
 def main():
@@ -240,9 +221,7 @@ def main():
             print(clang.shown(sys.argv[1].encode()))
             return 0
         wrong = words_wrong(clang)
-        table = rows() + list(numbers())
-        if len(table) != declared():
-            wrong.append(f"{declared()} rows are declared, and {len(table)} found")
+        table = list(rows("tokens"))
         others = 0
         for text, expected in table:
             what = row_wrong(clang, text, expected)

@@ -80,6 +80,7 @@ class Machine:
         for granule in range(place // 16, (place + size - 1) // 16 + 1):
             if checked and self.tags[granule] != pointer >> 56 & 15 and self.end is None:
                 self.end = f"tag {granule}"
+                self.fault = (pointer % (1 << 56), pointer >> 56 & 15, self.tags[granule])
         return None if self.end else place
 
     def load(self, base, offset, size, checked=True):

@@ -429,3 +429,162 @@ TAG_CHECKS = [
     ("stp x0, x2, [sp, #-8]", "0x0100_0000_2000_0030"),
     ("ldp x0, x2, [sp, #8]", "0x0100_0000_2000_0000"),
 ]
+
+# Numbers for the arithmetic: the width, and the numbers that an operation takes.
+QUOTIENTS = [
+    (64, 7, 2), (64, 0xFFFFFFFFFFFFFFF9, 2), (64, 7, 0xFFFFFFFFFFFFFFFE), (64, 0xFFFFFFFFFFFFFFF9, 0xFFFFFFFFFFFFFFFE),
+    (64, 0x8000000000000000, 0xFFFFFFFFFFFFFFFF), (64, 0x80000000, 0xFFFFFFFF), (64, 0x8000000000000000, 1), (64, 9, 0),
+    (64, 0x80000000, 0x100000000), (64, 0xFFFFFFFF80000000, 0xFFFFFFFFFFFFFFFF), (64, 0xFFFFFFFFFFFFFFFF, 0x8000000000000000),
+    (64, 0xFEDCBA9876543210, 0x12345677), (32, 7, 2), (32, 0xFFFFFFFFFFFFFFF9, 2), (32, 7, 0xFFFFFFFFFFFFFFFE),
+    (32, 0xFFFFFFFFFFFFFFF9, 0xFFFFFFFFFFFFFFFE), (32, 0x8000000000000000, 0xFFFFFFFFFFFFFFFF), (32, 0x80000000, 0xFFFFFFFF),
+    (32, 0x8000000000000000, 1), (32, 9, 0), (32, 0x80000000, 0x100000000), (32, 0xFFFFFFFF80000000, 0xFFFFFFFFFFFFFFFF),
+    (32, 0xFFFFFFFFFFFFFFFF, 0x8000000000000000), (32, 0xFEDCBA9876543210, 0x12345677),
+]
+PRODUCTS = [
+    (64, 3, 4, 5), (64, 0xFFFFFFFFFFFFFFFF, 0xFFFFFFFFFFFFFFFF, 0), (64, 0x100000001, 0x100000001, 7), (64, 0xFFFFFFFF, 2, 5),
+    (64, 0x123456789ABCDEF, 0xFEDCBA9876543210, 0xFFFFFFFFFFFFFFFF), (64, 0, 9, 0), (32, 3, 4, 5),
+    (32, 0xFFFFFFFFFFFFFFFF, 0xFFFFFFFFFFFFFFFF, 0), (32, 0x100000001, 0x100000001, 7), (32, 0xFFFFFFFF, 2, 5),
+    (32, 0x123456789ABCDEF, 0xFEDCBA9876543210, 0xFFFFFFFFFFFFFFFF), (32, 0, 9, 0),
+]
+SHIFTS = [
+    (64, 1, 0), (64, 0x8000000080000001, 1), (64, 0x8000000080000001, 31), (64, 0x8000000080000001, 32),
+    (64, 0x8000000080000001, 33), (64, 0x8000000080000001, 63), (64, 0x8000000080000001, 64),
+    (64, 0xFEDCBA98F6543210, 0x100000004), (64, 0xFFFFFFFF70000000, 0xFFFFFFFFFFFFFFFF), (32, 1, 0), (32, 0x8000000080000001, 1),
+    (32, 0x8000000080000001, 31), (32, 0x8000000080000001, 32), (32, 0x8000000080000001, 33), (32, 0x8000000080000001, 63),
+    (32, 0x8000000080000001, 64), (32, 0xFEDCBA98F6543210, 0x100000004), (32, 0xFFFFFFFF70000000, 0xFFFFFFFFFFFFFFFF),
+]
+SUMS = [
+    (64, 0xFFFFFFFFFFFFFFFF, 1), (64, 0xFFFFFFFF, 1), (64, 0x8000000000000000, 0x8000000000000000),
+    (64, 0x123456789ABCDEF, 0xFEDCBA9876543210), (32, 0xFFFFFFFFFFFFFFFF, 1), (32, 0xFFFFFFFF, 1),
+    (32, 0x8000000000000000, 0x8000000000000000), (32, 0x123456789ABCDEF, 0xFEDCBA9876543210),
+]
+TAKEN_AWAY = [
+    (64, 1, 0xFFFFFFFFFFFFFFFF), (64, 1, 0xFFFFFFFF), (64, 0x8000000000000000, 0x8000000000000000),
+    (64, 0xFEDCBA9876543210, 0x123456789ABCDEF), (32, 1, 0xFFFFFFFFFFFFFFFF), (32, 1, 0xFFFFFFFF),
+    (32, 0x8000000000000000, 0x8000000000000000), (32, 0xFEDCBA9876543210, 0x123456789ABCDEF),
+]
+TURNED = [
+    (64, 0), (64, 255), (64, 0x123456789ABCDEF), (64, 0xFFFFFFFFFFFFFFFF), (32, 0), (32, 255), (32, 0x123456789ABCDEF),
+    (32, 0xFFFFFFFFFFFFFFFF),
+]
+MOVED = [
+    (64, 0, 0, 0x123456789ABCDEF), (64, 0, 0, 0xFEDCBA98F6543281), (64, 0, 7, 0xFEDCBA98F6543281), (64, 0, 15, 0x123456789ABCDEF),
+    (64, 0, 15, 0xFEDCBA98F6543281), (64, 0, 31, 0xFEDCBA98F6543281), (64, 0, 63, 0x123456789ABCDEF),
+    (64, 0, 63, 0xFEDCBA98F6543281), (64, 4, 63, 0xFEDCBA98F6543281), (64, 63, 63, 0x123456789ABCDEF),
+    (64, 63, 63, 0xFEDCBA98F6543281), (64, 1, 0, 0xFEDCBA98F6543281), (64, 56, 55, 0x123456789ABCDEF),
+    (64, 56, 55, 0xFEDCBA98F6543281), (64, 56, 3, 0xFEDCBA98F6543281), (64, 63, 62, 0x123456789ABCDEF),
+    (64, 63, 62, 0xFEDCBA98F6543281), (64, 8, 15, 0xFEDCBA98F6543281), (64, 8, 8, 0x123456789ABCDEF),
+    (64, 8, 8, 0xFEDCBA98F6543281), (64, 5, 12, 0xFEDCBA98F6543281), (64, 63, 0, 0x123456789ABCDEF),
+    (64, 63, 0, 0xFEDCBA98F6543281), (64, 9, 3, 0xFEDCBA98F6543281), (32, 0, 0, 0x123456789ABCDEF),
+    (32, 0, 0, 0xFEDCBA98F6543281), (32, 0, 7, 0xFEDCBA98F6543281), (32, 0, 15, 0x123456789ABCDEF),
+    (32, 0, 15, 0xFEDCBA98F6543281), (32, 0, 15, 0xFEDCBA98F6543281), (32, 0, 31, 0x123456789ABCDEF),
+    (32, 0, 31, 0xFEDCBA98F6543281), (32, 4, 31, 0xFEDCBA98F6543281), (32, 31, 31, 0x123456789ABCDEF),
+    (32, 31, 31, 0xFEDCBA98F6543281), (32, 1, 0, 0xFEDCBA98F6543281), (32, 24, 23, 0x123456789ABCDEF),
+    (32, 24, 23, 0xFEDCBA98F6543281), (32, 24, 3, 0xFEDCBA98F6543281), (32, 31, 30, 0x123456789ABCDEF),
+    (32, 31, 30, 0xFEDCBA98F6543281), (32, 8, 15, 0xFEDCBA98F6543281), (32, 8, 8, 0x123456789ABCDEF),
+    (32, 8, 8, 0xFEDCBA98F6543281), (32, 5, 12, 0xFEDCBA98F6543281), (32, 31, 0, 0x123456789ABCDEF),
+    (32, 31, 0, 0xFEDCBA98F6543281), (32, 9, 3, 0xFEDCBA98F6543281),
+]
+COMPARED = [
+    (64, 5, 7), (64, 7, 5), (64, 7, 7), (64, 0, 0), (64, 0, 1), (64, 0x8000000000000000, 1),
+    (64, 0x7FFFFFFFFFFFFFFF, 0xFFFFFFFFFFFFFFFF), (64, 0x80000000, 1), (64, 0x7FFFFFFF, 0xFFFFFFFF), (64, 0xFFFFFFFF00000001, 2),
+    (64, 0x100000000, 0), (64, 0x8000000000000000, 0x8000000000000000), (64, 0xFFFFFFFFFFFFFFFF, 0x7FFFFFFFFFFFFFFF),
+    (64, 0x123456789ABCDEF, 0xFEDCBA9876543210), (64, 0x80000000, 0x7FFFFFFF), (64, 0xFFFFFFFF80000000, 0x80000000), (32, 5, 7),
+    (32, 7, 5), (32, 7, 7), (32, 0, 0), (32, 0, 1), (32, 0x8000000000000000, 1), (32, 0x7FFFFFFFFFFFFFFF, 0xFFFFFFFFFFFFFFFF),
+    (32, 0x80000000, 1), (32, 0x7FFFFFFF, 0xFFFFFFFF), (32, 0xFFFFFFFF00000001, 2), (32, 0x100000000, 0),
+    (32, 0x8000000000000000, 0x8000000000000000), (32, 0xFFFFFFFFFFFFFFFF, 0x7FFFFFFFFFFFFFFF),
+    (32, 0x123456789ABCDEF, 0xFEDCBA9876543210), (32, 0x80000000, 0x7FFFFFFF), (32, 0xFFFFFFFF80000000, 0x80000000),
+]
+
+
+def arithmetic():
+    """Lines on X0 to X2 or their lower halves that leave their result in X0, each with X0, X1 and X2 before."""
+    table = [("udiv sdiv", QUOTIENTS), ("lslv lsrv asrv", SHIFTS), ("add", SUMS), ("sub", TAKEN_AWAY), ("subs", COMPARED)]
+    for names, operands in table:
+        for name in names.split():
+            yield from ((three(name, width), OLD, one, other) for width, one, other in operands)
+    for name in ("madd", "msub"):
+        yield from ((three(name, width) + f", {letter(width)}0", third, one, other) for width, one, other, third in PRODUCTS)
+    for name in ("ubfm", "sbfm"):
+        yield from ((f"{name} {letter(width)}0, {letter(width)}1, #{immr}, #{imms}", OLD, value, 0) for width, immr, imms, value in MOVED)
+    yield from ((three("sub", width), OLD, value_of("ONES"), value) for width, value in TURNED)
+
+
+def letter(width):
+    return "x" if width == 64 else "w"
+
+
+def three(name, width):
+    return "{0} {1}0, {1}1, {1}2".format(name, letter(width))
+
+
+def value_of(text):
+    """The number that a row means."""
+    return eval(text, {}, {name: value for name, (value, _) in CONSTANTS.items()}) % (1 << 64)
+
+
+OLD = value_of("OLD")
+EDGES = [0, 1, 2, 31, 32, 63, 0x7FFF_FFFF, 0x8000_0000, 0xFFFF_FFFF, 0x1_0000_0000, *map(value_of, ("LEAST", "MOST", "ONES"))]
+
+
+def number(draw):
+    """A number for a register: an edge, one near it, or any."""
+    kind = draw.randrange(4)
+    if kind == 0:
+        return draw.choice(EDGES)
+    if kind == 1:
+        return (draw.choice(EDGES) + draw.randint(-3, 3)) % (1 << 64)
+    return draw.getrandbits(64) >> draw.choice((0, 0, 0, 32, 48, 56))
+
+
+def calculation(draw):
+    """A line on X0 to X2."""
+    width = draw.choice((64, 32))
+    r = letter(width)
+    one, two, three, four = (f"{r}{draw.randrange(3)}" for _ in range(4))
+    shift = draw.randrange(0, width, 16)
+    first, last = draw.randrange(width), draw.randrange(width)
+    imm12 = draw.choice((0, 1, 4095, draw.randrange(4096)))
+    return draw.choice((
+        f"{draw.choice(('movz', 'movk', 'movn'))} {one}, #{draw.randrange(65536)}" + (f", lsl #{shift}" if shift else ""),
+        f"{draw.choice(('add', 'sub', 'subs'))} {one}, {two}, #{imm12}" + draw.choice(("", ", lsl #12")),
+        f"{draw.choice(('add', 'sub', 'subs', 'and', 'orr', 'eor'))} {one}, {two}, {three}",
+        f"{draw.choice(('lslv', 'lsrv', 'asrv', 'udiv', 'sdiv'))} {one}, {two}, {three}",
+        f"{draw.choice(('madd', 'msub'))} {one}, {two}, {three}, {four}",
+        f"{draw.choice(('sbfm', 'ubfm'))} {one}, {two}, #{first}, #{last}",
+        f"csinc {one}, {two}, {three}, {draw.choice(CONDITIONS)}",
+    ))
+
+
+CONDITIONS = ["eq", "ne", "cs", "cc", "mi", "pl", "vs", "vc", "hi", "ls", "ge", "lt", "gt", "le", "al", "nv"]
+
+
+def drawn_calculations(draw, count, length):
+    """Lists of lines behind a comparison, with X0, X1 and X2 before."""
+    for _ in range(count):
+        yield ["subs xzr, x1, x2", *(calculation(draw) for _ in range(length))], number(draw), number(draw), number(draw)
+
+
+# A load or a store, the bytes that it touches, and the unit of its offset with the range of that.
+ACCESSES = [
+    *((f"{name} {register}", size, size, 0, 4095) for name, register, size in (
+        ("ldr", "x0", 8), ("ldr", "w0", 4), ("ldrb", "w0", 1), ("ldrh", "w0", 2), ("ldrsw", "x0", 4), ("ldrsb", "x0", 1), ("ldrsh", "x0", 2),
+        ("str", "x0", 8), ("str", "w0", 4), ("strb", "w0", 1), ("strh", "w0", 2))),
+    ("ldp x0, x2", 16, 8, -64, 63), ("stp x0, x2", 16, 8, -64, 63), ("stg x0", 16, 16, -256, 255), ("stzg x0", 16, 16, -256, 255),
+    ("st2g x0", 32, 16, -256, 255), ("stz2g x0", 32, 16, -256, 255), ("ldg x0", 1, 16, -256, 255),
+]
+
+
+def drawn_accesses(draw, count):
+    """Accesses to the data with drawn tags: the line, X0, X1, X2 and the tags. The pointer's tag often is that of the data."""
+    for _ in range(count):
+        line, size, unit, least, most = draw.choice(ACCESSES)
+        aligned = 1 if line.startswith("ldg") else min(size, unit)
+        place = draw.randrange(0, 64 - size + 1, aligned)
+        tags = [draw.choice((0, 0, 5, draw.randrange(16))) for _ in range(4)]
+        tag = draw.choice((tags[place // 16], tags[place // 16], tags[place // 16], draw.randrange(16)))
+        offset = unit * draw.choice((0, 0, 1, draw.randint(least, most)))
+        base = draw.choice(("x1", "x1", "x1", "sp"))
+        pointer = (value_of("DATA") + place - offset) % (1 << 56) | tag << 56 | draw.choice((0, 0xA)) << 60
+        yield f"{line}, [{base}, #{offset}]", number(draw), pointer, number(draw), tags
+

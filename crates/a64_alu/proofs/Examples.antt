@@ -20,7 +20,8 @@ equal_is_zero : subtract_with_flags (width false) 7 7 ≡ (0, record { negative 
 equal_is_zero = refl
 
 -- the least number less 1 is the greatest
-least_overflows : subtract_with_flags 32 0x8000_0000 1 ≡ (0x7fff_ffff, record { negative = false; zero = false; carry = true; overflow = true })
+least_overflows : subtract_with_flags 32 0x8000_0000 1
+    ≡ (0x7fff_ffff, record { negative = false; zero = false; carry = true; overflow = true })
 least_overflows = refl
 
 sum_wraps : add_with_carry 64 0xffff_ffff_ffff_ffff 1 0 ≡ (0, record { negative = false; zero = true; carry = true; overflow = false })

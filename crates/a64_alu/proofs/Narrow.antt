@@ -1,10 +1,15 @@
 -- What the code computes on 64 bits and then cuts to the width.
 use Rattle.std.proofs.Common.{◌≡◌, ℕ, ◌+◌, ◌-◌, ◌*◌, ◌%◌, ◌^◌, ◌<◌, ◌≤◌, ℤ, Bool, true, false, refl, sym, ◌∙◌, ap, arith, lit≤}
 use Rattle.std.proofs.lemmas.Bool.Decides.{nat_tests}
-use Rattle.mt_base.specs.Wrapping.{wrap, wrapping_add, wrapping_sub, power_split, wrap-wrap_wider, wrap-wrap, wrapping_add-wrap_left, wrapping_add-wrap_right, wrapping_sub_is, wrapping_sub-wrap_left, wrapping_sub-wrap_right, wrapping_add-wrapping_sub, wrapping_mul-wrap_left, wrapping_mul-wrap_right}
-use Rattle.mt_base.specs.TwosComplement.{to_signed, from_signed, from_signed_by, IsCongruent, IsCongruent-from_signed}
+use Rattle.mt_base.specs.Wrapping.{wrap, wrapping_add, wrapping_sub}
+use Rattle.mt_base.specs.Laws.Wrapping.{power_split, wrap-wrap_wider, wrap-wrap, wrapping_add-wrap_left, wrapping_add-wrap_right}
+use Rattle.mt_base.specs.Laws.Wrapping.{wrapping_sub_is, wrapping_sub-wrap_left, wrapping_sub-wrap_right, wrapping_add-wrapping_sub}
+use Rattle.mt_base.specs.Laws.Wrapping.{wrapping_mul-wrap_left, wrapping_mul-wrap_right}
+use Rattle.mt_base.specs.TwosComplement.{to_signed, from_signed}
+use Rattle.mt_base.specs.Laws.TwosComplement.{from_signed_by, IsCongruent, IsCongruent-from_signed}
 use Rattle.mt_base.specs.Extension.{sign_extend}
-use Rattle.mt_base.specs.Shifts.{shift_left, shift_left-wrap}
+use Rattle.mt_base.specs.Shifts.{shift_left}
+use Rattle.mt_base.specs.Laws.Shifts.{shift_left-wrap}
 use Rattle.a64_alu.specs.Width.{width, of_width}
 use Rattle.a64_alu.specs.Bitfield.{move_signed}
 use Rattle.a64_alu.specs.Multiplying.{multiply_add, multiply_sub}
@@ -50,20 +55,24 @@ low_from_signed k z narrower = sym (from_signed_by k z (from_signed 64 z) record
     c : IsCongruent 64 z (from_signed 64 z)
     c = IsCongruent-from_signed 64 z
 
-pub multiply_add_is : (wide : Bool) (x y a : ℕ) → of_width wide (wrap 64 (a + wrap 64 (x * y))) ≡ multiply_add (width wide) (of_width wide x) (of_width wide y) (of_width wide a)
+pub multiply_add_is : (wide : Bool) (x y a : ℕ) →
+    of_width wide (wrap 64 (a + wrap 64 (x * y))) ≡ multiply_add (width wide) (of_width wide x) (of_width wide y) (of_width wide a)
 multiply_add_is true x y a = wrapping_add-wrap_right 64 a (x * y)
 multiply_add_is false x y a = low_multiply_add 32 x y a (lit≤ tt)
 
-pub multiply_sub_is : (wide : Bool) (x y a : ℕ) → of_width wide ((a + (2 ^ 64 - wrap 64 (x * y))) % 2 ^ 64) ≡ multiply_sub (width wide) (of_width wide x) (of_width wide y) (of_width wide a)
+pub multiply_sub_is : (wide : Bool) (x y a : ℕ) → of_width wide ((a + (2 ^ 64 - wrap 64 (x * y))) % 2 ^ 64)
+    ≡ multiply_sub (width wide) (of_width wide x) (of_width wide y) (of_width wide a)
 multiply_sub_is true x y a = refl
-multiply_sub_is false x y a = ap (λ m. wrap 32 ((a + (2 ^ 64 - m)) % 2 ^ 64)) (sym (wrap-wrap 64 (x * y))) ∙ low_multiply_sub 32 x y a (lit≤ tt)
+multiply_sub_is false x y a = ap (λ m. wrap 32 ((a + (2 ^ 64 - m)) % 2 ^ 64)) (sym (wrap-wrap 64 (x * y)))
+    ∙ low_multiply_sub 32 x y a (lit≤ tt)
 
 pub shift_left_is : (wide : Bool) (x s : ℕ) → of_width wide (shift_left 64 x s) ≡ shift_left (width wide) (of_width wide x) s
 shift_left_is true x s = refl
 shift_left_is false x s = low_shift_left 32 x s (lit≤ tt)
 
 -- what SBFM moves to the left
-pub placed_is : (wide : Bool) (immr imms x : ℕ) → imms < immr → of_width wide (shift_left 64 (sign_extend (imms + 1) 64 x) (width wide - immr)) ≡ move_signed (width wide) immr imms x
+pub placed_is : (wide : Bool) (immr imms x : ℕ) → imms < immr →
+    of_width wide (shift_left 64 (sign_extend (imms + 1) 64 x) (width wide - immr)) ≡ move_signed (width wide) immr imms x
 placed_is true immr imms x lower = grind (arith, nat_tests)
 placed_is false immr imms x lower =
     low_shift_left 32 (sign_extend (imms + 1) 64 x) (32 - immr) (lit≤ tt)

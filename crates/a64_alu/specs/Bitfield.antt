@@ -13,7 +13,8 @@ move_unsigned k immr imms x =
 -- The same with copies of its highest bit above what is moved.
 abbrev pub move_signed : ℕ → ℕ → ℕ → ℕ → ℕ
 move_signed k immr imms x =
-    if nat_le immr imms then sign_extend (suc (imms - immr)) k (shift_right x immr) else shift_left k (sign_extend (suc imms) k x) (k - immr)
+    if nat_le immr imms then sign_extend (suc (imms - immr)) k (shift_right x immr) else shift_left k (sign_extend (suc imms) k x)
+    (k - immr)
 
 -- UBFM
 abbrev pub bitfield_unsigned : ℕ → ℕ → ℕ → ℕ → ℕ

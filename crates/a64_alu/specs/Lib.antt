@@ -3,9 +3,8 @@
 pub mod Width
 pub mod Adding
 pub mod Condition
-pub mod AddingLaws
 pub mod Bitfield
-pub mod BitfieldLaws
 pub mod Dividing
 pub mod Multiplying
 pub mod Shifting
+pub mod Laws

@@ -8,8 +8,6 @@ mod dividing;
 mod flags;
 mod multiplying;
 mod shifting;
-#[cfg(test)]
-mod tests;
 mod width;
 
 pub use adding::{add, subtract, subtract_with_flags};

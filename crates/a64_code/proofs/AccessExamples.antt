@@ -3,7 +3,8 @@ use Rattle.std.proofs.Common.{◌≡◌, refl, ◌%◌, Some, None, Option, ℕ,
 use Rattle.std.specs.Prelude.{◌==◌, if◌then◌else◌}
 use Rattle.mt_base.specs.Memory.{Extent, load, store_bytes, bytes_of, store_tag, every_byte, some_byte}
 use Rattle.mt_base.specs.Tags.{allowed_from}
-use Rattle.a64_code.specs.declared.instr.Instr.TheVariants.{Ldr, Str, Strb, Ldrsb, Ldrsw, Ldrh, Ldp, Stp, Svc, Addg, Subg, Irg, Stg, Stzg, St2g, Stz2g, Ldg}
+use Rattle.a64_code.specs.declared.instr.Instr.TheVariants.{Ldr, Str, Strb, Ldrsb, Ldrsw, Ldrh, Ldp, Stp, Svc, Addg, Subg, Irg, Stg, Stzg}
+use Rattle.a64_code.specs.declared.instr.Instr.TheVariants.{St2g, Stz2g, Ldg}
 use Rattle.a64_code.specs.declared.end.MachineEnd.{MachineEnd}
 use Rattle.a64_code.specs.declared.end.MachineEnd.TheVariants.{TagFault, MemoryFault, AlignFault, StackFault, BadCode, Exited, Divide}
 use Rattle.a64_code.specs.Outside.{outside_of}

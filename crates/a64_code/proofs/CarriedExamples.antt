@@ -2,7 +2,7 @@
 use Rattle.std.proofs.Common.{◌≡◌, ◌+◌, ◌%◌, ◌^◌, refl, true, [], ◌∷◌}
 use Rattle.a64_code.specs.declared.instr.Instr.TheVariants.{Movz, AddImm, SubsImm, Csinc}
 use Rattle.a64_code.specs.State.{State}
-use Rattle.a64_code.specs.Carried.{carried}
+use Rattle.a64_code.specs.Laws.Carried.{carried}
 use Rattle.a64_code.proofs.EffectExamples.{x, register_after, pc_after}
 use Rattle.std.proofs.Common.{Some}
 
@@ -11,11 +11,13 @@ two_sums : (s : State) → register_after 9 (carried (Movz true 0 5 (x 9) ∷ Ad
 unfolding carried
 two_sums s = refl
 
-two_on : (s : State) → pc_after (carried (Movz true 0 5 (x 9) ∷ AddImm true 0 1 (x 9) (x 9) ∷ []) s) ≡ Some (((s.pc + 4) % 2 ^ 64 + 4) % 2 ^ 64)
+two_on : (s : State) → pc_after (carried (Movz true 0 5 (x 9) ∷ AddImm true 0 1 (x 9) (x 9) ∷ []) s)
+    ≡ Some (((s.pc + 4) % 2 ^ 64 + 4) % 2 ^ 64)
 unfolding carried
 two_on s = refl
 
 -- mov x9, #7; cmp x9, #7; cset x10, eq
-compared : (s : State) → register_after 10 (carried (Movz true 0 7 (x 9) ∷ SubsImm true 0 7 (x 9) (x 31) ∷ Csinc true (x 31) 1 (x 31) (x 10) ∷ []) s) ≡ Some 1
+compared : (s : State) → register_after 10
+    (carried (Movz true 0 7 (x 9) ∷ SubsImm true 0 7 (x 9) (x 31) ∷ Csinc true (x 31) 1 (x 31) (x 10) ∷ []) s) ≡ Some 1
 unfolding carried
 compared s = refl

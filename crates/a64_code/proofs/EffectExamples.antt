@@ -3,7 +3,8 @@ use Rattle.std.proofs.Common.{◌≡◌, refl, Some, None, Option, ℕ, Bool, tr
 use Rattle.std.specs.Prelude.{◌==◌, if◌then◌else◌}
 use Rattle.a64_alu.specs.declared.flags.Flags.{Flags}
 use Rattle.a64_code.specs.declared.instr.Reg.{Reg}
-use Rattle.a64_code.specs.declared.instr.Instr.TheVariants.{Movz, Movk, Movn, AddImm, SubImm, SubsImm, AddReg, SubsReg, EorReg, Lslv, Asrv, Udiv, Sdiv, Madd, Msub, Sbfm, Ubfm, Csinc, Cbz, B, Bl, BCond, Adrp, Ret}
+use Rattle.a64_code.specs.declared.instr.Instr.TheVariants.{Movz, Movk, Movn, AddImm, SubImm, SubsImm, AddReg, SubsReg, EorReg, Lslv}
+use Rattle.a64_code.specs.declared.instr.Instr.TheVariants.{Asrv, Udiv, Sdiv, Madd, Msub, Sbfm, Ubfm, Csinc, Cbz, B, Bl, BCond, Adrp, Ret}
 use Rattle.a64_code.specs.Outside.{outside_of}
 use Rattle.a64_code.specs.State.{State}
 use Rattle.a64_code.specs.Stepped.{Stepped, Leads, Ends}
@@ -114,7 +115,8 @@ udiv_by_zero = refl
 sdiv_toward_zero : register_after 0 (effect (Sdiv false (x 2) (x 1) (x 0)) (with_two 0xFFFFFFF9 2)) ≡ Some 0xFFFFFFFD
 sdiv_toward_zero = refl
 
-sdiv_least_by_minus_one : register_after 0 (effect (Sdiv true (x 2) (x 1) (x 0)) (with_two 0x8000000000000000 0xFFFFFFFFFFFFFFFF)) ≡ Some 0x8000000000000000
+sdiv_least_by_minus_one : register_after 0 (effect (Sdiv true (x 2) (x 1) (x 0)) (with_two 0x8000000000000000 0xFFFFFFFFFFFFFFFF))
+    ≡ Some 0x8000000000000000
 sdiv_least_by_minus_one = refl
 
 madd_wraps : register_after 0 (effect (Madd false (x 2) (x 1) (x 1) (x 0)) (with_two 0xFFFFFFFF 3)) ≡ Some 0xFFFFFFFC

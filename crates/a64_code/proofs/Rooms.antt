@@ -5,7 +5,7 @@ use Rattle.std.proofs.Math.Nat.{mod-eq_of_lt}
 use Rattle.a64_code.specs.Field.{Field, AllFit, placed}
 use Rattle.a64_code.specs.Sound.{are_apart, is_sound}
 use Rattle.a64_code.specs.Listed.{has_room, are_narrow}
-use Rattle.a64_code.proofs.Fields.{placed-below}
+use Rattle.a64_code.specs.Laws.Fields.{placed-below}
 
 pub placed-room : (base : ℕ) (fs : List Field) → IsTrue (has_room base fs) → AllFit fs → base + placed fs < 2 ^ 32
 placed-room base fs h fit =

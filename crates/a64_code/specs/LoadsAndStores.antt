@@ -3,14 +3,15 @@
 use Rattle.std.specs.Prelude.{ℕ, ◌+◌, ◌*◌, Bool, true, false, not, if◌then◌else◌}
 use Rattle.mt_base.specs.Wrapping.{wrapping_add}
 use Rattle.mt_base.specs.Extension.{sign_extend}
-use Rattle.mt_base.specs.Memory.{load, store}
+use Rattle.mt_base.specs.Memory.{load}
 use Rattle.mt_base.specs.Pointers.{address_of}
 use Rattle.a64_code.specs.declared.instr.Reg.{Reg}
 use Rattle.a64_code.specs.declared.register.RegisterField.{RegisterField}
 use Rattle.a64_code.specs.declared.register.RegisterField.TheVariants.{Rn, Rt, Rt2}
-use Rattle.a64_code.specs.State.{State, operand, with_operand, is_sp, advanced}
-use Rattle.a64_code.specs.Stepped.{Stepped, unless}
-use Rattle.a64_code.specs.Access.{single, pair, access_end}
+use Rattle.a64_code.specs.State.{State, operand, is_sp}
+use Rattle.a64_code.specs.Access.{single, pair}
+use Rattle.a64_code.specs.Shape.{Shape, Loads, LoadsPair, Stores, StoresPair}
+use Rattle.a64_code.specs.Results.{result_of}
 
 -- the bytes of a register of 64 bits, or of 32
 abbrev pub register_bytes : Bool → ℕ
@@ -27,33 +28,25 @@ beside sp bits unit offset rn s = wrapping_add 64 (operand (sp Rn) s rn) (unit *
 abbrev pub is_checked : (RegisterField → Bool) → Reg → Bool
 is_checked sp rn = not (is_sp (sp Rn) rn)
 
--- the state with other bytes in memory
-abbrev pub with_bytes : (ℕ → ℕ) → State → State
-with_bytes byte s = record s { byte = byte }
-
--- Rt becomes the number of so many bytes at the pointer's address, once it is extended
-abbrev pub loads : (RegisterField → Bool) → ℕ → (ℕ → ℕ) → ℕ → Bool → Reg → State → Stepped
-loads sp bytes extended pointer checked rt s =
-    unless (access_end s (single bytes pointer false checked))
-    (advanced (with_operand (sp Rt) rt (extended (load bytes s.byte (address_of pointer))) s))
+-- Rt becomes the number of so many bytes there, once it is extended
+abbrev pub loads : (RegisterField → Bool) → ℕ → (ℕ → ℕ) → ℕ → Reg → Reg → State → Shape
+loads sp bytes extended imm12 rn rt s =
+    let pointer = behind sp bytes imm12 rn s in
+    Loads (single bytes pointer false (is_checked sp rn)) (result_of (sp Rt) true rt (extended (load bytes s.byte (address_of pointer))))
 
 -- the low bytes of Rt go there
-abbrev pub stores : (RegisterField → Bool) → ℕ → ℕ → Bool → Reg → State → Stepped
-stores sp bytes pointer checked rt s =
-    unless (access_end s (single bytes pointer true checked))
-    (advanced (with_bytes (store bytes s.byte (address_of pointer) (operand (sp Rt) s rt)) s))
+abbrev pub stores : (RegisterField → Bool) → ℕ → ℕ → Reg → Reg → State → Shape
+stores sp bytes imm12 rn rt s = Stores bytes (behind sp bytes imm12 rn s) (is_checked sp rn) (operand (sp Rt) s rt)
 
 -- Rt becomes the first number of 8 bytes and then Rt2 the second, which is what stays where both are one register (the Arm
 -- ARM leaves that open)
-abbrev pub loads_pair : (RegisterField → Bool) → ℕ → Bool → Reg → Reg → State → Stepped
-loads_pair sp pointer checked rt2 rt s =
-    unless (access_end s (pair pointer false checked))
-    (advanced (with_operand (sp Rt2) rt2 (load 8 s.byte (address_of pointer + 8))
-    (with_operand (sp Rt) rt (load 8 s.byte (address_of pointer)) s)))
+abbrev pub loads_pair : (RegisterField → Bool) → ℕ → Reg → Reg → Reg → State → Shape
+loads_pair sp imm7 rt2 rn rt s =
+    let pointer = beside sp 7 8 imm7 rn s in
+    LoadsPair (pair pointer false (is_checked sp rn)) (result_of (sp Rt) true rt (load 8 s.byte (address_of pointer)))
+    (result_of (sp Rt2) true rt2 (load 8 s.byte (address_of pointer + 8)))
 
 -- Rt goes to the first 8 bytes and Rt2 to the second
-abbrev pub stores_pair : (RegisterField → Bool) → ℕ → Bool → Reg → Reg → State → Stepped
-stores_pair sp pointer checked rt2 rt s =
-    unless (access_end s (pair pointer true checked))
-    (advanced (with_bytes (store 8 (store 8 s.byte (address_of pointer) (operand (sp Rt) s rt))
-    (address_of pointer + 8) (operand (sp Rt2) s rt2)) s))
+abbrev pub stores_pair : (RegisterField → Bool) → ℕ → Reg → Reg → Reg → State → Shape
+stores_pair sp imm7 rt2 rn rt s =
+    StoresPair (beside sp 7 8 imm7 rn s) (is_checked sp rn) (operand (sp Rt) s rt) (operand (sp Rt2) s rt2)

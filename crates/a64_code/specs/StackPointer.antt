@@ -1,4 +1,5 @@
--- Where register 31 is the stack pointer. Elsewhere it reads as zero, and what is written to it is dropped. (Arm ARM, C1.2.5 and the pages of C6.2)
+-- Where register 31 is the stack pointer. Elsewhere it reads as zero, and what is written to it is dropped. (Arm ARM,
+-- C1.2.5 and the pages of C6.2)
 use Rattle.std.specs.Prelude.{Bool, true, false, ◌||◌, Option, Some, List, [], ◌∷◌}
 use Rattle.a64_code.specs.declared.instr.Instr.{Instr}
 use Rattle.a64_code.specs.declared.register.RegisterField.{RegisterField}

@@ -1,7 +1,7 @@
 -- The state that an instruction reads and changes: the registers, the flags and the memory of a process (Arm ARM, the
 -- AArch64 application level programmers' model), with memory seen as functions of the address, and what the outside has.
-use Rattle.std.specs.Prelude.{ℕ, ◌+◌, ◌%◌, ◌^◌, ◌==◌, Bool, true, false, not, ◌&&◌, nat_lt, if◌then◌else◌, List}
-use Rattle.mt_base.specs.Memory.{Span, Extent}
+use Rattle.std.specs.Prelude.{ℕ, zero, suc, ◌+◌, ◌%◌, ◌^◌, ◌==◌, Bool, true, false, not, ◌&&◌, nat_lt, if◌then◌else◌, List, length}
+use Rattle.mt_base.specs.Memory.{Span, Extent, store_tag}
 use Rattle.a64_alu.specs.declared.flags.Flags.{Flags}
 pub use Rattle.a64_alu.specs.Width.{of_width}
 use Rattle.a64_code.specs.declared.instr.Reg.{Reg}
@@ -64,6 +64,33 @@ with_operand false = with_general
 -- the register of such a field is the stack pointer
 abbrev pub is_sp : Bool → Reg → Bool
 is_sp takes r = takes && not (nat_lt r.0 31)
+
+-- ---- the other parts
+
+-- the state with these flags
+abbrev pub with_flags : Flags → State → State
+with_flags flags s = record s { flags = flags }
+
+-- the state with other bytes in memory
+abbrev pub with_bytes : (ℕ → ℕ) → State → State
+with_bytes byte s = record s { byte = byte }
+
+-- the state with other tags in memory
+abbrev pub with_tags : (ℕ → ℕ) → State → State
+with_tags tag s = record s { tag = tag }
+
+-- the tags of memory with this one at so many granules from an address on
+abbrev pub tagged : ℕ → (ℕ → ℕ) → ℕ → ℕ → ℕ → ℕ
+tagged zero tag at value = tag
+tagged (suc granules) tag at value = tagged granules (store_tag tag at value) (at + 16) value
+
+-- the state behind a choice that was drawn
+abbrev pub with_choice_drawn : State → State
+with_choice_drawn s = record s { drawn = (s.drawn + 1) % length s.choices }
+
+-- the state with another outside
+abbrev pub with_outside : Outside → State → State
+with_outside outside s = record s { outside = outside }
 
 -- ---- the next instruction
 

@@ -8,7 +8,8 @@ use Rattle.a64_code.specs.declared.instr.Instr.TheVariants as instr
 use Rattle.a64_code.specs.contracts.instr.Instr.{as_values}
 use Rattle.a64_code.specs.Line.{FieldPlace, Line, by_width, both, one}
 use Rattle.a64_code.specs.Entry.{Form, Entry, entry_in}
-use Rattle.a64_code.specs.Places.{rd, rd_sp, rt, rt_sp, rn, rn_sp, ra, rt2, rm, hw, immr, imms, sh, imm7, imm12, imm16, imm19, imm26, immlo, immhi, cond, branch_cond, uimm6, uimm4, simm9}
+use Rattle.a64_code.specs.Places.{rd, rd_sp, rt, rt_sp, rn, rn_sp, ra, rt2, rm, hw, immr, imms, sh, imm7, imm12, imm16, imm19, imm26}
+use Rattle.a64_code.specs.Places.{immlo, immhi, cond, branch_cond, uimm6, uimm4, simm9}
 
 -- The lines: those of two forms first, as in the program's table.
 abbrev pub table : List Line

@@ -8,6 +8,3 @@ mod operand;
 mod operands;
 
 pub use assembly::Assembly;
-
-#[cfg(test)]
-mod tests;

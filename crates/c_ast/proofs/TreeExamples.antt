@@ -2,7 +2,7 @@
 use Rattle.std.proofs.Common.{◌≡◌, refl, ℕ, zero, suc, List, [], ◌∷◌, ◌++◌, flat_map, Some}
 use Rattle.std.specs.Prelude.{codes}
 use Rattle.c_ast.specs.Tree.{NodeLayer, expr}
-use Rattle.c_ast.specs.Opened.{given_trees}
+use Rattle.c_ast.specs.Laws.Opened.{given_trees}
 use Rattle.c_ast.specs.declared.int_type.IntType.TheVariants as int
 use Rattle.c_ast.specs.declared.operator.UnaryOperator.TheVariants as unary
 use Rattle.c_ast.specs.declared.token.Span.{Span}

@@ -1,8 +1,5 @@
 pub mod Words
-pub mod WordLaws
-pub mod Opened
 pub mod Operators
-pub mod OperatorLaws
 pub mod Seen
 pub mod Tree
-pub mod TreeLaws
+pub mod Laws

@@ -12,8 +12,6 @@ mod program;
 mod punctuator;
 mod statement;
 mod table;
-#[cfg(test)]
-mod tests;
 mod token;
 
 pub use copying::{copy, copy_type};

@@ -1,7 +1,7 @@
 -- Tokens for worked examples.
 use Rattle.std.specs.Prelude.{ℕ, ◌+◌, List, [], ◌∷◌}
 use Rattle.c_ast.specs.declared.token.Span.{Span}
-use Rattle.c_ast.specs.declared.token.Token.{Token}
+use Rattle.c_ast.specs.Seen.{Seen as Token}
 use Rattle.c_ast.specs.declared.token.Lexeme.{Lexeme}
 use Rattle.c_ast.specs.declared.token.Lexeme.TheVariants as lexeme
 use Rattle.c_ast.specs.declared.int_type.IntType.TheVariants as integer
@@ -10,7 +10,7 @@ use Rattle.c_ast.specs.declared.punctuator.Punctuator.{Punctuator}
 use Rattle.c_ast.specs.Words.{keyword_number, spelling_of, punctuator_number, spelling_of_punctuator}
 
 abbrev pub token_of : Lexeme → List ℕ → ℕ → Token
-token_of kind bytes start = record { kind = kind; text = record { ref_ptr = (0, 0); now = bytes }; start = start }
+token_of kind bytes start = record { kind = kind; bytes = bytes; start = start }
 
 abbrev pub key_at : Keyword → ℕ → Token
 key_at k = token_of (lexeme.Keyword (keyword_number k)) (spelling_of k)

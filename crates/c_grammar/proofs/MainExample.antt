@@ -2,7 +2,7 @@
 use Rattle.std.specs.Prelude.{ℕ, List, [], ◌∷◌, ◌++◌, Some, None, codes, refl}
 use Rattle.std.proofs.Common.{arith}
 use Rattle.c_ast.specs.Tree.{expr}
-use Rattle.c_ast.specs.declared.token.Token.{Token}
+use Rattle.c_ast.specs.Seen.{Seen as Token}
 use Rattle.c_ast.specs.declared.expr.Expr.{Expr}
 use Rattle.c_ast.specs.declared.int_type.IntType.TheVariants as integer
 use Rattle.c_ast.specs.declared.expr.CType.TheVariants as type
@@ -21,8 +21,7 @@ use Rattle.c_grammar.specs.Types as types
 use Rattle.c_grammar.specs.Expressions.{Expression, conditional, binary, tighter, operand, unary, postfix, primary, number, Primary}
 use Rattle.c_grammar.specs.Statements.{Block, Outside, no_item, more_item, statement, return_word, written, block}
 use Rattle.c_grammar.specs.Parameters.{void_word}
-use Rattle.c_grammar.specs.Externals.{FunctionHead, function_head, no_storage, plain, definition, no_external, more_external}
-use Rattle.c_grammar.specs.Spells.{Spells}
+use Rattle.c_grammar.specs.Externals.{FunctionHead, function_head, no_storage, plain, definition, no_external, more_external, TranslationUnit}
 use Rattle.c_grammar.proofs.Examples.{key_at, mark_at, name_at, digit_at, span}
 
 abbrev pub head_tokens : List Token
@@ -32,7 +31,14 @@ abbrev body_tokens : List Token
 body_tokens = mark_at mark.LeftBrace 14 ∷ key_at key.Return 15 ∷ digit_at 1 22 ∷ mark_at mark.Semicolon 23 ∷ mark_at mark.RightBrace 24 ∷ []
 
 abbrev pub main_head : Function
-main_head = record { storage = storage.None; name = codes "main"; result = type.Int integer.Int; params = []; body = None; span = span 0 14 }
+main_head = record {
+  storage = storage.None;
+  name = codes "main";
+  result = type.Int integer.Int;
+  params = [];
+  body = None;
+  span = span 0 14;
+}
 
 abbrev body : Stmt
 body = stmt.Block (item.Stmt (stmt.Return (Some (expr (span 22 23) (node.Constant 1 integer.Int))) (span 15 24)) ∷ [])
@@ -42,7 +48,8 @@ program = record { items = external.Function (record main_head { body = Some bod
 
 -- a primary is an expression
 pub expression_of : {h : ℕ} {e : Expr} {w : List Token} → Primary h e w → Expression h e w
-expression_of p = conditional (binary (tighter (tighter (tighter (tighter (tighter (tighter (tighter (tighter (tighter (tighter (operand (unary (postfix (primary p)))))))))))))))
+expression_of p = conditional (binary (tighter (tighter (tighter
+    (tighter (tighter (tighter (tighter (tighter (tighter (tighter (operand (unary (postfix (primary p)))))))))))))))
 
 pub head_spelled : FunctionHead 1 [] main_head head_tokens
 head_spelled =
@@ -52,7 +59,8 @@ head_spelled =
 body_spelled : Block Outside 2 body body_tokens
 body_spelled =
     block (mark_at mark.LeftBrace 14) (mark_at mark.RightBrace 24) refl
-    (more_item no_item (statement (return_word (key_at key.Return 15) (mark_at mark.Semicolon 23) refl (written (expression_of (number (digit_at 1 22) refl))) refl))) refl
+    (more_item no_item (statement (return_word (key_at key.Return 15) (mark_at mark.Semicolon 23) refl
+    (written (expression_of (number (digit_at 1 22) refl))) refl))) refl
 
-main_spelled : Spells (head_tokens ++ body_tokens) program 3
+main_spelled : TranslationUnit 3 program.items (head_tokens ++ body_tokens)
 main_spelled = more_external no_external (definition head_spelled (λ k d lt. absurd (omega arith)) body_spelled)

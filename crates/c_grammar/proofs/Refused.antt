@@ -1,8 +1,9 @@
--- What the side conditions keep out: `break` and `continue` outside a loop, an `else` that belongs to a farther `if`, and a parameter `void`.
+-- What the side conditions keep out: `break` and `continue` outside a loop, an `else` that belongs to a farther `if`, and a parameter
+-- `void`.
 use Rattle.std.specs.Prelude.{ℕ, List, [], Some, None}
-use Rattle.c_ast.specs.Opened.{given_trees}
+use Rattle.c_ast.specs.Laws.Opened.{given_trees}
 use Rattle.c_ast.specs.Tree.{StmtLayer}
-use Rattle.c_ast.specs.declared.token.Token.{Token}
+use Rattle.c_ast.specs.Seen.{Seen as Token}
 use Rattle.c_ast.specs.declared.statement.Stmt.{Stmt, out-Stmt}
 use Rattle.c_ast.specs.declared.statement.Item.TheOpen.{Stmt-F}
 use Rattle.c_ast.specs.declared.declaration.Decl.{Decl}

@@ -1,7 +1,7 @@
 -- Worked statements and a function's declaration.
 use Rattle.std.specs.Prelude.{List, [], ◌∷◌, ◌++◌, Some, None, codes, refl}
 use Rattle.c_ast.specs.Tree.{expr}
-use Rattle.c_ast.specs.declared.token.Token.{Token}
+use Rattle.c_ast.specs.Seen.{Seen as Token}
 use Rattle.c_ast.specs.declared.int_type.IntType.TheVariants as integer
 use Rattle.c_ast.specs.declared.expr.CType.TheVariants as type
 use Rattle.c_ast.specs.declared.expr.Expr.{Expr}
@@ -22,14 +22,18 @@ use Rattle.c_grammar.specs.Declarators.{arrays, no_bracket, bracket, no_length, 
 use Rattle.c_grammar.specs.Objects.{Local, local, value, object, initialised}
 use Rattle.c_grammar.specs.Statements.{Statement, Outside, Open, Closed, expression, empty, if_then, if_else, for_loop, break_word, left_out, first_local}
 use Rattle.c_grammar.specs.Parameters.{OneVoid, unnamed, named, parameter, one_parameter, more_parameter, Parameters, parameters}
-use Rattle.c_grammar.specs.Externals.{FunctionHead, function_head, static_word, plain, declaration, no_external, more_external}
-use Rattle.c_grammar.specs.Spells.{Spells}
+use Rattle.c_grammar.specs.Externals.{FunctionHead, function_head, static_word, plain, declaration, no_external, more_external, TranslationUnit}
 use Rattle.c_grammar.proofs.Examples.{key_at, mark_at, name_at, digit_at, span}
 use Rattle.c_grammar.proofs.MainExample.{expression_of}
 
 -- for(int i=0;;)break; has 3 levels below it: the local declaration, its initial, and the initial's expression
 abbrev counter : Decl
-counter = record { name = codes "i"; ty = type.Int integer.Int; init = Some (init.One (expr (span 10 11) (node.Constant 0 integer.Int))); span = span 8 11 }
+counter = record {
+  name = codes "i";
+  ty = type.Int integer.Int;
+  init = Some (init.One (expr (span 10 11) (node.Constant 0 integer.Int)));
+  span = span 8 11;
+}
 
 abbrev local_tokens : List Token
 local_tokens = key_at key.Int 4 ∷ name_at (codes "i") 8 ∷ mark_at mark.Equal 9 ∷ digit_at 0 10 ∷ mark_at mark.Semicolon 11 ∷ []
@@ -42,7 +46,8 @@ local_spelled =
     (value (expression_of (number (digit_at 0 10) refl))))) refl
 
 for_with_a_local : Statement Outside Closed 3 (stmt.For (counter ∷ []) None None None (stmt.Break (span 14 20)))
-    (key_at key.For 0 ∷ mark_at mark.LeftParen 3 ∷ local_tokens ++ (mark_at mark.Semicolon 12 ∷ mark_at mark.RightParen 13 ∷ key_at key.Break 14 ∷ mark_at mark.Semicolon 19 ∷ []))
+    (key_at key.For 0 ∷ mark_at mark.LeftParen 3 ∷ local_tokens ++
+    (mark_at mark.Semicolon 12 ∷ mark_at mark.RightParen 13 ∷ key_at key.Break 14 ∷ mark_at mark.Semicolon 19 ∷ []))
 for_with_a_local =
     for_loop (key_at key.For 0) (mark_at mark.LeftParen 3) (mark_at mark.Semicolon 12) (mark_at mark.RightParen 13) refl refl
     (first_local local_spelled) left_out refl left_out refl (break_word (key_at key.Break 14) (mark_at mark.Semicolon 19) refl refl)
@@ -95,7 +100,8 @@ parameters_spelled =
     (more_parameter (mark_at mark.Comma 22)
     (one_parameter
     (parameter (words char (word (key_at key.Char 14) refl types.Keywords.none)) (star (mark_at mark.Star 18) types.Stars.none refl)
-    (named (name_at (codes "s") 19) refl) (bracket (mark_at mark.LeftBracket 20) (mark_at mark.RightBracket 21) no_bracket refl no_length refl)))
+    (named (name_at (codes "s") 19) refl) (bracket (mark_at mark.LeftBracket 20)
+    (mark_at mark.RightBracket 21) no_bracket refl no_length refl)))
     refl
     (parameter (words int (word (key_at key.Int 23) refl types.Keywords.none)) types.Stars.none unnamed no_bracket))
     (λ h. two_parameters _ _ h) refl
@@ -116,10 +122,11 @@ head_tokens = key_at key.Static 0 ∷ key_at key.Long 7 ∷ mark_at mark.Star 11
 head_spelled : FunctionHead 4 [] the_function head_tokens
 head_spelled =
     function_head (name_at (codes "f") 12) (static_word (key_at key.Static 0) refl)
-    (plain (words long (word (key_at key.Long 7) refl types.Keywords.none))) (star (mark_at mark.Star 11) types.Stars.none refl) refl parameters_spelled
+    (plain (words long (word (key_at key.Long 7) refl types.Keywords.none)))
+    (star (mark_at mark.Star 11) types.Stars.none refl) refl parameters_spelled
 
 abbrev program : Program
 program = record { items = external.Function (record the_function { span = span 0 28 }) ∷ [] }
 
-declared : Spells (head_tokens ++ mark_at mark.Semicolon 27 ∷ []) program 4
+declared : TranslationUnit 4 program.items (head_tokens ++ mark_at mark.Semicolon 27 ∷ [])
 declared = more_external no_external (declaration (mark_at mark.Semicolon 27) head_spelled refl)

@@ -1,8 +1,9 @@
--- The program `struct p{int x,*y[2];}a={1,{2,},};` has depth 5, twice. The struct declaration is level 1, its member 2, `*` 3, `[ ]` 4 and the length 5.
+-- The program `struct p{int x,*y[2];}a={1,{2,},};` has depth 5, twice. The struct declaration is level 1, its member 2, `*` 3, `[ ]` 4
+-- and the length 5.
 -- The object declaration is level 1, its initial 2, each initial in the braces 3, the one in the inner braces 4, and its expression 5.
 use Rattle.std.specs.Prelude.{List, [], ◌∷◌, ◌++◌, Some, None, codes, refl}
 use Rattle.c_ast.specs.Tree.{expr}
-use Rattle.c_ast.specs.declared.token.Token.{Token}
+use Rattle.c_ast.specs.Seen.{Seen as Token}
 use Rattle.c_ast.specs.declared.int_type.IntType.TheVariants as integer
 use Rattle.c_ast.specs.declared.expr.CType.{CType}
 use Rattle.c_ast.specs.declared.expr.CType.TheVariants as type
@@ -22,8 +23,7 @@ use Rattle.c_grammar.specs.Expressions.{Conditional, binary, tighter, operand, u
 use Rattle.c_grammar.specs.Declarators.{arrays, Brackets, no_bracket, bracket, length_of, Declarator, declarator}
 use Rattle.c_grammar.specs.Objects.{Initial, value, braces_comma, initial, more_initial, Object, initialised, object}
 use Rattle.c_grammar.specs.Structs.{first, further, Member, member, members, Structure, structure}
-use Rattle.c_grammar.specs.Externals.{no_storage, with_body, objects, no_external, more_external}
-use Rattle.c_grammar.specs.Spells.{Spells}
+use Rattle.c_grammar.specs.Externals.{no_storage, with_body, objects, no_external, more_external, TranslationUnit}
 use Rattle.c_grammar.proofs.Examples.{key_at, mark_at, name_at, digit_at, span}
 use Rattle.c_grammar.proofs.MainExample.{expression_of}
 
@@ -70,9 +70,11 @@ abbrev program : Program
 program = record { items = external.Struct the_struct ∷ external.Objects storage.None (the_object ∷ []) ∷ [] }
 
 length_spelled : Conditional 0 (expr (span 18 19) (node.Constant 2 integer.Int)) (digit_at 2 18 ∷ [])
-length_spelled = binary (tighter (tighter (tighter (tighter (tighter (tighter (tighter (tighter (tighter (tighter (operand (unary (postfix (primary (number (digit_at 2 18) refl)))))))))))))))
+length_spelled = binary (tighter (tighter (tighter (tighter (tighter
+    (tighter (tighter (tighter (tighter (tighter (operand (unary (postfix (primary (number (digit_at 2 18) refl)))))))))))))))
 
-brackets_spelled : Brackets 1 3 (Some (expr (span 18 19) (node.Constant 2 integer.Int)) ∷ []) (mark_at mark.LeftBracket 17 ∷ digit_at 2 18 ∷ mark_at mark.RightBracket 19 ∷ [])
+brackets_spelled : Brackets 1 3 (Some (expr (span 18 19) (node.Constant 2 integer.Int)) ∷ [])
+    (mark_at mark.LeftBracket 17 ∷ digit_at 2 18 ∷ mark_at mark.RightBracket 19 ∷ [])
 brackets_spelled = bracket (mark_at mark.LeftBracket 17) (mark_at mark.RightBracket 19) no_bracket refl (length_of length_spelled) refl
 
 y_spelled : Declarator int_type 3 (codes "y") pointers
@@ -91,7 +93,8 @@ member_spelled =
 
 struct_spelled : Structure 4 the_struct struct_tokens
 struct_spelled =
-    structure (key_at key.Struct 0) (name_at (codes "p") 7) (mark_at mark.LeftBrace 8) (mark_at mark.RightBrace 21) refl refl refl (members member_spelled) refl
+    structure (key_at key.Struct 0) (name_at (codes "p") 7) (mark_at mark.LeftBrace 8) (mark_at mark.RightBrace 21) refl refl refl
+    (members member_spelled) refl
 
 inner_spelled : Initial 2 inner (mark_at mark.LeftBrace 27 ∷ digit_at 2 28 ∷ mark_at mark.Comma 29 ∷ mark_at mark.RightBrace 30 ∷ [])
 inner_spelled =
@@ -108,7 +111,7 @@ unfolding arrays
 object_spelled =
     initialised (mark_at mark.Equal 23) (declarator (name_at (codes "a") 22) types.Stars.none refl no_bracket) refl outer_spelled
 
-struct_and_object : Spells (struct_tokens ++ (object_tokens ++ mark_at mark.Semicolon 33 ∷ [])) program 5
+struct_and_object : TranslationUnit 5 program.items (struct_tokens ++ (object_tokens ++ mark_at mark.Semicolon 33 ∷ []))
 struct_and_object =
     more_external no_external
     (objects (mark_at mark.Semicolon 33) no_storage (with_body struct_spelled) (object object_spelled) refl)

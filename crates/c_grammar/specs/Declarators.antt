@@ -1,6 +1,6 @@
 -- How declarators are spelled: a name among what its type adds to the base (ISO C11 6.7.6).
 use Rattle.std.specs.Prelude.{ℕ, suc, ◌+◌, max, List, [], ◌∷◌, ◌++◌, length, Option, Some, None}
-use Rattle.c_ast.specs.declared.token.Token.{Token}
+use Rattle.c_ast.specs.Seen.{Seen as Token}
 use Rattle.c_ast.specs.declared.expr.CType.{CType}
 use Rattle.c_ast.specs.declared.expr.CType.TheVariants as type
 use Rattle.c_ast.specs.declared.expr.Expr.{Expr}
@@ -19,7 +19,8 @@ pub data Length : ℕ → Option Expr → List Token → Type 0 where
   no_length : Length 0 None []
   length_of : {h : ℕ} {e : Expr} {w : List Token} → Conditional h e w → Length (suc h) (Some e) w
 
--- { "[" [ cond ] "]" }: the lengths in their order (6.7.6.2). Each `[ ]` is a level below the one before, and the first below the `*` of the type,
+-- { "[" [ cond ] "]" }: the lengths in their order (6.7.6.2). Each `[ ]` is a level below the one before, and the first below the `*` of
+-- the type,
 -- of which there are so many above. The number says how many levels the type has in all below the declaration that has it.
 pub data Brackets (above : ℕ) : ℕ → List (Option Expr) → List Token → Type 0 where
   no_bracket : Brackets above above [] []

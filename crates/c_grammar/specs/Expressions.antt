@@ -1,6 +1,6 @@
 -- How expressions are spelled (ISO C11 6.5): by the number of levels below an expression, its tree and its tokens.
 use Rattle.std.specs.Prelude.{◌≡◌, ℕ, suc, max, List, [], ◌∷◌, ◌++◌, Option}
-use Rattle.c_ast.specs.declared.token.Token.{Token}
+use Rattle.c_ast.specs.Seen.{Seen as Token}
 use Rattle.c_ast.specs.declared.token.Lexeme.TheVariants as lexeme
 use Rattle.c_ast.specs.declared.int_type.IntType.{IntType}
 use Rattle.c_ast.specs.declared.int_type.IntType.TheVariants as integer
@@ -26,14 +26,17 @@ spelled w n = expr (span_of w) n
 -- TEXT { TEXT }: adjacent texts are one
 pub data Texts : List ℕ → List Token → Type 0 where
   one_text : {bytes : List ℕ} (t : Token) → t.kind ≡ lexeme.Text bytes → Texts bytes (t ∷ [])
-  more_text : {before bytes : List ℕ} {w : List Token} (t : Token) → Texts before w → t.kind ≡ lexeme.Text bytes → Texts (before ++ bytes) (w ++ t ∷ [])
+  more_text : {before bytes : List ℕ} {w : List Token} (t : Token) → Texts before w → t.kind ≡ lexeme.Text bytes →
+      Texts (before ++ bytes) (w ++ t ∷ [])
 
 mutual
   -- primary = NAME | NUMBER | CHARACTER | TEXT { TEXT } | "(" expr ")"
   pub data Primary : ℕ → Expr → List Token → Type 0 where
     variable : {n : List ℕ} (t : Token) → IsName n t → Primary 0 (spelled (t ∷ []) (node.Variable n)) (t ∷ [])
-    number : {value : ℕ} {ty : IntType} (t : Token) → t.kind ≡ lexeme.Number value ty → Primary 0 (spelled (t ∷ []) (node.Constant value ty)) (t ∷ [])
-    character : {value : ℕ} (t : Token) → t.kind ≡ lexeme.Character value → Primary 0 (spelled (t ∷ []) (node.Constant value integer.Int)) (t ∷ [])
+    number : {value : ℕ} {ty : IntType} (t : Token) → t.kind ≡ lexeme.Number value ty →
+        Primary 0 (spelled (t ∷ []) (node.Constant value ty)) (t ∷ [])
+    character : {value : ℕ} (t : Token) → t.kind ≡ lexeme.Character value →
+        Primary 0 (spelled (t ∷ []) (node.Constant value integer.Int)) (t ∷ [])
     text : {bytes : List ℕ} {w : List Token} → Texts bytes w → Primary 0 (spelled w (node.Text bytes)) w
     paren : {h : ℕ} {e : Expr} {u : List Token} (l r : Token) → IsPunct mark.LeftParen l → Expression h e u → IsPunct mark.RightParen r →
         Primary (suc h) (spelled (l ∷ u ++ r ∷ []) (node.Paren e)) (l ∷ u ++ r ∷ [])
@@ -61,7 +64,8 @@ mutual
 
   pub data ArgumentList : ℕ → List Expr → List Token → Type 0 where
     argument : {h : ℕ} {e : Expr} {w : List Token} → Expression h e w → ArgumentList h (e ∷ []) w
-    more_argument : {h k : ℕ} {es : List Expr} {e : Expr} {u v : List Token} (c : Token) → ArgumentList h es u → IsPunct mark.Comma c → Expression k e v →
+    more_argument : {h k : ℕ} {es : List Expr} {e : Expr} {u v : List Token} (c : Token) → ArgumentList h es u → IsPunct mark.Comma c →
+        Expression k e v →
         ArgumentList (max h k) (es ++ e ∷ []) (u ++ c ∷ v)
 
   -- unary = postfix | ( "++" | "--" ) unary | ( "&" | "*" | "+" | "-" | "~" | "!" ) cast | "sizeof" unary | "sizeof" "(" tname ")"
@@ -73,13 +77,15 @@ mutual
         Unary (suc h) (spelled (t ∷ u) (node.Unary o e)) (t ∷ u)
     sizeof_expr : {h : ℕ} {e : Expr} {u : List Token} (t : Token) → IsKeyword key.Sizeof t → Unary h e u →
         Unary (suc h) (spelled (t ∷ u) (node.SizeofExpr e)) (t ∷ u)
-    sizeof_name : {k : ℕ} {ty : CType} {v : List Token} (t l r : Token) → IsKeyword key.Sizeof t → IsPunct mark.LeftParen l → TypeName k ty v → IsPunct mark.RightParen r →
+    sizeof_name : {k : ℕ} {ty : CType} {v : List Token} (t l r : Token) → IsKeyword key.Sizeof t → IsPunct mark.LeftParen l →
+        TypeName k ty v → IsPunct mark.RightParen r →
         Unary k (spelled (t ∷ l ∷ v ++ r ∷ []) (node.SizeofName ty)) (t ∷ l ∷ v ++ r ∷ [])
 
   -- cast = unary | "(" tname ")" cast
   pub data Cast : ℕ → Expr → List Token → Type 0 where
     unary : {h : ℕ} {e : Expr} {w : List Token} → Unary h e w → Cast h e w
-    cast : {k h : ℕ} {ty : CType} {e : Expr} {v u : List Token} (l r : Token) → IsPunct mark.LeftParen l → TypeName k ty v → IsPunct mark.RightParen r → Cast h e u →
+    cast : {k h : ℕ} {ty : CType} {e : Expr} {v u : List Token} (l r : Token) → IsPunct mark.LeftParen l → TypeName k ty v →
+        IsPunct mark.RightParen r → Cast h e u →
         Cast (max k (suc h)) (spelled (l ∷ v ++ r ∷ u) (node.Cast ty e)) (l ∷ v ++ r ∷ u)
 
   -- binary, by its levels: 0 is cast, 1 is `* / %`, and so on to 10, which is `||`. Each is left to right over the next tighter one.

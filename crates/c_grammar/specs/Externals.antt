@@ -1,6 +1,6 @@
 -- How the parts of a translation unit are spelled (ISO C11 6.9), by how many levels they have.
 use Rattle.std.specs.Prelude.{◌≡◌, ℕ, suc, max, List, [], ◌∷◌, ◌++◌, Some, None}
-use Rattle.c_ast.specs.declared.token.Token.{Token}
+use Rattle.c_ast.specs.Seen.{Seen as Token}
 use Rattle.c_ast.specs.declared.token.Lexeme.TheVariants as lexeme
 use Rattle.c_ast.specs.declared.expr.CType.{CType}
 use Rattle.c_ast.specs.declared.expr.CType.TheVariants as type
@@ -34,14 +34,17 @@ pub data Head : ℕ → List External → CType → List Token → Type 0 where
 
 -- storage head stars NAME params: the items before the function, and the function as far as its head says it (6.7.6.3)
 pub data FunctionHead : ℕ → List External → Function → List Token → Type 0 where
-  function_head : {n i j : ℕ} {c : Storage} {before : List External} {base ty : CType} {name : List ℕ} {ds : List Decl} {u v w x : List Token} (t : Token) →
+  function_head : {n i j : ℕ} {c : Storage} {before : List External} {base ty : CType} {name : List ℕ} {ds : List Decl}
+      {u v w x : List Token} (t : Token) →
       StorageClass c u → Head n before base v → Stars base i ty w → IsName name t → Parameters j ds x →
       FunctionHead (max n (suc (max i j))) before
-      (record { storage = c; name = name; result = ty; params = ds; body = None; span = span_of (u ++ (v ++ (w ++ t ∷ x))) }) (u ++ (v ++ (w ++ t ∷ x)))
+      (record { storage = c; name = name; result = ty; params = ds; body = None; span = span_of (u ++ (v ++ (w ++ t ∷ x))) })
+      (u ++ (v ++ (w ++ t ∷ x)))
 
 -- external = INCLUDE | "struct" NAME [ body ] ";" | storage head inits ";"
 --          | storage head stars NAME params ( ";" | block )
--- (6.7, 6.9, 6.9.1, 6.10.2): a struct declaration, a declaration of objects, a function's head and a function's body are each the first level
+-- (6.7, 6.9, 6.9.1, 6.10.2): a struct declaration, a declaration of objects, a function's head and a function's body are each the first
+-- level
 pub data ExternalDeclaration : ℕ → List External → List Token → Type 0 where
   include : (t : Token) → t.kind ≡ lexeme.Include → ExternalDeclaration 0 (external.Include ∷ []) (t ∷ [])
   tag : {d : StructDecl} {w : List Token} (z : Token) → Tag d w → IsPunct mark.Semicolon z →
@@ -51,7 +54,8 @@ pub data ExternalDeclaration : ℕ → List External → List Token → Type 0 w
   objects : {n h : ℕ} {c : Storage} {before : List External} {base : CType} {ds : List Decl} {u v w : List Token} (z : Token) →
       StorageClass c u → Head n before base v → Objects base h ds w → IsPunct mark.Semicolon z →
       ExternalDeclaration (max n (suc h)) (before ++ external.Objects c ds ∷ []) (u ++ (v ++ (w ++ z ∷ [])))
-  declaration : {n : ℕ} {before : List External} {f : Function} {w : List Token} (z : Token) → FunctionHead n before f w → IsPunct mark.Semicolon z →
+  declaration : {n : ℕ} {before : List External} {f : Function} {w : List Token} (z : Token) → FunctionHead n before f w →
+      IsPunct mark.Semicolon z →
       ExternalDeclaration n (before ++ external.Function (record f { span = span_of (w ++ z ∷ []) }) ∷ []) (w ++ z ∷ [])
   definition : {n k : ℕ} {before : List External} {f : Function} {s : Stmt} {w v : List Token} →
       FunctionHead n before f w → AllNamed f.params → Block Outside k s v →

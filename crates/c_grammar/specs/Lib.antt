@@ -7,9 +7,6 @@ pub mod Objects
 pub mod Structs
 pub mod Parameters
 pub mod Statements
-pub mod EndingLaws
 pub mod Externals
 pub mod Spells
-pub mod Moved
-pub mod MovedExpressions
-pub mod MovedPrograms
+pub mod Laws

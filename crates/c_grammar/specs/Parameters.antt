@@ -1,7 +1,7 @@
 -- How parameters are spelled (ISO C11 6.7.6.3).
 use Rattle.std.specs.Prelude.{◌≢◌, ℕ, suc, max, List, [], ◌∷◌, ◌++◌, Option, None, All}
 use Rattle.c_ast.specs.declared.token.Span.{Span}
-use Rattle.c_ast.specs.declared.token.Token.{Token}
+use Rattle.c_ast.specs.Seen.{Seen as Token}
 use Rattle.c_ast.specs.declared.expr.CType.{CType}
 use Rattle.c_ast.specs.declared.expr.CType.TheVariants as type
 use Rattle.c_ast.specs.declared.expr.Expr.{Expr}
@@ -21,12 +21,14 @@ pub data ParameterName : List ℕ → List Token → Type 0 where
 pub data Parameter : ℕ → Decl → List Token → Type 0 where
   parameter : {n h : ℕ} {base ty : CType} {name : List ℕ} {lengths : List (Option Expr)} {u v w x : List Token} →
       Base base u → Stars base n ty v → ParameterName name w → Brackets n h lengths x →
-      Parameter h (record { name = name; ty = arrays ty lengths; init = None; span = span_of (u ++ (v ++ (w ++ x))) }) (u ++ (v ++ (w ++ x)))
+      Parameter h (record { name = name; ty = arrays ty lengths; init = None; span = span_of (u ++ (v ++ (w ++ x))) })
+      (u ++ (v ++ (w ++ x)))
 
 -- param { "," param } (6.7.6.3)
 pub data ParameterList : ℕ → List Decl → List Token → Type 0 where
   one_parameter : {h : ℕ} {d : Decl} {w : List Token} → Parameter h d w → ParameterList h (d ∷ []) w
-  more_parameter : {h k : ℕ} {ds : List Decl} {d : Decl} {u v : List Token} (c : Token) → ParameterList h ds u → IsPunct mark.Comma c → Parameter k d v →
+  more_parameter : {h k : ℕ} {ds : List Decl} {d : Decl} {u v : List Token} (c : Token) → ParameterList h ds u → IsPunct mark.Comma c →
+      Parameter k d v →
       ParameterList (max h k) (ds ++ d ∷ []) (u ++ c ∷ v)
 
 -- one parameter without a name whose type is void: the word `void` alone, which is no parameter (6.7.6.3 paragraph 10)
@@ -36,7 +38,8 @@ pub data OneVoid : List Decl → Type 0 where
 -- params = "(" [ "void" ] ")" | "(" param { "," param } ")": how many levels the parameters have, none where there are none (6.7.6.3)
 pub data Parameters : ℕ → List Decl → List Token → Type 0 where
   no_word : (l r : Token) → IsPunct mark.LeftParen l → IsPunct mark.RightParen r → Parameters 0 [] (l ∷ r ∷ [])
-  void_word : (l t r : Token) → IsPunct mark.LeftParen l → IsKeyword key.Void t → IsPunct mark.RightParen r → Parameters 0 [] (l ∷ t ∷ r ∷ [])
+  void_word : (l t r : Token) → IsPunct mark.LeftParen l → IsKeyword key.Void t → IsPunct mark.RightParen r →
+      Parameters 0 [] (l ∷ t ∷ r ∷ [])
   parameters : {h : ℕ} {ds : List Decl} {v : List Token} (l r : Token) →
       IsPunct mark.LeftParen l → ParameterList h ds v → ¬ OneVoid ds → IsPunct mark.RightParen r →
       Parameters (suc h) ds (l ∷ v ++ r ∷ [])

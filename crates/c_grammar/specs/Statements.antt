@@ -1,6 +1,6 @@
 -- How statements are spelled (ISO C11 6.8).
 use Rattle.std.specs.Prelude.{ℕ, suc, max, List, [], ◌∷◌, ◌++◌, Option, Some, None}
-use Rattle.c_ast.specs.declared.token.Token.{Token}
+use Rattle.c_ast.specs.Seen.{Seen as Token}
 use Rattle.c_ast.specs.declared.expr.Expr.{Expr}
 use Rattle.c_ast.specs.declared.declaration.Decl.{Decl}
 use Rattle.c_ast.specs.declared.statement.Stmt.{Stmt}
@@ -29,7 +29,8 @@ pub data MaybeExpression : ℕ → Option Expr → List Token → Type 0 where
 -- local | [ expr ] ";": what comes first in a `for`, and how many levels it has (6.8.5.3)
 pub data First : ℕ → List Decl → Option Expr → List Token → Type 0 where
   first_local : {h : ℕ} {ds : List Decl} {w : List Token} → Local h ds w → First (suc h) ds None w
-  first_expression : {n : ℕ} {e : Option Expr} {w : List Token} (s : Token) → MaybeExpression n e w → IsPunct mark.Semicolon s → First n [] e (w ++ s ∷ [])
+  first_expression : {n : ℕ} {e : Option Expr} {w : List Token} (s : Token) → MaybeExpression n e w → IsPunct mark.Semicolon s →
+      First n [] e (w ++ s ∷ [])
 
 mutual
   -- stmt = block | [ expr ] ";" | "if" "(" expr ")" stmt [ "else" stmt ]
@@ -53,14 +54,18 @@ mutual
         IsKeyword key.While t → IsPunct mark.LeftParen l → Expression h e u → IsPunct mark.RightParen r → Statement InLoop a k s v →
         Statement p a (suc (max h k)) (stmt.While e s) (t ∷ l ∷ u ++ r ∷ v)
     do_loop : {p : Place} {h k : ℕ} {e : Expr} {a : Ending} {s : Stmt} {u v : List Token} (t x l r z : Token) →
-        IsKeyword key.Do t → Statement InLoop a k s u → IsKeyword key.While x → IsPunct mark.LeftParen l → Expression h e v → IsPunct mark.RightParen r →
+        IsKeyword key.Do t → Statement InLoop a k s u → IsKeyword key.While x → IsPunct mark.LeftParen l → Expression h e v →
+        IsPunct mark.RightParen r →
         IsPunct mark.Semicolon z →
         Statement p Closed (suc (max k h)) (stmt.DoWhile s e) (t ∷ u ++ (x ∷ l ∷ v ++ r ∷ z ∷ []))
-    for_loop : {p : Place} {n m i h : ℕ} {ds : List Decl} {e c d : Option Expr} {a : Ending} {s : Stmt} {u v w x : List Token} (t l z r : Token) →
-        IsKeyword key.For t → IsPunct mark.LeftParen l → First n ds e u → MaybeExpression m c v → IsPunct mark.Semicolon z → MaybeExpression i d w →
+    for_loop : {p : Place} {n m i h : ℕ} {ds : List Decl} {e c d : Option Expr} {a : Ending} {s : Stmt} {u v w x : List Token}
+        (t l z r : Token) →
+        IsKeyword key.For t → IsPunct mark.LeftParen l → First n ds e u → MaybeExpression m c v → IsPunct mark.Semicolon z →
+        MaybeExpression i d w →
         IsPunct mark.RightParen r → Statement InLoop a h s x →
         Statement p a (max n (max m (max i (suc h)))) (stmt.For ds e c d s) (t ∷ l ∷ u ++ (v ++ (z ∷ w ++ r ∷ x)))
-    return_word : {p : Place} {n : ℕ} {e : Option Expr} {v : List Token} (t z : Token) → IsKeyword key.Return t → MaybeExpression n e v → IsPunct mark.Semicolon z →
+    return_word : {p : Place} {n : ℕ} {e : Option Expr} {v : List Token} (t z : Token) → IsKeyword key.Return t → MaybeExpression n e v →
+        IsPunct mark.Semicolon z →
         Statement p Closed n (stmt.Return e (span_of (t ∷ v ++ z ∷ []))) (t ∷ v ++ z ∷ [])
     break_word : (t z : Token) → IsKeyword key.Break t → IsPunct mark.Semicolon z →
         Statement InLoop Closed 0 (stmt.Break (span_of (t ∷ z ∷ []))) (t ∷ z ∷ [])
@@ -69,7 +74,8 @@ mutual
 
   -- block = "{" { item } "}" (6.8.2)
   pub data Block : Place → ℕ → Stmt → List Token → Type 0 where
-    block : {p : Place} {n : ℕ} {is : List Item} {v : List Token} (l r : Token) → IsPunct mark.LeftBrace l → BlockItems p n is v → IsPunct mark.RightBrace r →
+    block : {p : Place} {n : ℕ} {is : List Item} {v : List Token} (l r : Token) → IsPunct mark.LeftBrace l → BlockItems p n is v →
+        IsPunct mark.RightBrace r →
         Block p n (stmt.Block is) (l ∷ v ++ r ∷ [])
 
   -- { item }: how many levels the items have, none where there are none (6.8.2)

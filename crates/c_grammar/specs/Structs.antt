@@ -1,6 +1,6 @@
 -- How structs are declared (ISO C11 6.7.2.1).
 use Rattle.std.specs.Prelude.{ℕ, suc, max, List, [], ◌∷◌, ◌++◌, Some, None}
-use Rattle.c_ast.specs.declared.token.Token.{Token}
+use Rattle.c_ast.specs.Seen.{Seen as Token}
 use Rattle.c_ast.specs.declared.expr.CType.{CType}
 use Rattle.c_ast.specs.declared.declaration.Decl.{Decl}
 use Rattle.c_ast.specs.declared.declaration.StructDecl.{StructDecl}
@@ -20,7 +20,8 @@ pub data Declarators (base : CType) : ℕ → List Decl → List Token → Type 
 
 -- member = base declr { "," declr } ";" (6.7.2.1)
 pub data Member : ℕ → List Decl → List Token → Type 0 where
-  member : {h : ℕ} {base : CType} {ds : List Decl} {u v : List Token} (s : Token) → Base base u → Declarators base h ds v → IsPunct mark.Semicolon s →
+  member : {h : ℕ} {base : CType} {ds : List Decl} {u v : List Token} (s : Token) → Base base u → Declarators base h ds v →
+      IsPunct mark.Semicolon s →
       Member h ds (u ++ (v ++ s ∷ []))
 
 -- member { member } (6.7.2.1)

@@ -1,6 +1,6 @@
 -- How types are spelled (ISO C11 6.7.2, 6.7.6).
 use Rattle.std.specs.Prelude.{ℕ, suc, List, [], ◌∷◌, ◌++◌}
-use Rattle.c_ast.specs.declared.token.Token.{Token}
+use Rattle.c_ast.specs.Seen.{Seen as Token}
 use Rattle.c_ast.specs.declared.int_type.IntType.{IntType}
 use Rattle.c_ast.specs.declared.int_type.IntType.TheVariants as integer
 use Rattle.c_ast.specs.declared.expr.CType.{CType}
@@ -47,7 +47,8 @@ pub data Base : CType → List Token → Type 0 where
 -- stars = { "*" }: the type before them, the type behind them, and one level for each
 pub data Stars (base : CType) : ℕ → CType → List Token → Type 0 where
   none : Stars base 0 base []
-  star : {n : ℕ} {ty : CType} {w : List Token} (t : Token) → Stars base n ty w → IsPunct mark.Star t → Stars base (suc n) (type.Pointer ty) (w ++ t ∷ [])
+  star : {n : ℕ} {ty : CType} {w : List Token} (t : Token) → Stars base n ty w → IsPunct mark.Star t →
+      Stars base (suc n) (type.Pointer ty) (w ++ t ∷ [])
 
 -- tname = base stars
 pub data TypeName : ℕ → CType → List Token → Type 0 where

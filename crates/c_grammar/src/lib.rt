@@ -1,5 +1,2 @@
 //! Which tokens spell which tree: the grammar of the C profile (ISO C11 6.5 to 6.9, in part).
 #![tactic(auto)]
-
-/// The greatest depth of a program.
-pub const DEPTH: u32 = 200;

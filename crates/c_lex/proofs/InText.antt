@@ -1,5 +1,6 @@
 -- Each token of a text is a slice of it, and its numbers are in range.
-use Rattle.std.proofs.Common.{◌≡◌, ℕ, ◌≤◌, List, [], ◌∷◌, length, take, drop, Bool, true, false, cond, leb, Some, refl, ap, subst, sym, arith, length-take-le, length-drop}
+use Rattle.std.proofs.Common.{◌≡◌, ℕ, ◌≤◌, List, [], ◌∷◌, length, take, drop, Bool, true, false, cond, leb, Some, refl, ap, subst, sym}
+use Rattle.std.proofs.Common.{arith, length-take-le, length-drop}
 use Rattle.std.specs.Prelude.{All}
 use Rattle.std.proofs.lemmas.Bool.{leb-true, and_parts}
 use Rattle.std.specs.List.{list_all}
@@ -12,15 +13,18 @@ use Rattle.c_lex.specs.Numeral.{greatest, first_type, listed_types, is_constant_
 use Rattle.c_lex.specs.Spelling.{Spells}
 use Rattle.c_lex.specs.Tokens.{TokenAt, Reaches, start, gap, token, Tokens, IsTyped, IsInText}
 
-chosen : (value : ℕ) (ty found : IntType) (types : List IntType) (holds : Bool) → leb value (greatest ty) ≡ holds → cond holds (Some ty) (first_type value types) ≡ Some found → is_constant_type ty ≡ true →
-    (first_type value types ≡ Some found → (is_constant_type found ≡ true) × (value ≤ greatest found)) → (is_constant_type found ≡ true) × (value ≤ greatest found)
+chosen : (value : ℕ) (ty found : IntType) (types : List IntType) (holds : Bool) → leb value (greatest ty) ≡ holds
+    → cond holds (Some ty) (first_type value types) ≡ Some found → is_constant_type ty ≡ true →
+    (first_type value types ≡ Some found → (is_constant_type found ≡ true) × (value ≤ greatest found))
+    → (is_constant_type found ≡ true) × (value ≤ greatest found)
 chosen value ty found types true is h listed later =
     let same : ty ≡ found = cc in
     subst (λ t. (is_constant_type t ≡ true) × (value ≤ greatest t)) same (listed, leb-true value (greatest ty) is)
 chosen value ty found types false is h listed later = later h
 
 -- the first type of a list that holds a value is of the list and holds it
-first_type-some : (value : ℕ) (found : IntType) (types : List IntType) → first_type value types ≡ Some found → list_all is_constant_type types ≡ true → (is_constant_type found ≡ true) × (value ≤ greatest found)
+first_type-some : (value : ℕ) (found : IntType) (types : List IntType) → first_type value types ≡ Some found
+    → list_all is_constant_type types ≡ true → (is_constant_type found ≡ true) × (value ≤ greatest found)
 first_type-some value found [] h listed = cc
 first_type-some value found (ty ∷ types) h listed =
     let parts = and_parts (is_constant_type ty) (list_all is_constant_type types) listed in
@@ -40,13 +44,15 @@ spelled-typed : (kind : Lexeme) (bytes : List ℕ) → Spells kind bytes → IsT
 unfolding Spells
 spelled-typed lexeme.Include bytes spells = tt
 spelled-typed (lexeme.Name name) bytes spells = tt
-spelled-typed (lexeme.Number value ty) bytes spells = rw spells.2 (first_type-some (numeral_value bytes) ty _ spells.3 (listed-constant _ _ _))
+spelled-typed (lexeme.Number value ty) bytes spells = rw spells.2
+    (first_type-some (numeral_value bytes) ty _ spells.3 (listed-constant _ _ _))
 spelled-typed (lexeme.Character value) bytes spells = tt
 spelled-typed (lexeme.Text values) bytes spells = tt
 spelled-typed (lexeme.Keyword number) bytes spells = tt
 spelled-typed (lexeme.Punct number) bytes spells = tt
 
-one-in_text : (text : List ℕ) (place : ℕ) (kind : Lexeme) (bytes : ℕ) → TokenAt (drop place text) kind bytes → IsInText text (record { kind = kind; bytes = take bytes (drop place text); start = place })
+one-in_text : (text : List ℕ) (place : ℕ) (kind : Lexeme) (bytes : ℕ) → TokenAt (drop place text) kind bytes
+    → IsInText text (record { kind = kind; bytes = take bytes (drop place text); start = place })
 one-in_text text place kind bytes here =
     let count : length (take bytes (drop place text)) ≡ bytes = length-take-le bytes (drop place text) here.within in
     record {
@@ -59,7 +65,8 @@ reached-in_text : (text : List ℕ) (place : ℕ) (tokens : List Seen) → Reach
 reached-in_text text _ _ start = λ k d below. absurd (omega arith)
 reached-in_text text _ tokens (gap bytes reached is) = reached-in_text text _ tokens reached
 reached-in_text text _ _ (token {place = place} {tokens = tokens} kind bytes reached here sound) =
-    All-push (IsInText text) tokens (record { kind = kind; bytes = take bytes (drop place text); start = place }) (reached-in_text text _ tokens reached) (one-in_text text place kind bytes here)
+    All-push (IsInText text) tokens (record { kind = kind; bytes = take bytes (drop place text); start = place })
+    (reached-in_text text _ tokens reached) (one-in_text text place kind bytes here)
 
 pub tokens-in_text : (text : List ℕ) (tokens : List Seen) → Tokens text tokens → All (IsInText text) tokens
 tokens-in_text text tokens whole = reached-in_text text (length text) tokens whole

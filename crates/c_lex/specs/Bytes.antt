@@ -1,5 +1,5 @@
 -- The kinds of bytes that the rules on tokens speak of.
-use Rattle.std.specs.Prelude.{ℕ, Bool, ◌||◌, ◌&&◌, not, ◌==◌, nat_le}
+use Rattle.std.specs.Prelude.{ℕ, Bool, true, ◌||◌, ◌&&◌, not, ◌==◌, nat_le, List, [], ◌∷◌}
 use Rattle.std.specs.Char.{is_ascii_alphabetic, is_ascii_digit}
 
 -- a letter or `_`: what a name begins with (C11 6.4.2.1, nondigit)
@@ -25,3 +25,8 @@ is_blank b = b == 32 || b == 9
 -- any byte but the newline
 abbrev pub is_in_line : ℕ → Bool
 is_in_line b = not (b == 10)
+
+-- a newline or the end stands at the front
+abbrev pub is_cut_off : List ℕ → Bool
+is_cut_off [] = true
+is_cut_off (b ∷ rest) = b == 10

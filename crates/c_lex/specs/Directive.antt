@@ -1,5 +1,6 @@
 -- The one directive line, `#include <stdio.h>` (C11 6.10.2, where a directive is a line of its own: 6.10 paragraph 2).
-use Rattle.std.specs.Prelude.{ℕ, ◌-◌, Bool, ◌&&◌, ◌||◌, if◌then◌else◌, ◌==◌, List, length, drop, slice_index, codes, nat_eq, Option, Some, None}
+use Rattle.std.specs.Prelude.{ℕ, ◌-◌, Bool, ◌&&◌, ◌||◌, if◌then◌else◌, ◌==◌, List, length, drop, slice_index, codes, nat_eq, Option, Some}
+use Rattle.std.specs.Prelude.{None}
 use Rattle.std.specs.List.{prefix_len, starts_with}
 use Rattle.std.specs.Str.{bytes_eq}
 use Rattle.c_lex.specs.Bytes.{is_blank}
@@ -33,7 +34,8 @@ ends_line rest =
 
 -- the rest of the line from the `#` on is the directive
 abbrev pub is_include_line : List ℕ → Bool
-is_include_line rest = begins_include rest && starts_with nat_eq (from_header rest) (codes "<stdio.h>") && ends_line (drop 9 (from_header rest))
+is_include_line rest = begins_include rest && starts_with nat_eq (from_header rest) (codes "<stdio.h>")
+    && ends_line (drop 9 (from_header rest))
 
 -- the bytes from the `#` to the `>`, where the rest of the line from the `#` on is the directive
 abbrev pub include_line : List ℕ → Option ℕ

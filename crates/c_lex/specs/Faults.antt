@@ -1,43 +1,38 @@
 -- The faults of a text, one rule for each: what stands where neither a gap nor a token begins, and at which byte.
-use Rattle.std.specs.Prelude.{◌≡◌, ◌≢◌, ℕ, IsTrue, ◌+◌, ◌<◌, ◌≤◌, Bool, true, false, ◌||◌, ◌&&◌, ◌==◌, nat_lt, List, [], ◌∷◌, length, take, drop, slice_index, None}
+use Rattle.std.specs.Prelude.{◌≡◌, ◌≢◌, ℕ, IsTrue, ◌+◌, ◌<◌, ◌≤◌, Bool, true, false, ◌||◌, ◌&&◌, ◌==◌, List, length, take, drop}
+use Rattle.std.specs.Prelude.{slice_index, None}
 use Rattle.std.specs.Char.{is_ascii_digit}
 use Rattle.c_ast.specs.Seen.{Seen}
 use Rattle.c_ast.specs.Words.{punctuator_of}
 use Rattle.c_lex.specs.declared.fault.Fault.{Fault}
 use Rattle.c_lex.specs.declared.fault.Fault.TheVariants.{BadByte, UnclosedText, UnclosedComment, NumberTooLarge, BadDirective}
-use Rattle.c_lex.specs.declared.escape.Item.TheVariants.{Byte}
-use Rattle.c_lex.specs.Bytes.{is_white, is_letter}
-use Rattle.c_lex.specs.Digits.{value_of}
+use Rattle.c_lex.specs.Bytes.{is_white, is_letter, is_cut_off}
 use Rattle.c_lex.specs.Numeral.{numeral_at, is_numeral, fitting_bytes, numeral_type}
-use Rattle.c_lex.specs.Escape.{simple_escape, octal_count, hex_count, is_plain, item_at}
+use Rattle.c_lex.specs.Written.{WrittenAt, IsUnwritten}
 use Rattle.c_lex.specs.Directive.{is_include_line}
 use Rattle.c_lex.specs.Gap.{begins_line_comment, begins_block_comment, block_comment}
 use Rattle.c_lex.specs.Lines.{IsFirstOnLine, IsBehindBlanks}
 
--- a newline, or the end
-abbrev pub is_cut_off : List ℕ → Bool
-is_cut_off [] = true
-is_cut_off (b ∷ rest) = b == 10
+-- A newline or the end stands behind a backslash, in the place of the byte that makes the escape, or behind its `x`.
+abbrev pub cuts_escape : List ℕ → Bool
+cuts_escape rest = is_cut_off rest || (slice_index rest 0 == 120 && is_cut_off (drop 1 rest))
 
--- `x` and a hexadecimal digit, which follow the backslash of a hexadecimal escape
-abbrev pub begins_hexadecimal : List ℕ → Bool
-begins_hexadecimal rest = slice_index rest 0 == 120 && nat_lt 0 (hex_count (drop 1 rest))
+-- a newline or the end stands here, or within the escape that begins here
+abbrev pub is_cut : List ℕ → Bool
+is_cut rest = is_cut_off rest || (slice_index rest 0 == 92 && cuts_escape (drop 1 rest))
 
--- What may not stand at the front between quotes of this kind: a byte that does not stand for itself, a backslash
--- that begins no escape of C11 6.4.4.4, or an octal or hexadecimal escape over 255.
+-- What may not stand at the front between quotes of this kind.
 pub data IsWrong (quote : ℕ) (rest : List ℕ) : Fault → Type 0 where
-  byte : is_cut_off rest ≡ false → slice_index rest 0 ≢ quote → slice_index rest 0 ≢ 92 → is_plain quote (slice_index rest 0) ≡ false → IsWrong quote rest BadByte
-  escape : slice_index rest 0 ≡ 92 → simple_escape (slice_index rest 1) ≡ None → octal_count (drop 1 rest) ≡ 0 → begins_hexadecimal (drop 1 rest) ≡ false →
-      IsWrong quote rest BadByte
-  octal : slice_index rest 0 ≡ 92 → 0 < octal_count (drop 1 rest) → 255 < value_of 8 (take (octal_count (drop 1 rest)) (drop 1 rest)) →
-      IsWrong quote rest NumberTooLarge
-  hexadecimal : slice_index rest 0 ≡ 92 → begins_hexadecimal (drop 1 rest) ≡ true → 255 < value_of 16 (take (hex_count (drop 2 rest)) (drop 2 rest)) →
-      IsWrong quote rest NumberTooLarge
+  -- no byte is written there, and neither the closing quote nor a newline or the end stands there
+  unwritten : IsUnwritten quote rest → slice_index rest 0 ≢ quote → is_cut rest ≡ false → IsWrong quote rest BadByte
+  -- an escape over 255, which is in no character type (C11 6.4.4.4 paragraph 9)
+  large : {value bytes : ℕ} → WrittenAt quote rest value bytes → 255 < value → IsWrong quote rest NumberTooLarge
 
--- the first bytes are items in turn, each a byte as it is written between quotes of this kind
+-- the first bytes are bytes as they are written between quotes of this kind, in turn
 pub data AreItems (quote : ℕ) (rest : List ℕ) : ℕ → Type 0 where
   none : AreItems quote rest 0
-  more : {place : ℕ} (value bytes : ℕ) → AreItems quote rest place → item_at quote (drop place rest) ≡ Byte value bytes → AreItems quote rest (place + bytes)
+  more : {place : ℕ} (value bytes : ℕ) → AreItems quote rest place → WrittenAt quote (drop place rest) value bytes → value ≤ 255 →
+      AreItems quote rest (place + bytes)
 
 -- a byte that white space, a name, a number, a character, a string or a `#` begins with
 abbrev pub begins_other : ℕ → Bool
@@ -51,26 +46,30 @@ pub data FaultAt (rest : List ℕ) : Fault → ℕ → Type 0 where
   -- `/*` and no `*/` behind it
   unclosed_comment : begins_block_comment rest ≡ true → block_comment rest ≡ None → FaultAt rest UnclosedComment 0
   -- a number, at its first byte that does not fit, which is the place behind `0x` where no digit follows
-  unfit_number : is_ascii_digit (slice_index rest 0) ≡ true → is_numeral (numeral_at rest) ≡ false → FaultAt rest BadByte (fitting_bytes (numeral_at rest))
+  unfit_number : is_ascii_digit (slice_index rest 0) ≡ true → is_numeral (numeral_at rest) ≡ false
+      → FaultAt rest BadByte (fitting_bytes (numeral_at rest))
   -- a number that no type of its list holds
   large_number : is_ascii_digit (slice_index rest 0) ≡ true → is_numeral (numeral_at rest) ≡ true → numeral_type (numeral_at rest) ≡ None →
       FaultAt rest NumberTooLarge 0
   -- a string, at the first place behind its items that holds what may not stand there
-  wrong_in_text : {what : Fault} {place : ℕ} → slice_index rest 0 ≡ 34 → AreItems 34 (drop 1 rest) place → IsWrong 34 (drop (1 + place) rest) what →
+  wrong_in_text : {what : Fault} {place : ℕ} → slice_index rest 0 ≡ 34 → AreItems 34 (drop 1 rest) place
+      → IsWrong 34 (drop (1 + place) rest) what →
       FaultAt rest what (1 + place)
   -- a string that a newline or the end cuts off behind its items
-  unclosed_text : {place : ℕ} → slice_index rest 0 ≡ 34 → AreItems 34 (drop 1 rest) place → is_cut_off (drop (1 + place) rest) ≡ true →
+  unclosed_text : {place : ℕ} → slice_index rest 0 ≡ 34 → AreItems 34 (drop 1 rest) place → is_cut (drop (1 + place) rest) ≡ true →
       FaultAt rest UnclosedText 0
   -- a character with no item
   empty_character : slice_index rest 0 ≡ 39 → slice_index rest 1 ≡ 39 → FaultAt rest BadByte 1
   -- a character whose item may not stand there
   wrong_in_character : {what : Fault} → slice_index rest 0 ≡ 39 → IsWrong 39 (drop 1 rest) what → FaultAt rest what 1
   -- a character of more than one item, at the second
-  long_character : {value bytes : ℕ} → slice_index rest 0 ≡ 39 → item_at 39 (drop 1 rest) ≡ Byte value bytes → slice_index rest (1 + bytes) ≢ 39 →
+  long_character : {value bytes : ℕ} → slice_index rest 0 ≡ 39 → WrittenAt 39 (drop 1 rest) value bytes → value ≤ 255
+      → slice_index rest (1 + bytes) ≢ 39 →
       is_cut_off (drop (1 + bytes) rest) ≡ false → FaultAt rest BadByte (1 + bytes)
   -- a character that a newline or the end cuts off before its item, or behind it
-  unclosed_quote : slice_index rest 0 ≡ 39 → is_cut_off (drop 1 rest) ≡ true → FaultAt rest UnclosedText 0
-  unclosed_character : {value bytes : ℕ} → slice_index rest 0 ≡ 39 → item_at 39 (drop 1 rest) ≡ Byte value bytes → is_cut_off (drop (1 + bytes) rest) ≡ true →
+  unclosed_quote : slice_index rest 0 ≡ 39 → is_cut (drop 1 rest) ≡ true → FaultAt rest UnclosedText 0
+  unclosed_character : {value bytes : ℕ} → slice_index rest 0 ≡ 39 → WrittenAt 39 (drop 1 rest) value bytes → value ≤ 255
+      → is_cut_off (drop (1 + bytes) rest) ≡ true →
       FaultAt rest UnclosedText 0
 
 -- the line with a `#` at this place, behind these tokens, is the directive
@@ -82,6 +81,7 @@ pub data Faulty (text : List ℕ) (tokens : List Seen) (place : ℕ) : Fault →
   -- what the bytes from the place on say
   by_bytes : {what : Fault} {offset : ℕ} → FaultAt (drop place text) what offset → Faulty text tokens place what offset
   -- a `#` that is the first token of its line, where the line is not the directive
-  not_directive : slice_index (drop place text) 0 ≡ 35 → IsFirstOnLine text tokens place → ¬ IsDirective text tokens place → Faulty text tokens place BadDirective 0
+  not_directive : slice_index (drop place text) 0 ≡ 35 → IsFirstOnLine text tokens place → ¬ IsDirective text tokens place
+      → Faulty text tokens place BadDirective 0
   -- a `#` behind a token of its line
   late_hash : slice_index (drop place text) 0 ≡ 35 → ¬ IsFirstOnLine text tokens place → Faulty text tokens place BadByte 0

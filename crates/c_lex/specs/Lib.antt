@@ -2,14 +2,13 @@ pub mod Bytes
 pub mod Digits
 pub mod Numeral
 pub mod Escape
-pub mod Quoted
+pub mod Written
 pub mod Directive
 pub mod Gap
 pub mod Lines
 pub mod Spelling
 pub mod Faults
-pub mod Scanner
-pub mod Reading
 pub mod Tokens
 pub mod Refusal
-pub mod Starts
+pub mod Scan
+pub mod Laws

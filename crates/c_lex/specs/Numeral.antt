@@ -1,10 +1,11 @@
 -- Integer constants: digits and a suffix (C11 6.4.4.1, without the suffix `ll`, and without floating constants).
-use Rattle.std.specs.Prelude.{ℕ, ◌+◌, Bool, true, false, ◌||◌, ◌&&◌, if◌then◌else◌, ◌==◌, nat_le, nat_lt, List, [], ◌∷◌, length, take, drop, slice_index, Option, find}
+use Rattle.std.specs.Prelude.{ℕ, ◌+◌, Bool, true, false, ◌||◌, ◌&&◌, if◌then◌else◌, ◌==◌, nat_le, nat_lt, List, [], ◌∷◌, length, take}
+use Rattle.std.specs.Prelude.{drop, slice_index, Option, find}
 use Rattle.std.specs.List.{prefix_len, list_any}
 use Rattle.c_ast.specs.declared.int_type.IntType.{IntType}
 use Rattle.c_ast.specs.declared.int_type.IntType.TheVariants.{Char, SignedChar, UnsignedChar, Short, UShort, Int, UInt, Long, ULong}
 use Rattle.c_lex.specs.Bytes.{is_numeral_byte}
-use Rattle.c_lex.specs.Digits.{is_digit_of, value_of}
+use Rattle.c_lex.specs.Digits.{is_digit_of, number_of}
 
 -- the letters, digits, `_` and `.` over which the number at the front goes on
 abbrev pub numeral_at : List ℕ → List ℕ
@@ -50,7 +51,7 @@ is_numeral bytes = nat_lt 0 (digit_count bytes) && (fitting_bytes bytes == lengt
 
 -- the number that the digits write
 abbrev pub numeral_value : List ℕ → ℕ
-numeral_value bytes = value_of (radix_of bytes) (take (digit_count bytes) (drop (prefix_bytes (radix_of bytes)) bytes))
+numeral_value bytes = number_of (radix_of bytes) (take (digit_count bytes) (drop (prefix_bytes (radix_of bytes)) bytes))
 
 -- the list of C11 6.4.4.1 paragraph 5 for a decimal or another constant, with `u`, with `l`
 abbrev pub listed_types : Bool → Bool → Bool → List IntType
@@ -81,7 +82,8 @@ first_type value types = find (λ ty. nat_le value (greatest ty)) types
 abbrev pub numeral_type : List ℕ → Option IntType
 numeral_type bytes =
     let suffix = drop (digits_end bytes) bytes in
-    first_type (numeral_value bytes) (listed_types (radix_of bytes == 10) (list_any is_unsigned_mark suffix) (list_any is_long_mark suffix))
+    first_type (numeral_value bytes) (listed_types (radix_of bytes == 10) (list_any is_unsigned_mark suffix)
+    (list_any is_long_mark suffix))
 
 -- the types that the lists name
 abbrev pub is_constant_type : IntType → Bool

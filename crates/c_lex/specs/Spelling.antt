@@ -7,7 +7,7 @@ use Rattle.c_ast.specs.declared.token.Lexeme.TheVariants.{Include, Name, Number,
 use Rattle.c_ast.specs.Words.{keyword_of, punctuator_of}
 use Rattle.c_lex.specs.Bytes.{is_letter, is_word, is_numeral_byte}
 use Rattle.c_lex.specs.Numeral.{is_numeral, numeral_value, numeral_type}
-use Rattle.c_lex.specs.Quoted.{character_of, text_of}
+use Rattle.c_lex.specs.Written.{IsCharacter, IsText}
 use Rattle.c_lex.specs.Directive.{is_include}
 
 -- a letter or `_`, then letters, digits and `_` (C11 6.4.2.1)
@@ -21,12 +21,14 @@ is_preprocessing_number [] = false
 is_preprocessing_number (b ∷ rest) = is_ascii_digit b && list_all is_numeral_byte rest
 
 -- These bytes alone are this token. A name is its own spelling and no keyword; keywords and punctuators are spelled
--- by their lists; a number has the value of its digits and the first type of its list that holds the value.
+-- by their lists; a number has the value of its digits and the first type of its list that holds the value; a character
+-- and a string have the values of their bytes as they are written.
 unfoldable pub Spells : Lexeme → List ℕ → Type 0
 Spells Include bytes = IsTrue (is_include bytes)
 Spells (Name name) bytes = IsTrue (is_identifier bytes) × (keyword_of bytes ≡ None) × (name ≡ bytes)
-Spells (Number value ty) bytes = IsTrue (is_preprocessing_number bytes) × IsTrue (is_numeral bytes) × (value ≡ numeral_value bytes) × (numeral_type bytes ≡ Some ty)
-Spells (Character value) bytes = character_of bytes ≡ Some value
-Spells (Text values) bytes = text_of bytes ≡ Some values
+Spells (Number value ty) bytes = IsTrue (is_preprocessing_number bytes) × IsTrue (is_numeral bytes) × (value ≡ numeral_value bytes)
+    × (numeral_type bytes ≡ Some ty)
+Spells (Character value) bytes = IsCharacter value bytes
+Spells (Text values) bytes = IsText values bytes
 Spells (Keyword number) bytes = keyword_of bytes ≡ Some number
 Spells (Punct number) bytes = punctuator_of bytes ≡ Some number

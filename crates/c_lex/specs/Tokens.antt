@@ -25,7 +25,8 @@ IsSound text tokens place = (what : Fault) (offset : ℕ) → ¬ Faulty text tok
 -- the text before a place is gaps and these tokens in turn, and no fault stands where a token starts
 pub data Reaches (text : List ℕ) : ℕ → List Seen → Type 0 where
   start : Reaches text 0 []
-  gap : {place : ℕ} {tokens : List Seen} (bytes : ℕ) → Reaches text place tokens → gap_bytes (drop place text) ≡ Some bytes → Reaches text (place + bytes) tokens
+  gap : {place : ℕ} {tokens : List Seen} (bytes : ℕ) → Reaches text place tokens → gap_bytes (drop place text) ≡ Some bytes
+      → Reaches text (place + bytes) tokens
   token : {place : ℕ} {tokens : List Seen} (kind : Lexeme) (bytes : ℕ) →
       Reaches text place tokens → TokenAt (drop place text) kind bytes → IsSound text tokens place →
       Reaches text (place + bytes) (tokens ++ record { kind = kind; bytes = take bytes (drop place text); start = place } ∷ [])
@@ -48,7 +49,8 @@ pub record IsReadOneWay (text : List ℕ) : Type 0 where
   pub some : ((tokens : List Seen) × Tokens text tokens) ⊎ ((what : Fault) × (at : ℕ) × FirstFault text what at)
   pub never_both : (tokens : List Seen) (what : Fault) (at : ℕ) → Tokens text tokens → ¬ FirstFault text what at
   pub one_list : (tokens others : List Seen) → Tokens text tokens → Tokens text others → tokens ≡ others
-  pub one_fault : (what other : Fault) (at place : ℕ) → FirstFault text what at → FirstFault text other place → (what ≡ other) × (at ≡ place)
+  pub one_fault : (what other : Fault) (at place : ℕ) → FirstFault text what at → FirstFault text other place
+      → (what ≡ other) × (at ≡ place)
 
 -- a number has the type int, unsigned int, long or unsigned long, and a value in its range
 abbrev pub IsTyped : Lexeme → Type 0

@@ -3,7 +3,7 @@
 ghost use Rattle.std.specs.Prelude.{◌≡◌, ◌≢◌, ◌<◌, ◌≤◌, ◌||◌, ◌==◌, length, slice_index, not};
 ghost use Rattle.std.specs.List.{prefix_len};
 ghost use Rattle.c_lex.specs.Bytes as spec;
-ghost use Rattle.c_lex.specs.Scanner.{is_of};
+ghost use Rattle.c_lex.specs.Scan.Words.{is_of};
 
 /// A kind of bytes.
 #[derive(Clone, Copy)]

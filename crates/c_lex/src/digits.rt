@@ -5,6 +5,7 @@ ghost use Rattle.std.specs.Option.{SomeIff};
 ghost use Rattle.std.specs.List.{prefix_len};
 ghost use Rattle.std.specs.Char.{digit_value};
 ghost use Rattle.c_lex.specs.Digits as spec;
+ghost use Rattle.c_lex.specs.Scan.Digits as scan;
 
 /// The value of a digit or a letter in the radix 36, and 36 for another byte.
 fn digit_value(b: u8) -> u8
@@ -49,7 +50,7 @@ fn with_digit(radix: u8, value: u64, b: u8) -> Option<u64>
 /// The number that the digits write, if it is below 2^64.
 pub fn value_of(radix: u8, digits: &[u8]) -> Option<u64>
     requires { 0 < radix }
-    ensures { SomeIff result (spec.value_of radix digits.now < 2 ^ 64) (spec.value_of radix digits.now) }
+    ensures { SomeIff result (scan.value_of radix digits.now < 2 ^ 64) (scan.value_of radix digits.now) }
 {
     let mut value = 0;
     for b in digits {

@@ -2,7 +2,7 @@
 
 ghost use Rattle.std.specs.Prelude.{◌≡◌, ◌<◌, ◌≤◌, length, slice_index};
 ghost use Rattle.c_lex.specs.Directive as spec;
-ghost use Rattle.c_lex.specs.Reading as spec_reading;
+ghost use Rattle.c_lex.specs.Scan.Reading as spec_reading;
 
 use crate::bytes::{Kind, byte, run};
 use crate::fault::Fault;
@@ -49,7 +49,7 @@ fn include_bytes(text: &[u8]) -> Option<usize>
     }
 }
 
-#[tactic(auto, unfolding(crate::specs::Reading::read_directive))]
+#[tactic(auto, unfolding(crate::specs::Scan::Reading::read_directive))]
 /// The directive whose `#` stands at the front of a text.
 pub fn read_directive(line: Line, text: &[u8]) -> Reading
     requires some { 0 < length text.now }

@@ -10,8 +10,6 @@ mod gap;
 mod numeral;
 mod quoted;
 mod reading;
-#[cfg(test)]
-mod tests;
 mod tokens;
 mod word;
 

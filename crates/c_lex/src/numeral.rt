@@ -4,7 +4,7 @@ ghost use Rattle.std.specs.Prelude.{◌≡◌, ℕ, ◌<◌, ◌≤◌, ◌^◌,
 ghost use Rattle.std.specs.List.{list_any};
 ghost use Rattle.std.specs.Option.{SomeIff};
 ghost use Rattle.c_lex.specs.Numeral as spec;
-ghost use Rattle.c_lex.specs.Reading as spec_reading;
+ghost use Rattle.c_lex.specs.Scan.Reading as spec_reading;
 
 use crate::bytes::{Kind, byte, run};
 use crate::digits::{digit_count, value_of};
@@ -124,7 +124,7 @@ fn typed_number(value: Option<u64>, types: &[IntType], bytes: usize) -> Reading
     }
 }
 
-#[tactic(auto, unfolding(crate::specs::Reading::read_number))]
+#[tactic(auto, unfolding(crate::specs::Scan::Reading::read_number))]
 /// The number at the front of a text.
 pub fn read_number(text: &[u8]) -> Reading
     ensures { result ≡ spec_reading.read_number text.now }

@@ -1,8 +1,8 @@
 //! What stands at a place of a text.
 
 ghost use Rattle.std.specs.Prelude.{◌≡◌, ◌<◌, length, slice_index, IfOk};
-ghost use Rattle.c_lex.specs.Reading as spec;
-ghost use Rattle.c_lex.specs.Scanner.{line_behind};
+ghost use Rattle.c_lex.specs.Scan.Reading as spec;
+ghost use Rattle.c_lex.specs.Scan.Words.{line_behind};
 
 use crate::bytes::{Kind, is_blank, is_letter, is_white, run};
 use crate::directive::read_directive;
@@ -54,7 +54,7 @@ impl Line {
     }
 }
 
-#[tactic(auto, unfolding(crate::specs::Reading::read_token))]
+#[tactic(auto, unfolding(crate::specs::Scan::Reading::read_token))]
 /// The token at the front of a text where no gap begins.
 fn read_token(alloc: Global, line: Line, text: &[u8]) -> Result<Reading, AllocError>
     requires { 0 < length text.now }
@@ -70,7 +70,7 @@ fn read_token(alloc: Global, line: Line, text: &[u8]) -> Result<Reading, AllocEr
     }
 }
 
-#[tactic(auto, unfolding(crate::specs::Reading::read))]
+#[tactic(auto, unfolding(crate::specs::Scan::Reading::read))]
 /// What stands at the front of a text, on a line where this stands before it.
 pub fn read(alloc: Global, line: Line, text: &[u8]) -> Result<Reading, AllocError>
     requires { 0 < length text.now }

@@ -1,8 +1,8 @@
 //! Names, keywords and punctuators.
 
 ghost use Rattle.std.specs.Prelude.{◌≡◌, ◌≤◌, length, IfOk};
-ghost use Rattle.c_lex.specs.Reading as spec;
-ghost use Rattle.c_lex.specs.Scanner.{is_second_of_punctuator};
+ghost use Rattle.c_lex.specs.Scan.Reading as spec;
+ghost use Rattle.c_lex.specs.Scan.Words.{is_second_of_punctuator};
 
 use crate::bytes::{Kind, byte, run};
 use crate::fault::Fault;
@@ -10,7 +10,7 @@ use crate::reading::Reading;
 use c_ast::{Lexeme, Name, keyword_of, punctuator_of};
 use std::alloc::{AllocError, Global};
 
-#[tactic(auto, unfolding(crate::specs::Reading::read_word))]
+#[tactic(auto, unfolding(crate::specs::Scan::Reading::read_word))]
 /// The name or keyword at the front of a text.
 pub fn read_word(alloc: Global, text: &[u8]) -> Result<Reading, AllocError>
     ensures { IfOk result (λ reading. reading ≡ spec.read_word text.now) }
@@ -52,7 +52,7 @@ fn read_single(text: &[u8]) -> Reading
     }
 }
 
-#[tactic(auto, unfolding(crate::specs::Reading::read_punctuator))]
+#[tactic(auto, unfolding(crate::specs::Scan::Reading::read_punctuator))]
 fn read_longest(text: &[u8]) -> Reading
     ensures { result ≡ spec.read_punctuator text.now }
 {

@@ -1,15 +1,3 @@
-pub mod Values
-pub mod Externals
-pub mod WordTests
-pub mod HeadLaws
-pub mod TailLaws
-pub mod HeadBridge
-pub mod ExternalBridge
-pub mod ExternalSeen
-pub mod UnitLaws
-pub mod Growth
-pub mod SpellsLaws
-pub mod Code
 pub mod Parsed
-pub mod ParsedLaws
-pub mod WholeCode
+pub mod Reading
+pub mod Laws

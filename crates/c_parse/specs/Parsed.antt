@@ -32,7 +32,8 @@ pub record FirstUnexpected (levels : ℕ) (tokens : List Token) (place : ℕ) : 
   pub begins : BeginsWithin levels taken
   pub breaks : NoneGoesOn taken rest
 
--- the tokens before the place begin a program within the limit, and with the next one some program begins, and each that does has more levels
+-- the tokens before the place begin a program within the limit, and with the next one some program begins, and each that does has more
+-- levels
 pub record FirstTooDeep (levels : ℕ) (tokens : List Token) (place : ℕ) : Type 0 where
   pub taken : List Token
   pub next : Token

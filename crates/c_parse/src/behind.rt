@@ -1,13 +1,11 @@
 //! What stands behind a type at file scope.
 
 ghost use Rattle.std.specs.Prelude.{◌≡◌};
-ghost use Rattle.c_parse.specs.Values as spec;
+ghost use Rattle.c_parse.specs.Reading.Values as spec;
 
 use c_ast::{CType, Decl, Name, Stmt};
-use c_declarators::Declared;
-use c_objects::ObjectsRead;
-use c_parameters::ParametersRead;
-use c_statements::BlockRead;
+use c_parse_decl::{Declared, ObjectsRead, ParametersRead};
+use c_parse_stmt::BlockRead;
 use sqlite_items::Items;
 
 /// What ends a function's declaration: a block, or a semicolon alone (C11 6.9.1).

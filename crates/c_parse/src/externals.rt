@@ -1,12 +1,12 @@
 //! External declarations made of their parts.
 
 ghost use Rattle.std.specs.Prelude.{◌≡◌, ◌<◌, ◌+◌, ◌^◌, max, IfOk};
-ghost use Rattle.c_parse.specs.Values as spec;
+ghost use Rattle.c_parse.specs.Reading.Values as spec;
 
 use crate::behind::{Behind, FunctionRead};
 use crate::head::{Head, Specifiers};
 use c_ast::{Decl, External, Function, Name, Program, Span, StructDecl};
-use c_objects::ObjectsRead;
+use c_parse_decl::ObjectsRead;
 use sqlite_items::Items;
 use std::alloc::{AllocError, Global};
 

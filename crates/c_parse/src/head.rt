@@ -1,11 +1,11 @@
 //! What stands before a name at file scope.
 
 ghost use Rattle.std.specs.Prelude.{◌≡◌, ◌<◌, ◌+◌, ◌^◌, IfOk};
-ghost use Rattle.c_parse.specs.Values as spec;
+ghost use Rattle.c_parse.specs.Reading.Values as spec;
 
 use c_ast::{CType, Decl, Name, Span, Storage};
-use c_members::BodyRead;
-use c_type_names::TypeRead;
+use c_parse_base::TypeRead;
+use c_parse_decl::BodyRead;
 use sqlite_items::Items;
 use std::alloc::{AllocError, Global};
 

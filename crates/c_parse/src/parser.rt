@@ -2,25 +2,21 @@
 
 ghost use Rattle.std.specs.Prelude.{◌≡◌, ◌<◌, ◌≤◌, ◌+◌, ◌^◌, ◌&&◌, suc, IfOk};
 ghost use Rattle.c_grammar.specs.Words.{punctuator};
-ghost use Rattle.c_reader.specs.Answer.{sees, word};
-ghost use Rattle.c_reader.specs.Reading.{Answers};
-ghost use Rattle.c_reader.specs.Words.{is};
-ghost use Rattle.c_parse.specs.Values.{height_behind};
-ghost use Rattle.c_parse.specs.Values as values;
-ghost use Rattle.c_parse.specs.Externals as spec;
+ghost use Rattle.c_parse_base.specs.Reading.Answer.{sees, word};
+ghost use Rattle.c_parse_base.specs.Reading.Answers.{Answers};
+ghost use Rattle.c_parse_base.specs.Reading.Words.{is};
+ghost use Rattle.c_parse.specs.Reading.Values.{height_behind};
+ghost use Rattle.c_parse.specs.Reading.Values as values;
+ghost use Rattle.c_parse.specs.Reading.Externals as spec;
 
 use crate::behind::{Behind, Ending};
 use crate::externals::Externals;
 use crate::head::{Head, Specifiers};
 use crate::words::{begins_declaration, begins_external, next_storage, sees_include};
 use c_ast::{CType, Punctuator, Storage};
-use c_declarators::{Declared, starred};
-use c_members::body;
-use c_objects::rest;
-use c_parameters::{ParametersRead, parameters};
-use c_reader::{Cursor, Fault, Stop};
-use c_statements::block;
-use c_type_names::base;
+use c_parse_base::{Cursor, Fault, Stop, base};
+use c_parse_decl::{Declared, ParametersRead, body, parameters, rest, starred};
+use c_parse_stmt::block;
 use std::alloc::Global;
 
 /// A type without a body.
@@ -78,7 +74,7 @@ fn specifiers(alloc: Global, cursor: &mut Cursor<'_, '_>, depth: u32) -> Result<
 }
 
 /// Whether a block comes next that may stand behind these parameters.
-#[tactic(auto, using(crate::specs::Code::sees_both))]
+#[tactic(auto, using(crate::specs::Laws::Code::sees_both))]
 fn sees_block(cursor: &Cursor<'_, '_>, params: &ParametersRead) -> bool
     ensures { result ≡ sees (λ t. params.now.all_named && is (punctuator Punctuator.LeftBrace) t) cursor.now }
 {
@@ -157,7 +153,7 @@ fn named(
 }
 
 /// Whether a semicolon comes next that may stand alone behind these words.
-#[tactic(auto, using(crate::specs::Code::sees_both))]
+#[tactic(auto, using(crate::specs::Laws::Code::sees_both))]
 fn sees_lone(cursor: &Cursor<'_, '_>, specifiers: &Specifiers) -> bool
     ensures { result ≡ sees (λ t. values.is_lone specifiers.now && is (punctuator Punctuator.Semicolon) t) cursor.now }
 {

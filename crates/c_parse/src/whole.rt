@@ -3,17 +3,17 @@
 ghost use Rattle.std.specs.Prelude.{◌≡◌, ◌<◌, ◌≤◌, ◌^◌, ℕ, length, MatchResult};
 ghost use Rattle.c_ast.specs.declared.program.Program.{Program};
 ghost use Rattle.c_grammar.specs.Spells.{Spells};
-ghost use Rattle.c_reader.specs.Exact.{ended};
-ghost use Rattle.c_reader.specs.Reading.{Answers};
-ghost use Rattle.c_parse.specs.Externals as spec;
+ghost use Rattle.c_parse_base.specs.Reading.Exact.{ended};
+ghost use Rattle.c_parse_base.specs.Reading.Answers.{Answers};
+ghost use Rattle.c_parse.specs.Reading.Externals as spec;
 ghost use Rattle.c_parse.specs.Parsed.{Parsed, IsTooDeep, limit};
-ghost use Rattle.c_parse.specs.WholeCode as whole;
+ghost use Rattle.c_parse.specs.Laws.WholeCode as whole;
 
 use crate::externals::Externals;
 use crate::parser::unit;
 use crate::refusal::ParseRefusal;
 use c_ast::{Program, Token};
-use c_reader::{Cursor, Fault, Stop};
+use c_parse_base::{Cursor, Fault, Stop};
 use sqlite_items::Items;
 use std::alloc::Global;
 

@@ -1,17 +1,16 @@
 //! Which external declaration comes next.
 
 ghost use Rattle.std.specs.Prelude.{◌≡◌};
-ghost use Rattle.c_reader.specs.Answer.{sees};
-ghost use Rattle.c_reader.specs.WordLaws.{next_value};
+ghost use Rattle.c_parse_base.specs.Reading.Answer.{sees};
+ghost use Rattle.c_parse_base.specs.Reading.Answers.{next_value};
 ghost use Rattle.c_grammar.specs.Words.{word_of};
-ghost use Rattle.c_parse.specs.Externals as spec;
+ghost use Rattle.c_parse.specs.Reading.Externals as spec;
 
 use c_ast::{Keyword, Lexeme, Storage};
-use c_reader::Cursor;
-use c_type_names::begins_type;
+use c_parse_base::{Cursor, begins_type};
 
 /// The storage class that comes next, if one does (C11 6.7.1).
-#[tactic(auto, using(crate::specs::Code::storage_static, crate::specs::Code::storage_extern, crate::specs::Code::storage_none))]
+#[tactic(auto, using(crate::specs::Laws::Code::storage_static, crate::specs::Laws::Code::storage_extern, crate::specs::Laws::Code::storage_none))]
 pub fn next_storage(cursor: &Cursor<'_, '_>) -> Option<Storage>
     ensures { result ≡ next_value (λ t. spec.storage_at (word_of t)) cursor.now }
 {

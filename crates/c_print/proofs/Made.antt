@@ -1,9 +1,9 @@
 -- What a tree made of its parts is without spans, and which lexemes it has.
 use Rattle.std.proofs.Common.{◌≡◌, List, sym, ◌∙◌, subst}
-use Rattle.c_ast.specs.Opened.{given_trees}
+use Rattle.c_ast.specs.Laws.Opened.{given_trees}
 use Rattle.c_ast.specs.Tree.{TypeLayer, NodeLayer, expr}
 use Rattle.c_ast.specs.declared.token.Lexeme.{Lexeme}
-use Rattle.c_ast.specs.declared.token.Token.{Token}
+use Rattle.c_ast.specs.Seen.{Seen as Token}
 use Rattle.c_ast.specs.declared.token.Span.{Span}
 use Rattle.c_ast.specs.declared.expr.CType.{CType, roll-CType, map-CType}
 use Rattle.c_ast.specs.declared.expr.Expr.{Expr}
@@ -11,10 +11,10 @@ use Rattle.c_ast.specs.declared.expr.Node.{Node, roll-Node, map-Node}
 use Rattle.c_ast.specs.declared.expr.CType.TheOpen.{CType-F, Node-F}
 use Rattle.c_ast.specs.declared.expr.CType.TheFolds.{fold-roll-CType, fold-roll-Node, fold_out-Expr}
 use Rattle.c_grammar.specs.Words.{span_of}
-use Rattle.c_print.specs.Tokens.{tokens_of}
+use Rattle.c_print.specs.Laws.SeenTokens.{tokens_of}
 use Rattle.c_print.specs.Expressions.{TypeParts, type_step, node_step, expr_step, lexemes_of, lexemes_of_node, parts_of}
 use Rattle.c_print.specs.Spans.{bare, bare_type}
-use Rattle.c_print.specs.BareLaws.{bare_in_type, bare_in_node, type_bare, expr_bare}
+use Rattle.c_print.specs.Laws.BareLaws.{bare_in_type, bare_in_node, type_bare, expr_bare}
 use Rattle.c_print.proofs.Lists.{span_of-tokens}
 
 abbrev pub parts_in : TypeLayer → CType-F TypeParts (List Lexeme) (List Lexeme)
@@ -24,7 +24,8 @@ abbrev pub lexemes_in : NodeLayer → Node-F TypeParts (List Lexeme) (List Lexem
 lexemes_in = map-Node CType Node Expr TypeParts (List Lexeme) (List Lexeme) parts_of lexemes_of_node lexemes_of
 
 -- a fact of a type made of its parts
-pub type_made : (P : CType → TypeParts → Type 0) (d : TypeLayer) → P (roll-CType (bare_in_type d)) (type_step (parts_in d)) → P (bare_type (roll-CType d)) (parts_of (roll-CType d))
+pub type_made : (P : CType → TypeParts → Type 0) (d : TypeLayer) → P (roll-CType (bare_in_type d)) (type_step (parts_in d)) →
+    P (bare_type (roll-CType d)) (parts_of (roll-CType d))
 type_made P d p =
     let tree = type_bare d in
     let parts = fold-roll-CType TypeParts (List Lexeme) (List Lexeme) type_step node_step expr_step d in

@@ -1,10 +1,10 @@
 -- The lexemes of a declaration of objects spell it.
 use Rattle.std.proofs.Common.{◌≡◌, refl, ℕ, suc, max, List, [], ◌∷◌, ◌++◌, map, Some, None, sym, ◌∙◌, subst}
 use Rattle.std.proofs.lemmas.List.{append-nil, map-append}
-use Rattle.c_ast.specs.Opened.{given_trees}
+use Rattle.c_ast.specs.Laws.Opened.{given_trees}
 use Rattle.c_ast.specs.declared.token.Lexeme.{Lexeme}
 use Rattle.c_ast.specs.declared.token.Lexeme.TheVariants as lexeme
-use Rattle.c_ast.specs.declared.token.Token.{Token}
+use Rattle.c_ast.specs.Seen.{Seen as Token}
 use Rattle.c_ast.specs.declared.token.Span.{Span}
 use Rattle.c_ast.specs.declared.expr.CType.{CType}
 use Rattle.c_ast.specs.declared.expr.Expr.{Expr}
@@ -17,18 +17,19 @@ use Rattle.c_ast.specs.declared.punctuator.Punctuator.TheVariants as mark
 use Rattle.c_grammar.specs.Objects.{Initial, Initials, Object, Objects, Local}
 use Rattle.c_grammar.specs.Objects as grammar
 use Rattle.c_print.specs.Words.{punct, with_commas}
-use Rattle.c_print.specs.Tokens.{token_of, tokens_of}
+use Rattle.c_print.specs.Laws.SeenTokens.{token_of, tokens_of}
 use Rattle.c_print.specs.Expressions.{lexemes_of, parts_of}
 use Rattle.c_print.specs.Declarations.{init_step, init_of, among, object_of, base_of, objects_of}
 use Rattle.c_print.specs.Spans.{no_span, bare, bare_type, bare_init, bare_decl}
-use Rattle.c_print.specs.BareLaws.{one_bare, list_bare}
+use Rattle.c_print.specs.Laws.BareLaws.{one_bare, list_bare}
 use Rattle.c_print.proofs.Lists.{tokens-append, tokens-inside, tokens-three, NonEmpty, nonempty-append, with_commas-append, placed}
 use Rattle.c_print.proofs.TypeSpelled.{Plain, base_plain, base_spelled}
 use Rattle.c_print.proofs.ExpressionSpelled.{expression_spelled}
 use Rattle.c_print.proofs.DeclaratorSpelled.{declarator_spelled, declarator_base}
 
 -- a fact of an initialiser made of its parts
-value_made : (P : Init → List Token → Type 0) (e : Expr) → P (init.One (bare e)) (tokens_of (lexemes_of e)) → P (bare_init (init.One e)) (tokens_of (init_of (init.One e)))
+value_made : (P : Init → List Token → Type 0) (e : Expr) → P (init.One (bare e)) (tokens_of (lexemes_of e)) →
+    P (bare_init (init.One e)) (tokens_of (init_of (init.One e)))
 unfolding given_trees
 value_made P e p =
     let tree = one_bare e in
@@ -38,7 +39,8 @@ value_made P e p =
     subst R (sym words) (subst Q (sym tree) p)
 
 list_made : (P : Init → List Token → Type 0) (is : List Init) (s : Span) →
-    P (init.List (map bare_init is) no_span) (tokens_of (init_step (Init-F.List (map init_of is) s))) → P (bare_init (init.List is s)) (tokens_of (init_of (init.List is s)))
+    P (init.List (map bare_init is) no_span) (tokens_of (init_step (Init-F.List (map init_of is) s))) →
+    P (bare_init (init.List is s)) (tokens_of (init_of (init.List is s)))
 unfolding given_trees
 list_made P is s p =
     let tree = list_bare is s in
@@ -64,17 +66,25 @@ mutual
   initial_spelled (grammar.braces {is} l r pl d pr) = braces_spelled is (initials_spelled d) _
   initial_spelled (grammar.braces_comma {is} l c r pl d pc pr) = braces_spelled is (initials_spelled d) _
 
-  pub initials_spelled : {h : ℕ} {is : List Init} {w : List Token} → Initials h is w → Initials h (map bare_init is) (tokens_of (with_commas (map init_of is)))
+  pub initials_spelled : {h : ℕ} {is : List Init} {w : List Token} → Initials h is w →
+      Initials h (map bare_init is) (tokens_of (with_commas (map init_of is)))
   initials_spelled (grammar.initial d) = rw append-nil (grammar.initial (initial_spelled d))
   initials_spelled (grammar.more_initial {is} {i} c d p x) =
-      rw (map-append bare_init is (i ∷ []), with_commas-append init_of is i (some_initial d), tokens-append) (grammar.more_initial _ (initials_spelled d) refl (initial_spelled x))
+      rw (map-append bare_init is (i ∷ []), with_commas-append init_of is i (some_initial d), tokens-append)
+      (grammar.more_initial _ (initials_spelled d) refl (initial_spelled x))
 
-object_spelled : {base : CType} {h : ℕ} {d : Decl} {w : List Token} → Plain base → Object base h d w → Object (bare_type base) h (bare_decl d) (tokens_of (object_of d))
+object_spelled : {base : CType} {h : ℕ} {d : Decl} {w : List Token} → Plain base → Object base h d w →
+    Object (bare_type base) h (bare_decl d) (tokens_of (object_of d))
 object_spelled {base} plain (grammar.plain {h} {name} {ty} d) =
     rw append-nil (placed (λ z w. Object (bare_type base) h (record { name = name; ty = bare_type ty; init = None; span = z }) w)
     (among (parts_of ty) (lexeme.Name name ∷ [])) refl (grammar.plain (declarator_spelled plain d)))
 object_spelled {base} plain (grammar.initialised {h} {k} {name} {ty} {i} t d p x) =
-    placed (λ z w. Object (bare_type base) (max h (suc k)) (record { name = name; ty = bare_type ty; init = Some (bare_init i); span = z }) w)
+    placed (λ z w. Object (bare_type base) (max h (suc k)) (record {
+      name = name;
+      ty = bare_type ty;
+      init = Some (bare_init i);
+      span = z;
+    }) w)
     (among (parts_of ty) (lexeme.Name name ∷ []) ++ punct mark.Equal ∷ init_of i) (tokens-append _ _)
     (grammar.initialised (token_of (punct mark.Equal)) (declarator_spelled plain d) refl (initial_spelled x))
 
@@ -93,11 +103,14 @@ pub objects_base : {base : CType} {h : ℕ} {ds : List Decl} {w : List Token} �
 objects_base (grammar.object o) = object_base o
 objects_base (grammar.more_object {ds} {d} c os p o) = base_append ds d (some_object os) ∙ objects_base os
 
-pub objects_spelled : {base : CType} {h : ℕ} {ds : List Decl} {w : List Token} → Plain base → Objects base h ds w → Objects (bare_type base) h (map bare_decl ds) (tokens_of (with_commas (map object_of ds)))
+pub objects_spelled : {base : CType} {h : ℕ} {ds : List Decl} {w : List Token} → Plain base → Objects base h ds w →
+    Objects (bare_type base) h (map bare_decl ds) (tokens_of (with_commas (map object_of ds)))
 objects_spelled plain (grammar.object o) = rw append-nil (grammar.object (object_spelled plain o))
 objects_spelled plain (grammar.more_object {ds} {d} c os p o) =
-    rw (map-append bare_decl ds (d ∷ []), with_commas-append object_of ds d (some_object os), tokens-append) (grammar.more_object _ (objects_spelled plain os) refl (object_spelled plain o))
+    rw (map-append bare_decl ds (d ∷ []), with_commas-append object_of ds d (some_object os), tokens-append)
+    (grammar.more_object _ (objects_spelled plain os) refl (object_spelled plain o))
 
 pub local_spelled : {h : ℕ} {ds : List Decl} {w : List Token} → Local h ds w → Local h (map bare_decl ds) (tokens_of (objects_of ds))
 local_spelled (grammar.local {ds} s b os p) =
-    rw (objects_base os, tokens-three) (grammar.local (token_of (punct mark.Semicolon)) (base_spelled b) (objects_spelled (base_plain b) os) refl)
+    rw (objects_base os, tokens-three) (grammar.local (token_of (punct mark.Semicolon)) (base_spelled b)
+    (objects_spelled (base_plain b) os) refl)

@@ -1,4 +1,5 @@
--- The lexemes that spell declarations (ISO C11 6.7). No comma stands behind the last initialiser of a list. A function without parameters has the word `void`.
+-- The lexemes that spell declarations (ISO C11 6.7). No comma stands behind the last initialiser of a list. A function without
+-- parameters has the word `void`.
 use Rattle.std.specs.Prelude.{ℕ, List, [], ◌∷◌, ◌++◌, map, flat_map, Option, Some, None}
 use Rattle.c_ast.specs.declared.token.Lexeme.{Lexeme}
 use Rattle.c_ast.specs.declared.token.Lexeme.TheVariants as lexeme

@@ -46,7 +46,10 @@ type_step CType-F.Void = only (word key.Void ∷ [])
 type_step (CType-F.Int ty) = only (int_words ty)
 type_step (CType-F.Struct tag) = only (word key.Struct ∷ lexeme.Name tag ∷ [])
 type_step (CType-F.Pointer t) = record t { stars = t.stars ++ punct mark.Star ∷ [] }
-type_step (CType-F.Array t length) = record t { brackets = (punct mark.LeftBracket ∷ length_of length ++ punct mark.RightBracket ∷ []) ++ t.brackets }
+type_step (CType-F.Array t length) = record t {
+  brackets = (punct mark.LeftBracket ∷ length_of length ++ punct mark.RightBracket ∷ []) ++
+      t.brackets;
+}
 
 -- the type in a cast or behind `sizeof`
 abbrev pub type_name_of : TypeParts → List Lexeme

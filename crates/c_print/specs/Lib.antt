@@ -5,14 +5,4 @@ pub mod Declarations
 pub mod Statements
 pub mod Program
 pub mod Spans
-pub mod BareLaws
-pub mod BareTwice
-pub mod Again
-pub mod TypesAgain
-pub mod ExpressionsAgain
-pub mod DeclaratorsAgain
-pub mod ObjectsAgain
-pub mod StructsAgain
-pub mod ParametersAgain
-pub mod StatementsAgain
-pub mod ProgramAgain
+pub mod Laws

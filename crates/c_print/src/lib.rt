@@ -6,8 +6,6 @@ mod expr;
 mod parameter;
 mod program;
 mod statement;
-#[cfg(test)]
-mod tests;
 mod types;
 mod words;
 

@@ -1,9 +1,11 @@
 -- Fields that are written one after the other over a record leave the record's bytes.
-use Rattle.std.proofs.Common.{◌≡◌, ℕ, ◌+◌, ◌-◌, ◌≤◌, List, [], ◌∷◌, ◌++◌, length, take, drop, sym, ap, ◌∙◌, arith, append_assoc, length-append, length-take, length-drop, drop-drop, take_at, take_all}
+use Rattle.std.proofs.Common.{◌≡◌, ℕ, ◌+◌, ◌-◌, ◌<◌, ◌≤◌, List, [], ◌∷◌, ◌++◌, length, get_or, take, drop, sym, ap, ◌∙◌, arith, append_assoc, length-append, length-take, length-drop, drop-drop, take_at, take_all, get_or-set_same}
 use borrow.Rule.Slice.PartMut.{put_mid}
-use Rattle.std.proofs.lemmas.List.{append-nil, drop_all}
+use Rattle.std.specs.Int.{byte_at}
+use Rattle.std.proofs.Math.ListN.{set, length-set}
+use Rattle.std.proofs.lemmas.List.{append-nil, drop_all, take_more, take-set, drop-set-lt, take-append-drop}
 use Rattle.elf_base.specs.Field.{Field, number, signed, raw, width_of, field_bytes, bytes_of, total_width}
-use Rattle.elf_base.specs.Laws.{length-number, length-signed, length-raw}
+use Rattle.elf_base.specs.Laws.Lengths.{length-number, length-signed, length-raw}
 use Rattle.elf_base.specs.Place.{put_at}
 
 -- what a record holds once its fields were written from a place on
@@ -59,3 +61,24 @@ put_mid-put_at at xs out sub h e =
     let moved : drop (length xs) (drop at out) ≡ drop (at + length xs) out = drop-drop (length xs) at out in
     let same : sub ≡ xs ++ drop (at + length xs) out = e ∙ ap (λ (l : List ℕ). xs ++ drop (length xs) l) all ∙ ap (λ (l : List ℕ). xs ++ l) moved in
     ap (λ (l : List ℕ). take at out ++ (sub ++ l)) none ∙ ap (λ (l : List ℕ). take at out ++ l) (append-nil sub ∙ same) ∙ sym (append_assoc (take at out) xs (drop (at + length xs) out))
+
+-- a number of one byte is that byte
+one_byte : (value : ℕ) → value < 256 → field_bytes (number 1 value) ≡ value ∷ []
+unfolding field_bytes
+one_byte value fits =
+    let low : byte_at 0 value ≡ value = omega arith in
+    ap (λ (b : ℕ). b ∷ []) low
+
+-- a byte that is set
+pub set-put_at : (at value : ℕ) (out : List ℕ) → at < length out → value < 256 → set out at value ≡ put_at at (field_bytes (number 1 value)) out
+unfolding put_at
+set-put_at at value out within fits =
+    let longer : at < length (set out at value) = omega (arith, length-set out at value) in
+    let byte : get_or (set out at value) at 0 ≡ value = get_or-set_same out at value 0 within in
+    let front : take (at + 1) (set out at value) ≡ take at out ++ value ∷ [] =
+    take_more (set out at value) at 0 longer ∙ ap (λ (b : ℕ). take at (set out at value) ++ b ∷ []) byte
+    ∙ ap (λ (l : List ℕ). l ++ value ∷ []) (take-set out at value) in
+    let back : drop (at + 1) (set out at value) ≡ drop (at + 1) out = drop-set-lt (at + 1) out at value (omega arith) in
+    sym (take-append-drop (at + 1) (set out at value))
+    ∙ ap (λ (l : List ℕ). l ++ drop (at + 1) (set out at value)) front ∙ ap (λ (l : List ℕ). (take at out ++ value ∷ []) ++ l) back
+    ∙ ap (λ (l : List ℕ). (take at out ++ l) ++ drop (at + length l) out) (sym (one_byte value fits))

@@ -3,6 +3,9 @@ use Rattle.std.specs.Prelude.{List, [], ◌∷◌}
 use Rattle.elf_base.specs.declared.header.Ehdr.{Ehdr}
 use Rattle.elf_base.specs.declared.segment.Phdr.{Phdr}
 use Rattle.elf_base.specs.declared.dynamic.Dyn.{Dyn}
+use Rattle.elf_base.specs.declared.section.Shdr.{Shdr}
+use Rattle.elf_base.specs.declared.symbol.Sym.{Sym}
+use Rattle.elf_base.specs.declared.relocation.Rela.{Rela}
 use Rattle.elf_base.specs.Field.{Field, number, signed, raw}
 
 -- the header of a file, `Elf64_Ehdr`
@@ -21,3 +24,19 @@ phdr_fields p =
 -- a dynamic entry, `Elf64_Dyn`
 abbrev pub dyn_fields : Dyn → List Field
 dyn_fields d = signed d.tag ∷ number 8 d.value ∷ []
+
+-- a section header, `Elf64_Shdr`
+abbrev pub shdr_fields : Shdr → List Field
+shdr_fields s =
+    number 4 s.name ∷ number 4 s.kind ∷ number 8 s.flags ∷ number 8 s.addr ∷ number 8 s.offset ∷ number 8 s.size ∷ number 4 s.link
+    ∷ number 4 s.info ∷ number 8 s.addralign ∷ number 8 s.entsize ∷ []
+
+-- a symbol, `Elf64_Sym`
+abbrev pub sym_fields : Sym → List Field
+sym_fields s =
+    number 4 s.name ∷ number 1 s.info ∷ number 1 s.other ∷ number 2 s.shndx ∷ number 8 s.value ∷ number 8 s.size ∷ []
+
+-- a relocation, `Elf64_Rela`
+abbrev pub rela_fields : Rela → List Field
+rela_fields r =
+    number 8 r.offset ∷ number 8 r.info ∷ signed r.addend ∷ []

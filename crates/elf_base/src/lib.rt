@@ -1,16 +1,24 @@
-//! The records of ELF64 files, read and written at their fields' widths, and the texts that the file crates hold.
+//! The records of ELF64 files, read and written at their fields' widths, the pieces that a file is laid out in, and the texts that the file crates hold.
 #![tactic(auto)]
 
 mod dynamic;
 mod header;
+mod laying;
 mod place;
+mod relocation;
+mod section;
 mod segment;
+mod symbol;
 mod text;
 
 pub use dynamic::{DYN_BYTES, Dyn, read_dyn, write_dyn};
 pub use header::{EHDR_BYTES, Ehdr, read_ehdr, write_ehdr};
+pub use laying::{pad_to, push_u32, push_u64, put_bytes, put_words};
 pub use place::Short;
+pub use relocation::{RELA_BYTES, Rela, read_rela, write_rela};
+pub use section::{SHDR_BYTES, Shdr, read_shdr, write_shdr};
 pub use segment::{PHDR_BYTES, Phdr, read_phdr, write_phdr};
+pub use symbol::{SYM_BYTES, Sym, read_sym, write_sym};
 pub use text::{Bytes, Name};
 
 #[cfg(test)]

@@ -27,6 +27,14 @@ pub(crate) fn record_at(bytes: &[u8], at: u64, len: u64) -> Result<&[u8], Short>
     Ok(&bytes[start..start + len as usize])
 }
 
+// The number that is the byte at a place of a record.
+pub(crate) fn u8_at(part: &[u8], at: usize) -> u8
+    requires { at + 1 ≤ length part.now }
+    ensures { result ≡ number_at 1 at part.now }
+{
+    part[at]
+}
+
 // The number whose two bytes stand at a place of a record.
 #[tactic(auto, unfolding(crate::specs::Place::number_at))]
 pub(crate) fn u16_at(part: &[u8], at: usize) -> u16
@@ -52,6 +60,14 @@ pub(crate) fn u64_at(part: &[u8], at: usize) -> u64
     ensures { result ≡ number_at 8 at part.now }
 {
     LittleEndian::read_u64(&part[at..])
+}
+
+// Writes a number's byte at a place of a record.
+pub(crate) fn put_u8(out: &mut [u8], at: usize, value: u8)
+    requires { at + 1 ≤ length out.old }
+    ensures { out.new ≡ put_at at (field_bytes (number 1 value)) out.old }
+{
+    out[at] = value;
 }
 
 // Writes the two bytes of a number at a place of a record.

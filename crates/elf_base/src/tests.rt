@@ -73,3 +73,56 @@ fn signed_tags_and_ends(rt: HostRuntime) -> Result<(), Fail> {
     assert_eq!(rt; name.as_slice(), b"main".as_slice());
     Ok(())
 }
+
+// The headers of the symbol table and of the relocations of the data of a small object that Debian's aarch64-linux-gnu-as made, the
+// symbol of its table and both of its relocations; the values are those that `readelf -S -s -r` prints.
+const SYMBOLS: [u8; 64] = [
+    0x01, 0, 0, 0, 0x02, 0, 0, 0, 0, 0, 0, 0, 0, 0, 0, 0, 0, 0, 0, 0, 0, 0, 0, 0, 0x58, 0, 0, 0, 0,
+    0, 0, 0, 0xc0, 0, 0, 0, 0, 0, 0, 0, 0x07, 0, 0, 0, 0x05, 0, 0, 0, 0x08, 0, 0, 0, 0, 0, 0, 0,
+    0x18, 0, 0, 0, 0, 0, 0, 0,
+];
+
+const TABLE: [u8; 24] = [
+    0x10, 0, 0, 0, 0x11, 0, 0x03, 0, 0, 0, 0, 0, 0, 0, 0, 0, 0x10, 0, 0, 0, 0, 0, 0, 0,
+];
+
+const RELOCATIONS: [u8; 48] = [
+    0, 0, 0, 0, 0, 0, 0, 0, 0x1b, 0x01, 0, 0, 0x06, 0, 0, 0, 0, 0, 0, 0, 0, 0, 0, 0, 0, 0, 0, 0, 0,
+    0, 0, 0, 0x01, 0x01, 0, 0, 0x05, 0, 0, 0, 0x08, 0, 0, 0, 0, 0, 0, 0,
+];
+
+#[test]
+fn records_of_an_object(rt: HostRuntime) -> Result<(), Fail> {
+    let section = read_shdr(&SYMBOLS, 0)?;
+    assert_eq!(rt; section.kind, 2);
+    assert_eq!(rt; section.offset, 0x58);
+    assert_eq!(rt; section.size, 0xc0);
+    assert_eq!(rt; section.link, 7);
+    assert_eq!(rt; section.info, 5);
+    assert_eq!(rt; section.addralign, 8);
+    assert_eq!(rt; section.entsize, 24);
+    let mut out = [0xff; 64];
+    write_shdr(&section, &mut out);
+    assert_eq!(rt; out, SYMBOLS);
+
+    let symbol = read_sym(&TABLE, 0)?;
+    assert_eq!(rt; symbol.name, 16);
+    assert_eq!(rt; symbol.info, 17);
+    assert_eq!(rt; symbol.shndx, 3);
+    assert_eq!(rt; symbol.size, 16);
+    let mut out = [0xff; 24];
+    write_sym(&symbol, &mut out);
+    assert_eq!(rt; out, TABLE);
+
+    let call = read_rela(&RELOCATIONS, 0)?;
+    assert_eq!(rt; call.info, 0x6_0000_011b);
+    assert_eq!(rt; call.addend, 0);
+    let word = read_rela(&RELOCATIONS, 24)?;
+    assert_eq!(rt; word.info, 0x5_0000_0101);
+    assert_eq!(rt; word.addend, 8);
+    let mut out = [0xff; 24];
+    write_rela(&word, &mut out);
+    assert_eq!(rt; out.as_slice(), &RELOCATIONS[24..]);
+    assert!(rt; matches!(read_rela(&RELOCATIONS, 25), Err(Short { at: 48 })));
+    Ok(())
+}

@@ -5,18 +5,11 @@ use Rattle.elf_base.specs.declared.header.Ehdr.{Ehdr}
 use Rattle.elf_base.specs.declared.segment.Phdr.{Phdr}
 use Rattle.elf_base.specs.declared.dynamic.Dyn.{Dyn}
 use Rattle.elf_base.specs.Field.{number, signed, bytes_of}
+use Rattle.elf_base.specs.Layout.{Piece, piece, word_bytes}
 use Rattle.elf_base.specs.Records.{ehdr_fields, phdr_fields, dyn_fields}
 use Rattle.elf_image.specs.declared.parts.RelativeReloc.{RelativeReloc}
 use Rattle.elf_image.specs.Image.{Image}
 use Rattle.elf_image.specs.Places.{descriptors_place, rodata_place, rodata_end, code_place, dynamic_place, dynamic_count, filled_place, file_end, memory_end}
-
--- bytes and the place where they stand
-pub record Piece : Type 0 where
-  pub place : ℕ
-  pub bytes : List ℕ
-
-abbrev pub piece : ℕ → List ℕ → Piece
-piece place bytes = record { place = place; bytes = bytes }
 
 -- the file's header: ET_DYN for EM_AARCH64, four program headers at 64, no sections
 abbrev pub header : Image → Ehdr
@@ -105,9 +98,6 @@ entries_bytes ds = flat_map dyn_bytes ds
 -- a relocation as a Rela record: its place, symbol 0 with the type R_AARCH64_RELATIVE, its addend
 abbrev pub reloc_bytes : RelativeReloc → List ℕ
 reloc_bytes r = bytes_of (number 8 r.place ∷ number 8 1027 ∷ signed r.addend ∷ [])
-
-abbrev pub word_bytes : ℕ → List ℕ
-word_bytes w = bytes_of (number 4 w ∷ [])
 
 -- the header and the program headers
 abbrev pub header_pieces : Image → List Piece

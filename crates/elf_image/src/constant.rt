@@ -3,7 +3,7 @@ ghost use Rattle.std.specs.List.{flat_map};
 ghost use Rattle.elf_base.specs.Field.{StandsAt};
 ghost use Rattle.elf_image.specs.Constant.{constant_code, constant_image, int_max, movz_word, movk_word, svc_word};
 ghost use Rattle.elf_image.specs.Image.{image_of};
-ghost use Rattle.elf_image.specs.Pieces.{word_bytes};
+ghost use Rattle.elf_base.specs.Layout.{word_bytes};
 
 use crate::parts::ImageParts;
 use byteorder::{ByteOrder, LittleEndian};

@@ -12,7 +12,7 @@ mod write;
 pub use parts::{ImageParts, RelativeReloc};
 pub use read::read_image;
 pub use refusal::ImageRefusal;
-pub use write::write_image;
+pub use write::{push_code, push_writable, read_only_bytes, write_image};
 
 #[cfg(test)]
 mod tests;

@@ -3,14 +3,16 @@ ghost use Rattle.elf_base.specs.Field.{bytes_of};
 ghost use Rattle.elf_base.specs.Records.{phdr_fields};
 ghost use Rattle.elf_image.specs.Image.{image_of};
 ghost use Rattle.elf_image.specs.ImageFile.{ImageFile};
-ghost use Rattle.elf_image.specs.Laying.{put, put_all};
-ghost use Rattle.elf_image.specs.Pieces.{piece, header, load, dynamic_at, entries_bytes, header_pieces, table_pieces, loaded_pieces, table_entries, descriptor_entries};
+ghost use Rattle.elf_base.specs.Laying.{put, put_all};
+ghost use Rattle.elf_base.specs.Layout.{piece};
+ghost use Rattle.elf_image.specs.LoadedBytes.{read_only_bytes, code_bytes, writable_bytes};
+ghost use Rattle.elf_image.specs.Pieces.{header, load, dynamic_at, entries_bytes, header_pieces, table_pieces, table_entries, descriptor_entries};
 ghost use Rattle.elf_image.specs.Places.{IsValid, descriptors_place};
 
 use crate::layout::{RELOCS_PLACE, STRINGS_PLACE, SYMBOLS_PLACE};
 use crate::parts::ImageParts;
-use crate::put::{pad_to, push_entry, put_bytes, put_relocs, put_words};
-use elf_base::{Ehdr, Phdr, write_ehdr, write_phdr};
+use crate::put::{push_entry, put_relocs};
+use elf_base::{Ehdr, Phdr, pad_to, put_bytes, put_words, write_ehdr, write_phdr};
 use std::alloc::{AllocError, Global};
 
 /// The one file of the parts, which are valid: `filled` and the zero bytes are whole granules of 16 bytes, and
@@ -19,11 +21,45 @@ pub fn write_image(alloc: Global, parts: &ImageParts) -> Result<Vec<u8>, AllocEr
     requires { IsValid (image_of parts.now) }
     ensures { IfOk result (λ v. ImageFile (image_of parts.now) v.items) }
 {
+    let mut out = read_only_bytes(alloc, parts)?;
+    pad_to(&mut out, parts.code_place())?;
+    push_code(&mut out, parts)?;
+    pad_to(&mut out, parts.dynamic_place())?;
+    push_writable(&mut out, parts)?;
+    Ok(out)
+}
+
+/// The bytes of the part that is only read, which begins the file: up to `rodata_end`.
+pub fn read_only_bytes(alloc: Global, parts: &ImageParts) -> Result<Vec<u8>, AllocError>
+    requires { IsValid (image_of parts.now) }
+    ensures { IfOk result (λ v. v.items ≡ read_only_bytes (image_of parts.now)) }
+{
     let mut out = Vec::new(alloc);
     put_headers(&mut out, parts)?;
     put_tables(&mut out, parts)?;
-    put_loaded(&mut out, parts)?;
     Ok(out)
+}
+
+/// The bytes of the code, which has its place from `code_place` to `code_end`, at the end of others.
+pub fn push_code(out: &mut Vec<u8>, parts: &ImageParts) -> Result<(), AllocError>
+    ensures { OnOk result (out.new.items ≡ out.old.items ++ code_bytes (image_of parts.now)) }
+{
+    // No zeros stand before what is put at place 0.
+    put_words(out, 0, &parts.words)?;
+    Ok(())
+}
+
+/// The bytes of the writable part, which has its place from `dynamic_place` on, at the end of others. In memory
+/// the zero bytes follow, up to `memory_end`.
+pub fn push_writable(out: &mut Vec<u8>, parts: &ImageParts) -> Result<(), AllocError>
+    requires { IsValid (image_of parts.now) }
+    ensures { OnOk result (out.new.items ≡ out.old.items ++ writable_bytes (image_of parts.now)) }
+{
+    push_tables(out, parts)?;
+    push_descriptors(out, parts)?;
+    push_entry(out, 0, 0)?;
+    put_bytes(out, 0, parts.filled.as_slice())?;
+    Ok(())
 }
 
 // The header and the program headers.
@@ -119,21 +155,6 @@ fn put_tables(out: &mut Vec<u8>, parts: &ImageParts) -> Result<(), AllocError>
     put_relocs(out, RELOCS_PLACE, &parts.relocs)?;
     put_bytes(out, parts.descriptors_place(), parts.descriptors.as_slice())?;
     put_bytes(out, parts.rodata_place(), parts.rodata.as_slice())?;
-    Ok(())
-}
-
-// The code, the dynamic entries and the filled bytes.
-fn put_loaded(out: &mut Vec<u8>, parts: &ImageParts) -> Result<(), AllocError>
-    requires { IsValid (image_of parts.now) }
-    ensures { OnOk result (out.new.items
-        ≡ put_all (loaded_pieces (image_of parts.now)) out.old.items) }
-{
-    put_words(out, parts.code_place(), &parts.words)?;
-    pad_to(out, parts.dynamic_place())?;
-    push_tables(out, parts)?;
-    push_descriptors(out, parts)?;
-    push_entry(out, 0, 0)?;
-    put_bytes(out, parts.filled_place(), parts.filled.as_slice())?;
     Ok(())
 }
 

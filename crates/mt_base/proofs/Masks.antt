@@ -21,7 +21,8 @@ without_tag n h =
 -- and with other bits put there
 pub put_tag : (a r t : ℕ) → r < 2 ^ 56 → t < 16 → bit_or (a * 2 ^ 60 + r) (t * 2 ^ 56) ≡ a * 2 ^ 60 + t * 2 ^ 56 + r
 put_tag a r t low small =
-    ap₂ bit_or (let e : a * 2 ^ 60 + r ≡ (a * 2 ^ 4) * 2 ^ 56 + r = omega arith in e) (let e : t * 2 ^ 56 ≡ t * 2 ^ 56 + 0 = omega arith in e)
+    ap₂ bit_or (let e : a * 2 ^ 60 + r ≡ (a * 2 ^ 4) * 2 ^ 56 + r = omega arith in e)
+    (let e : t * 2 ^ 56 ≡ t * 2 ^ 56 + 0 = omega arith in e)
     ∙ or_block 56 (a * 2 ^ 4) t r 0 low (omega arith)
     ∙ ap₂ (λ x y. x * 2 ^ 56 + y) (or_shifted a 4 t small) (or_comm r 0)
     ∙ omega arith

@@ -58,7 +58,7 @@ impl Tag {
 }
 
 /// The tags that may not be chosen: bit t is set where tag t is excluded.
-#[derive(Clone, Copy, Debug, PartialEq, Eq)]
+#[derive(Clone, Copy)]
 pub struct Exclude(pub u16);
 
 impl Exclude {

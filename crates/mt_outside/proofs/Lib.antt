@@ -1,2 +1,3 @@
 pub mod FirstFiles
 pub mod Written
+pub mod Whole

@@ -3,10 +3,10 @@ pub mod Counts
 pub mod Files
 pub mod Source
 pub mod Sink
-pub mod Composition
 pub mod MemFiles
 pub mod MemSource
 pub mod MemSink
 pub mod HostFiles
 pub mod StdSource
 pub mod StdSink
+pub mod Laws

@@ -1,15 +1,15 @@
 // The files of the host.
-ghost use Rattle.std.specs.Prelude.{IfOk, length, ◌≡◌, ◌≢◌, ◌≤◌, ℕ, List, Option, None, IfSome};
+ghost use Rattle.std.specs.Prelude.{IfOk, OnOk, IfSome, length, ◌≡◌, ◌≢◌, ◌≤◌, ℕ, List, Option, None};
 ghost use Rattle.mt_outside.specs.Told.{Rose, WhereTold};
 ghost use Rattle.mt_outside.specs.Counts.{one_more};
 ghost use Rattle.mt_outside.specs.Files.{Contents, ReadGives, WriteGives};
-ghost use Rattle.mt_outside.specs.HostFiles.{host_read_faults, host_write_faults, IsWithin};
+ghost use Rattle.mt_outside.specs.HostFiles.{host_read_faults, host_write_faults, IsWithin, GotWhole, WroteWhole, TookWhole};
 
 use crate::calls::one_more;
 use crate::{Files, ReadAnswer, WriteAnswer};
 use std::alloc::Global;
 use std::fs::OpenFile;
-use std::io::{ErrorKind, Read};
+use std::io::{ErrorKind, Read, Write};
 use std::{fs, io, rt};
 
 /// The most bytes that a file may have which is read.
@@ -50,18 +50,23 @@ impl<R: rt::Files> Files for HostFiles<R> {
         ensures uncounted { result ≢ ReadAnswer.Failed
             → host_read_faults self.new ≡ host_read_faults self.old }
         ensures writes { host_write_faults self.new ≡ host_write_faults self.old }
+
+        // What it gives are all the bytes of a file of the host, and no file of more bytes than the limit is given.
+        ensures whole { GotWhole R.File.remaining result }
         ensures limit { IsWithin MOST_BYTES result }
     {
-        match read_whole(&self.runtime, alloc, name) {
+        let read = match fs::open(&self.runtime, name) {
+            Ok(file) => read_whole(alloc, file),
+            Err(error) if error.kind() == ErrorKind::NotFound => return ReadAnswer::Absent,
+            Err(error) => Err(error),
+        };
+        match read {
             Ok(bytes) => ReadAnswer::Got(bytes),
-            Err(error) => match error.kind() {
-                ErrorKind::NotFound => ReadAnswer::Absent,
-                ErrorKind::OutOfMemory => ReadAnswer::NoMemory,
-                _ => {
-                    self.read_faults = one_more(self.read_faults);
-                    ReadAnswer::Failed
-                }
-            },
+            Err(error) if error.kind() == ErrorKind::OutOfMemory => ReadAnswer::NoMemory,
+            Err(_) => {
+                self.read_faults = one_more(self.read_faults);
+                ReadAnswer::Failed
+            }
         }
     }
 
@@ -72,8 +77,11 @@ impl<R: rt::Files> Files for HostFiles<R> {
         ensures uncounted { result ≢ WriteAnswer.Failed
             → host_write_faults self.new ≡ host_write_faults self.old }
         ensures reads { host_read_faults self.new ≡ host_read_faults self.old }
+
+        // Where it is done, a file of the host took all the bytes.
+        ensures whole { WroteWhole R.File.contents bytes.now result }
     {
-        match fs::write(&self.runtime, name, bytes) {
+        match write_new(&self.runtime, name, bytes) {
             Ok(()) => WriteAnswer::Done,
             Err(_) => {
                 self.write_faults = one_more(self.write_faults);
@@ -83,11 +91,12 @@ impl<R: rt::Files> Files for HostFiles<R> {
     }
 }
 
-// The bytes of a file. One that is too large fails before it is read, where its size is known, and else at the limit.
-fn read_whole<R: rt::Files>(runtime: &R, alloc: Global, name: &str) -> io::Result<Vec<u8>>
-    ensures { IfOk result (λ bytes. length bytes.items ≤ MOST_BYTES) }
+// All the bytes of an open file. One that is too large fails before it is read, where its size is known, and else at
+// the limit.
+fn read_whole<F: Read + OpenFile + Drop>(alloc: Global, file: F) -> io::Result<Vec<u8>>
+    ensures whole { IfOk result (λ bytes. IfSome (F.remaining file) (λ left. bytes.items ≡ left)) }
+    ensures limit { IfOk result (λ bytes. length bytes.items ≤ MOST_BYTES) }
 {
-    let file = fs::open(runtime, name)?;
     if file.metadata()?.len() > MOST_BYTES {
         return Err(ErrorKind::FileTooLarge.into());
     }
@@ -97,4 +106,11 @@ fn read_whole<R: rt::Files>(runtime: &R, alloc: Global, name: &str) -> io::Resul
         return Err(ErrorKind::FileTooLarge.into());
     }
     Ok(bytes)
+}
+
+// Writes the bytes to a file of this name, which is made or emptied before.
+fn write_new<R: rt::Files>(runtime: &R, name: &str, bytes: &[u8]) -> io::Result<()>
+    ensures taken { OnOk result (TookWhole R.File.contents bytes.now) }
+{
+    fs::create(runtime, name)?.write_all(bytes)
 }

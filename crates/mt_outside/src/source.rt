@@ -1,5 +1,5 @@
 // A source of bytes: what it answers, and what it has left.
-ghost use Rattle.std.specs.Prelude.{◌≡◌, ◌≤◌, List, ℕ, Option};
+ghost use Rattle.std.specs.Prelude.{◌≡◌, ◌≢◌, ◌≤◌, List, ℕ, Option};
 ghost use Rattle.mt_outside.specs.Told.{Rose, WhereTold};
 ghost use Rattle.mt_outside.specs.Source.{NextGives};
 
@@ -22,9 +22,10 @@ pub trait Source {
     /// How many reads have failed.
     ghost faults: { Self → ℕ };
 
-    /// Takes the next byte.
+    /// Takes the next byte. A call that did not fail leaves the count.
     fn next(&mut self) -> NextAnswer
         ensures content { WhereTold (told self.old) (told self.new) (NextGives result) }
         ensures failed { result ≡ NextAnswer.Failed → Rose (faults self.old) (faults self.new) }
+        ensures uncounted { result ≢ NextAnswer.Failed → faults self.new ≡ faults self.old }
         ensures never_falls { faults self.old ≤ faults self.new };
 }

@@ -1,14 +1,27 @@
 -- The bytes of a file, where the files are told.
-use Rattle.std.proofs.Common.{◌≡◌, ℕ, List, Option, Some, None, IfSome, sym, ◌∙◌}
+use Rattle.std.proofs.Common.{◌≡◌, ℕ, List, Option, Some, None, IfSome, sym, ◌∙◌, refl}
+use Rattle.std.specs.Option.{option_and_then}
 use Rattle.std.proofs.lemmas.Option.{same_Some, none-some}
 use Rattle.mt_outside.specs.Files.{Contents}
-use Rattle.mt_pipeline.specs.Seen.{bytes_of}
+use Rattle.mt_pipeline.specs.Read.{CauseOfNoBytes, absent, failed, no_memory}
+use Rattle.mt_pipeline.specs.Seen.{FilesSeen, bytes_of, MayHold, ReadFailed}
+use Rattle.mt_pipeline.specs.declared.ended.Why.{Why}
+use Rattle.mt_pipeline.specs.declared.ended.Why.TheVariants.{NoMemory}
+
+told_bytes : (told : Option Contents) (file bytes read : List ℕ) → option_and_then (λ files. files file) told ≡ Some bytes → IfSome told (λ files. files file ≡ Some read) → read ≡ bytes
+told_bytes None file bytes read holds is = absurd (none-some bytes holds)
+told_bytes (Some files) file bytes read holds is = same_Some _ _ (sym is ∙ holds)
+
+not_absent : (told : Option Contents) (file bytes : List ℕ) → option_and_then (λ files. files file) told ≡ Some bytes → IfSome told (λ files. files file ≡ None) → ⊥
+not_absent None file bytes holds none = none-some bytes holds
+not_absent (Some files) file bytes holds none = none-some bytes (sym none ∙ holds)
 
 -- where the files are told, bytes that were read of a file are those that it holds
-pub same_bytes : (told : Option Contents) (file bytes read : List ℕ) → bytes_of told file ≡ Some bytes → IfSome told (λ files. files file ≡ Some read) → read ≡ bytes
-same_bytes None file bytes read holds is = absurd (none-some bytes holds)
-same_bytes (Some files) file bytes read holds is = same_Some _ _ (sym is ∙ holds)
+pub same_bytes : (seen : FilesSeen) (file bytes read : List ℕ) → bytes_of seen file ≡ Some bytes → MayHold seen file read → read ≡ bytes
+same_bytes seen file bytes read holds is = told_bytes seen.told file bytes read holds is
 
-pub not_absent : (told : Option Contents) (file bytes : List ℕ) → bytes_of told file ≡ Some bytes → IfSome told (λ files. files file ≡ None) → ⊥
-not_absent None file bytes holds absent = none-some bytes holds
-not_absent (Some files) file bytes holds absent = none-some bytes (sym absent ∙ holds)
+-- where there are bytes and no read failed, memory is wanting
+pub unread_wants : (file bytes : List ℕ) (before after : FilesSeen) {why : Why} → CauseOfNoBytes file before after why → bytes_of before file ≡ Some bytes → ¬ ReadFailed before after → why ≡ NoMemory
+unread_wants file bytes before after (absent none) holds no_fault = absurd (not_absent before.told file bytes holds none)
+unread_wants file bytes before after (failed rose) holds no_fault = absurd (no_fault rose)
+unread_wants file bytes before after no_memory holds no_fault = refl

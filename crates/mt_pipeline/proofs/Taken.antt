@@ -1,19 +1,36 @@
--- What a text says of the refusal that is its cause.
-use Rattle.std.proofs.Common.{◌≡◌, ◌⊎◌, ℕ, List, inl, inr}
-use Rattle.mt_pipeline.specs.declared.refusal.CompileRefusal.{CompileRefusal}
-use Rattle.mt_pipeline.specs.declared.refusal.CompileRefusal.TheVariants.{NoMemory}
-use Rattle.mt_pipeline.specs.declared.refused.Refused.{Refused}
-use Rattle.mt_pipeline.specs.Refused.{Refuses, IsCause}
-use Rattle.mt_pipeline.specs.RefusedLaws.{no_constant, one_refusal}
-use Rattle.mt_pipeline.specs.Source.{ReturnsConstant}
+-- What texts say of the refusal that is their cause.
+use Rattle.std.proofs.Common.{◌≡◌, ◌⊎◌, ℕ, List, [], ◌∷◌, sym, subst, inl, inr}
+use Rattle.mt_compile.specs.Laws.OneRefusal.{no_constant}
+use Rattle.mt_compile.specs.Source.{ReturnsConstant}
+use Rattle.mt_pipeline.specs.Agrees.{Return}
+use Rattle.mt_pipeline.specs.Built.{RefusesTexts, source, link}
+use Rattle.mt_pipeline.specs.Laws.OneBuild.{one_build_refusal}
+use Rattle.mt_pipeline.specs.Unbuilt.{IsCause}
+use Rattle.mt_pipeline.specs.declared.refusal.BuildRefusal.{BuildRefusal}
+use Rattle.mt_pipeline.specs.declared.refusal.BuildRefusal.TheVariants.{NoMemory}
+use Rattle.mt_pipeline.specs.declared.unbuilt.Unbuilt.{Unbuilt}
+use Rattle.mt_pipeline.proofs.BuildRefused.{one_front, one_links}
 
--- the text of a constant is refused for want of memory alone
-pub constant_taken : (text : List ℕ) (refused : Refused) (n : ℕ) → IsCause text refused → ReturnsConstant text n → refused.refusal ≡ NoMemory
-constant_taken text refused n (inl wanting) returns = wanting
-constant_taken text refused n (inr refuses) returns = absurd (no_constant refuses n returns)
+-- a text alone that returns a constant has no refusal
+one_returns : (text : List ℕ) (n : ℕ) (refusal : BuildRefusal) (place : ℕ) → ReturnsConstant text n → RefusesTexts (text ∷ []) refusal place → ⊥
+one_returns text n _ _ returns (source {text = found} front back objects parts compiled refuses) =
+    no_constant refuses n (subst (λ t. ReturnsConstant t n) (sym (one_front text front back found parts).1) returns)
+one_returns text n _ _ returns (link {refusal} objects compiled refuses) = one_links text objects refusal compiled refuses
 
--- and one that has a refusal is refused so, or for want of memory
-pub refused_once : (text : List ℕ) (refused : Refused) (other : CompileRefusal) (byte : ℕ) → IsCause text refused → Refuses text other byte →
-    (refused.refusal ≡ other) ⊎ (refused.refusal ≡ NoMemory)
-refused_once text refused other byte (inl wanting) refuses = inr wanting
-refused_once text refused other byte (inr found) refuses = inl (one_refusal found refuses).same
+returns_none : (texts : List (List ℕ)) (n : ℕ) (refusal : BuildRefusal) (place : ℕ) → Return texts n → RefusesTexts texts refusal place → ⊥
+returns_none texts n refusal place r refuses = one_returns r.text n refusal place r.returns (subst (λ ts. RefusesTexts ts refusal place) r.one refuses)
+
+-- it is not built for want of memory alone
+pub constant_taken : (texts : List (List ℕ)) (unbuilt : Unbuilt) (n : ℕ) → IsCause texts unbuilt → Return texts n → unbuilt.refusal ≡ NoMemory
+constant_taken texts unbuilt n (inl wanting) r = wanting
+constant_taken texts unbuilt n (inr refuses) r = absurd (returns_none texts n unbuilt.refusal unbuilt.place r refuses)
+
+-- and texts that have a refusal are refused so, or for want of memory
+pub refused_once : (texts : List (List ℕ)) (unbuilt : Unbuilt) (other : BuildRefusal) (place : ℕ) → IsCause texts unbuilt → RefusesTexts texts other place →
+    (unbuilt.refusal ≡ other) ⊎ (unbuilt.refusal ≡ NoMemory)
+refused_once texts unbuilt other place (inl wanting) refuses = inr wanting
+refused_once texts unbuilt other place (inr found) refuses = inl (one_build_refusal texts unbuilt.refusal other unbuilt.place place found refuses).same
+
+pub with_place : (texts : List (List ℕ)) (unbuilt : Unbuilt) → IsCause texts unbuilt → (unbuilt.refusal ≡ NoMemory) ⊎ ((place : ℕ) × RefusesTexts texts unbuilt.refusal place)
+with_place texts unbuilt (inl wanting) = inl wanting
+with_place texts unbuilt (inr refuses) = inr (unbuilt.place, refuses)

@@ -17,7 +17,9 @@ default_steps = 100000000
 -- the words ask for this, in one of these forms
 pub data HasJob (words : List (List ℕ)) : Job → Type 0 where
   go : (file : List ℕ) → words ≡ codes "go" ∷ file ∷ [] → HasJob words (Go file default_steps)
-  go_steps : (file digits : List ℕ) (steps : ℕ) → words ≡ codes "go" ∷ file ∷ codes "--steps" ∷ digits ∷ [] → IsSteps digits steps → HasJob words (Go file steps)
+  go_steps : (file digits : List ℕ) (steps : ℕ) → words ≡ codes "go" ∷ file ∷ codes "--steps" ∷ digits ∷ [] → IsSteps digits steps →
+      HasJob words (Go file steps)
   build : (file out : List ℕ) → words ≡ codes "build" ∷ file ∷ codes "--out" ∷ out ∷ [] → HasJob words (Build file out)
   run : (image : List ℕ) → words ≡ codes "run" ∷ image ∷ [] → HasJob words (Run image default_steps)
-  run_steps : (image digits : List ℕ) (steps : ℕ) → words ≡ codes "run" ∷ image ∷ codes "--steps" ∷ digits ∷ [] → IsSteps digits steps → HasJob words (Run image steps)
+  run_steps : (image digits : List ℕ) (steps : ℕ) → words ≡ codes "run" ∷ image ∷ codes "--steps" ∷ digits ∷ [] → IsSteps digits steps →
+      HasJob words (Run image steps)

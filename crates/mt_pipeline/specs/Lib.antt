@@ -1,21 +1,25 @@
+-- what one reads to believe `drive`
 pub mod Seen
-pub mod Constant
-pub mod Source
-pub mod Refused
-pub mod Respelled
-pub mod RefusedPlaces
-pub mod RefusedLaws
 pub mod Number
-pub mod Defaults
 pub mod Job
-pub mod Command
-pub mod Code
-pub mod Built
-pub mod Read
 pub mod Status
-pub mod Answer
-pub mod NoWords
+pub mod Agrees
+pub mod Built
+pub mod Ran
+pub mod Read
+pub mod Counted
 pub mod Go
 pub mod Build
-pub mod Run
+pub mod RunFile
 pub mod Usage
+pub mod Answers
+-- what the parts below it say
+pub mod Refusals
+pub mod Answer
+pub mod Unread
+pub mod Unbuilt
+pub mod Unrun
+pub mod Command
+pub mod NoWords
+-- laws for later proofs
+pub mod Laws

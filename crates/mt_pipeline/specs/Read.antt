@@ -1,13 +1,11 @@
--- Why a file of a job was not read.
-use Rattle.std.specs.Prelude.{◌≡◌, ℕ, List, Option, None, IfSome}
-use Rattle.mt_outside.specs.Told.{Rose}
-use Rattle.mt_outside.specs.Files.{Contents}
-use Rattle.mt_pipeline.specs.declared.answer.Answer.{Answer}
-use Rattle.mt_pipeline.specs.declared.answer.Answer.TheVariants.{NoFile, NoMemory, ReadFault}
+-- Why a command did not get the bytes of its file, and what it leaves then (this project's own).
+use Rattle.std.specs.Prelude.{◌≡◌, ℕ, List, None, IfSome}
+use Rattle.mt_pipeline.specs.Seen.{FilesSeen, ReadFailed}
+use Rattle.mt_pipeline.specs.declared.ended.Why.{Why}
+use Rattle.mt_pipeline.specs.declared.ended.Why.TheVariants.{NoFile, NoMemory, ReadFault}
 
--- the cause of an answer that there are no bytes, where `faults` reads had failed before and `after` have after
-abbrev pub CauseOfNoBytes : Option Contents → List ℕ → (faults after : ℕ) → Answer → Type 0
-CauseOfNoBytes told file faults after (NoFile place) = (place ≡ 0) × IfSome told (λ files. files file ≡ None)
-CauseOfNoBytes told file faults after (ReadFault place) = (place ≡ 0) × Rose faults after
-CauseOfNoBytes told file faults after NoMemory = Unit {0}
-CauseOfNoBytes told file faults after _ = ⊥
+-- The reason by its cause. The file has the number 0 among those that the job reads.
+pub data CauseOfNoBytes (file : List ℕ) (before after : FilesSeen) : Why → Type 0 where
+  absent : IfSome before.told (λ files. files file ≡ None) → CauseOfNoBytes file before after (NoFile 0)
+  failed : ReadFailed before after → CauseOfNoBytes file before after (ReadFault 0)
+  no_memory : CauseOfNoBytes file before after NoMemory

@@ -3,49 +3,59 @@ use Rattle.std.specs.Prelude.{◌≡◌, ℕ, List, Option, Some, IfSome}
 use Rattle.std.specs.Option.{option_and_then}
 use Rattle.mt_outside.specs.Told.{Rose, WhereTold}
 use Rattle.mt_outside.specs.Files.{Contents}
+use Rattle.mt_outside.specs.declared.files.Files.{Ghosts as FilesGhosts}
+use Rattle.mt_outside.specs.declared.source.Source.{Ghosts as SourceGhosts}
+use Rattle.mt_outside.specs.declared.sink.Sink.{Ghosts as SinkGhosts}
+use Rattle.mte_machine.specs.Objects.{Objects, objects}
 
--- the files as far as they tell, the counts of their faults, the input and the output
-pub record Seen (S K : Type 0) : Type 0 where
-  pub files : Option Contents
+-- ---- the files
+
+-- the files as far as they tell, and the counts of their faults
+pub record FilesSeen : Type 0 where
+  pub told : Option Contents
   pub read_faults : ℕ
   pub write_faults : ℕ
-  pub input : S
-  pub output : K
 
-abbrev pub seen : {F S K : Type 0} → (F → Option Contents) → (F → ℕ) → (F → ℕ) → F → S → K → Seen S K
-seen told read_faults write_faults files input output = record {
-  files = told files;
-  read_faults = read_faults files;
-  write_faults = write_faults files;
-  input = input;
-  output = output;
+abbrev pub files_seen : {F : Type 0} → FilesGhosts F → F → FilesSeen
+files_seen show files = record {
+  told = show.told files;
+  read_faults = show.read_faults files;
+  write_faults = show.write_faults files;
 }
 
--- the same of a call that reaches no input and no output
-abbrev pub files_seen : {F : Type 0} → (F → Option Contents) → (F → ℕ) → (F → ℕ) → F → Seen (Unit {0}) (Unit {0})
-files_seen told read_faults write_faults files = seen told read_faults write_faults files tt tt
-
 -- the bytes of a file, where they are told and there is such a file
-abbrev pub bytes_of : Option Contents → List ℕ → Option (List ℕ)
-bytes_of told file = option_and_then (λ files. files file) told
+abbrev pub bytes_of : FilesSeen → List ℕ → Option (List ℕ)
+bytes_of seen file = option_and_then (λ files. files file) seen.told
 
--- There are bytes of which this is true, and where the files are told, they are those of the file.
-abbrev pub HoldsSome : Option Contents → List ℕ → (List ℕ → Type 0) → Type 0
-HoldsSome told file Holds = (bytes : List ℕ) × IfSome told (λ files. files file ≡ Some bytes) × Holds bytes
+-- where the files are told, this one holds these bytes
+abbrev pub MayHold : FilesSeen → List ℕ → List ℕ → Type 0
+MayHold seen file bytes = IfSome seen.told (λ files. files file ≡ Some bytes)
 
 -- a read has failed in the call
-abbrev pub ReadFailed : {S K : Type 0} → Seen S K → Seen S K → Type 0
+abbrev pub ReadFailed : FilesSeen → FilesSeen → Type 0
 ReadFailed before after = Rose before.read_faults after.read_faults
 
 -- a write has failed in the call
-abbrev pub WriteFailed : {S K : Type 0} → Seen S K → Seen S K → Type 0
+abbrev pub WriteFailed : FilesSeen → FilesSeen → Type 0
 WriteFailed before after = Rose before.write_faults after.write_faults
 
 -- every file holds what it held
-abbrev pub SameFiles : Option Contents → Option Contents → Type 0
-SameFiles before after = WhereTold before after (λ old new. (file : List ℕ) → new file ≡ old file)
+abbrev pub SameFiles : FilesSeen → FilesSeen → Type 0
+SameFiles before after = WhereTold before.told after.told (λ old new. (file : List ℕ) → new file ≡ old file)
 
--- no input was taken and nothing was put on the output
-pub record IsSilent {S K : Type 0} (before after : Seen S K) : Type 0 where
-  pub takes_nothing : after.input ≡ before.input
-  pub puts_nothing : after.output ≡ before.output
+-- ---- all of it
+
+-- The files, and the input and the output: each of the two with what it tells and the count of its faults.
+pub record Seen (S K : Type 0) : Type 0 where
+  pub files : FilesSeen
+  pub streams : Objects S K
+
+abbrev pub seen : {F S K : Type 0} → FilesGhosts F → SourceGhosts S → SinkGhosts K → F → S → K → Seen S K
+seen files_show source_shows sink_shows files input output = record {
+  files = files_seen files_show files;
+  streams = objects source_shows sink_shows input output;
+}
+
+-- no input was taken, nothing was put on the output, and no fault of the two was counted
+abbrev pub IsSilent : {S K : Type 0} → Seen S K → Seen S K → Type 0
+IsSilent before after = after.streams ≡ before.streams

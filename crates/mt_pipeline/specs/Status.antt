@@ -1,10 +1,12 @@
 -- The status of each answer (this project's own; 64, 65, 66, 71, 73 and 74 were chosen after sysexits.h).
 use Rattle.std.specs.Prelude.{ℕ}
 use Rattle.a64_code.specs.declared.end.MachineEnd.{MachineEnd}
-use Rattle.a64_code.specs.declared.end.MachineEnd.TheVariants.{Exited as ExitedSo, TagFault as TagFaultAt, MemoryFault as MemoryFaultAt, AlignFault as AlignFaultAt, StackFault as StackFaults, BadCode as BadCodeAt, Divide as Divides, OutOfSteps as StepsOver, InputFault as InputFaults, OutputFault as OutputFaults}
+use Rattle.a64_code.specs.declared.end.MachineEnd.TheVariants as end
 use Rattle.mt_pipeline.specs.declared.ended.Ended.{Ended}
 use Rattle.mt_pipeline.specs.declared.ended.Why.{Why}
-use Rattle.mt_pipeline.specs.declared.ended.Why.TheVariants.{Done, Exited, Usage, Refused, NoFile, BadImage, NoMemory, WriteFault, OutputFault, ReadFault, InputFault, TagFault, MemoryFault, AlignFault, StackFault, BadCode, Divide, OutOfSteps}
+use Rattle.mt_pipeline.specs.declared.ended.Why.TheVariants.{Done, Exited, Usage, Refused, NoFile, Link, BadImage, NoMemory}
+use Rattle.mt_pipeline.specs.declared.ended.Why.TheVariants.{WriteFault, OutputFault, ReadFault, InputFault, OutOfSteps}
+use Rattle.mt_pipeline.specs.declared.ended.Why.TheVariants.{TagFault, MemoryFault, AlignFault, StackFault, BadCode, Divide}
 
 -- `own` is the status of the program that was run
 abbrev pub status_of : ℕ → Why → ℕ
@@ -13,6 +15,7 @@ status_of own Exited = own
 status_of own Usage = 64
 status_of own (Refused file number place) = 65
 status_of own (NoFile file) = 66
+status_of own (Link number) = 67
 status_of own (BadImage file number place) = 68
 status_of own NoMemory = 71
 status_of own (WriteFault file) = 73
@@ -27,18 +30,34 @@ status_of own (BadCode at) = 84
 status_of own Divide = 85
 status_of own OutOfSteps = 86
 
+-- what is answered for a reason, where the program that was run has this status of its own
+abbrev pub ended_so : ℕ → Why → Ended
+ended_so own why = record { status = status_of own why; why = why }
+
+-- what is answered for a reason, where no program has a status of its own
+abbrev pub ends : Why → Ended
+ends why = ended_so 0 why
+
+-- the end of a run as a reason, and the program's own status
+abbrev pub why_of : MachineEnd → Why
+why_of (end.Exited status) = Exited
+why_of (end.TagFault at pointer_tag memory_tag) = TagFault at pointer_tag memory_tag
+why_of (end.MemoryFault at) = MemoryFault at
+why_of (end.AlignFault at) = AlignFault at
+why_of end.StackFault = StackFault
+why_of (end.BadCode at) = BadCode at
+why_of end.Divide = Divide
+why_of end.OutOfSteps = OutOfSteps
+why_of end.InputFault = InputFault
+why_of end.OutputFault = OutputFault
+
+abbrev pub own_status : MachineEnd → ℕ
+own_status (end.Exited status) = status
+own_status _ = 0
+
 -- what is answered to the end of a run
 abbrev pub ended_by : MachineEnd → Ended
-ended_by (ExitedSo status) = record { status = status; why = Exited }
-ended_by (TagFaultAt at pointer_tag memory_tag) = record { status = 80; why = TagFault at pointer_tag memory_tag }
-ended_by (MemoryFaultAt at) = record { status = 81; why = MemoryFault at }
-ended_by (AlignFaultAt at) = record { status = 82; why = AlignFault at }
-ended_by StackFaults = record { status = 83; why = StackFault }
-ended_by (BadCodeAt at) = record { status = 84; why = BadCode at }
-ended_by Divides = record { status = 85; why = Divide }
-ended_by StepsOver = record { status = 86; why = OutOfSteps }
-ended_by InputFaults = record { status = 74; why = InputFault }
-ended_by OutputFaults = record { status = 73; why = OutputFault }
+ended_by end = ended_so (own_status end) (why_of end)
 
 -- the reasons that need no line: the program says by its status how it went
 abbrev pub HasNoLine : Why → Type 0

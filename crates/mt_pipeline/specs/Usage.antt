@@ -1,9 +1,11 @@
--- What words that ask for nothing leave.
+-- What is answered to words that ask for nothing (this project's own).
 use Rattle.std.specs.Prelude.{◌≡◌}
-use Rattle.mt_pipeline.specs.Seen.{Seen, SameFiles, IsSilent}
+use Rattle.mt_pipeline.specs.Seen.{Seen}
+use Rattle.mt_pipeline.specs.Status.{ends}
+use Rattle.mt_pipeline.specs.declared.ended.Ended.{Ended}
+use Rattle.mt_pipeline.specs.declared.ended.Why.TheVariants.{Usage}
 
-pub record UsageAnswers {S K : Type 0} (before after : Seen S K) : Type 0 where
-  pub silent : IsSilent before after
-  pub files : SameFiles before.files after.files
-  pub reads : after.read_faults ≡ before.read_faults
-  pub writes : after.write_faults ≡ before.write_faults
+pub record UsageAnswers {S K : Type 0} (before after : Seen S K) (ended : Ended) : Type 0 where
+  pub usage : ended ≡ ends Usage
+  -- nothing outside was touched
+  pub untouched : after ≡ before

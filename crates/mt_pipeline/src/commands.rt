@@ -1,19 +1,19 @@
 // The commands.
 ghost use Rattle.std.specs.Prelude.{◌≡◌};
 ghost use Rattle.mt_pipeline.specs.Answer.{ended_of};
-ghost use Rattle.mt_pipeline.specs.Build.{BuildAnswers};
-ghost use Rattle.mt_pipeline.specs.Defaults.{default_choices};
+ghost use Rattle.mt_pipeline.specs.Build.{WritesBuilt};
 ghost use Rattle.mt_pipeline.specs.Go.{GoAnswers};
-ghost use Rattle.mt_pipeline.specs.Run.{RunAnswers};
+ghost use Rattle.mt_pipeline.specs.Ran.{default_choices};
+ghost use Rattle.mt_pipeline.specs.RunFile.{RunAnswers};
 ghost use Rattle.mt_pipeline.specs.Seen.{files_seen, seen};
 
 use crate::answer::Answer;
-use crate::image::{image_bytes, parts_of};
+use crate::builder::{image_bytes, parts_of};
 use crate::read::read_file;
 use crate::refusal::RunRefusal;
 use crate::runner::{run_image, run_parts};
-use crate::source::SourceText;
 use mt_base::Tag;
+use mt_compile::SourceText;
 use mt_outside::{Files, Sink, Source, WriteAnswer};
 use std::alloc::Global;
 use tag_startup::StartRefusal;
@@ -30,16 +30,16 @@ pub fn go<F: Files, S: Source, K: Sink>(
     input: &mut S,
     out: &mut K,
 ) -> Answer
-    ensures { GoAnswers file.now steps (seen F.told F.read_faults F.write_faults files.old input.old out.old)
-        (seen F.told F.read_faults F.write_faults files.new input.new out.new) (ended_of result) }
+    ensures { GoAnswers file.now steps (seen F.Files S.Source K.Sink files.old input.old out.old)
+        (seen F.Files S.Source K.Sink files.new input.new out.new) (ended_of result) }
 {
     let bytes = match read_file(alloc, files, file) {
         Ok(bytes) => bytes,
-        Err(answer) => return answer,
+        Err(unread) => return unread.answer(),
     };
-    let parts = match parts_of(alloc, &SourceText { bytes }) {
+    let parts = match parts_of(alloc, &[SourceText { bytes }]) {
         Ok(parts) => parts,
-        Err(refused) => return refused.answer(),
+        Err(unbuilt) => return unbuilt.answer(),
     };
     match run_parts(
         alloc,
@@ -61,16 +61,15 @@ pub fn go<F: Files, S: Source, K: Sink>(
 
 /// Builds a source and writes the image.
 pub fn write_built<F: Files>(alloc: Global, file: &str, out_file: &str, files: &mut F) -> Answer
-    ensures { BuildAnswers file.now out_file.now (files_seen F.told F.read_faults F.write_faults files.old)
-        (files_seen F.told F.read_faults F.write_faults files.new) (ended_of result) }
+    ensures { WritesBuilt file.now out_file.now (files_seen F.Files files.old) (files_seen F.Files files.new) (ended_of result) }
 {
     let bytes = match read_file(alloc, files, file) {
         Ok(bytes) => bytes,
-        Err(answer) => return answer,
+        Err(unread) => return unread.answer(),
     };
-    let image = match image_bytes(alloc, &SourceText { bytes }) {
+    let image = match image_bytes(alloc, &[SourceText { bytes }]) {
         Ok(image) => image,
-        Err(refused) => return refused.answer(),
+        Err(unbuilt) => return unbuilt.answer(),
     };
     match files.write(out_file, &image) {
         WriteAnswer::Done => Answer::Done,
@@ -88,12 +87,12 @@ pub fn run_file<F: Files, S: Source, K: Sink>(
     input: &mut S,
     out: &mut K,
 ) -> Answer
-    ensures { RunAnswers file.now steps (seen F.told F.read_faults F.write_faults files.old input.old out.old)
-        (seen F.told F.read_faults F.write_faults files.new input.new out.new) (ended_of result) }
+    ensures { RunAnswers file.now steps (seen F.Files S.Source K.Sink files.old input.old out.old)
+        (seen F.Files S.Source K.Sink files.new input.new out.new) (ended_of result) }
 {
     let bytes = match read_file(alloc, files, file) {
         Ok(bytes) => bytes,
-        Err(answer) => return answer,
+        Err(unread) => return unread.answer(),
     };
     match run_image(
         alloc,
@@ -105,15 +104,7 @@ pub fn run_file<F: Files, S: Source, K: Sink>(
         out,
     ) {
         Ok(end) => Answer::Ran(end),
-        Err(RunRefusal::Image(refusal)) => Answer::BadImage {
-            file: 0,
-            refusal: RunRefusal::Image(refusal),
-        },
-        Err(RunRefusal::Start(refusal)) => Answer::BadImage {
-            file: 0,
-            refusal: RunRefusal::Start(refusal),
-        },
-        Err(RunRefusal::NoMemory) => Answer::NoMemory,
+        Err(refusal) => refusal.answer(),
     }
 }
 

@@ -1,21 +1,19 @@
 // The top call.
-ghost use Rattle.std.specs.Prelude.{◌≡◌, ◌↔◌, ℕ, List, map};
+ghost use Rattle.std.specs.Prelude.{◌≡◌, ◌↔◌, map};
 ghost use Rattle.std.specs.String.{string_bytes};
 ghost use Rattle.mt_pipeline.specs.Answer.{ended_of};
-ghost use Rattle.mt_pipeline.specs.Build.{BuildAnswers};
-ghost use Rattle.mt_pipeline.specs.Go.{GoAnswers};
-ghost use Rattle.mt_pipeline.specs.Job.{Job, Go, Build, Run, HasJob};
+ghost use Rattle.mt_pipeline.specs.Answers.{Answers};
+ghost use Rattle.mt_pipeline.specs.Job.{Job, HasJob};
 ghost use Rattle.mt_pipeline.specs.NoWords.{why_without_words};
-ghost use Rattle.mt_pipeline.specs.Run.{RunAnswers};
 ghost use Rattle.mt_pipeline.specs.Seen.{seen};
-ghost use Rattle.mt_pipeline.specs.Status.{HasNoLine, status_of};
+ghost use Rattle.mt_pipeline.specs.Status.{HasNoLine, ends, status_of};
 ghost use Rattle.mt_pipeline.specs.Usage.{UsageAnswers};
 
 use crate::answer::Answer;
 use crate::command::{Command, command_of};
 use crate::commands::{go, run_file, write_built};
 use crate::ended::{Ended, Why};
-use crate::report::report;
+use crate::report::finish;
 use mt_outside::{Files, Sink, Source};
 use std::alloc::Global;
 
@@ -29,20 +27,11 @@ pub fn drive<F: Files, S: Source, K: Sink, E: Sink>(
     out: &mut K,
     err: &mut E,
 ) -> Ended
+    ensures answers { (job : Job) → HasJob (map string_bytes words.now) job →
+        Answers job (seen F.Files S.Source K.Sink files.old input.old out.old) (seen F.Files S.Source K.Sink files.new input.new out.new) result }
     ensures usage { (result.why ≡ Why.Usage) ↔ ((job : Job) → ¬ HasJob (map string_bytes words.now) job) }
     ensures no_job { ((job : Job) → ¬ HasJob (map string_bytes words.now) job) →
-        UsageAnswers (seen F.told F.read_faults F.write_faults files.old input.old out.old)
-        (seen F.told F.read_faults F.write_faults files.new input.new out.new) }
-
-    ensures go { (file : List ℕ) (steps : ℕ) → HasJob (map string_bytes words.now) (Go file steps) →
-        GoAnswers file steps (seen F.told F.read_faults F.write_faults files.old input.old out.old)
-        (seen F.told F.read_faults F.write_faults files.new input.new out.new) result }
-    ensures build { (file out_file : List ℕ) → HasJob (map string_bytes words.now) (Build file out_file) →
-        BuildAnswers file out_file (seen F.told F.read_faults F.write_faults files.old input.old out.old)
-        (seen F.told F.read_faults F.write_faults files.new input.new out.new) result }
-    ensures run { (image : List ℕ) (steps : ℕ) → HasJob (map string_bytes words.now) (Run image steps) →
-        RunAnswers image steps (seen F.told F.read_faults F.write_faults files.old input.old out.old)
-        (seen F.told F.read_faults F.write_faults files.new input.new out.new) result }
+        UsageAnswers (seen F.Files S.Source K.Sink files.old input.old out.old) (seen F.Files S.Source K.Sink files.new input.new out.new) result }
 
     ensures status { result.status ≡ status_of result.status result.why }
     ensures quiet { HasNoLine result.why → err.new ≡ err.old }
@@ -72,8 +61,7 @@ pub enum NoWords {
 
 /// What is answered where the words after the program's name could not be had.
 pub fn end_without_words<E: Sink>(err: &mut E, cause: NoWords) -> Ended
-    ensures why { result.why ≡ why_without_words cause }
-    ensures status { result.status ≡ status_of result.status result.why }
+    ensures { result ≡ ends (why_without_words cause) }
 {
     match cause {
         NoWords::NotText => finish(err, "", Answer::Usage),
@@ -90,13 +78,4 @@ fn finish_build<E: Sink>(err: &mut E, file: &str, image: &str, answer: Answer) -
         Answer::WriteFault { .. } => finish(err, image, answer),
         _ => finish(err, file, answer),
     }
-}
-
-// Puts the line of an answer, and ends with it.
-fn finish<E: Sink>(err: &mut E, file: &str, answer: Answer) -> Ended
-    ensures ended { result ≡ ended_of answer }
-    ensures quiet { HasNoLine result.why → err.new ≡ err.old }
-{
-    report(err, file, &answer);
-    answer.ended()
 }

@@ -2,26 +2,22 @@
 #![tactic(auto)]
 
 mod answer;
-mod code;
+mod builder;
 mod command;
 mod commands;
-mod constant;
 mod driver;
 mod ended;
-mod image;
 mod read;
 mod refusal;
-mod refused;
 mod report;
 mod runner;
-mod source;
+mod unbuilt;
 
+pub use answer::Answer;
+pub use builder::build;
 pub use driver::{NoWords, drive, end_without_words};
 pub use ended::{Ended, Why};
-pub use image::build;
-pub use refusal::{CompileRefusal, RunRefusal};
+pub use mt_compile::{CompileRefusal, SourceText};
+pub use refusal::{BuildRefusal, LinkRefusal, RunRefusal};
+pub use report::finish;
 pub use runner::run_image;
-pub use source::SourceText;
-
-#[cfg(test)]
-mod tests;

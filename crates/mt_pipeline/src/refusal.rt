@@ -1,48 +1,71 @@
-// Why a source or an image is refused.
+// Why texts are not built, and why an image does not run.
+ghost use Rattle.std.specs.Prelude.{◌≡◌};
+ghost use Rattle.mt_pipeline.specs.declared.refusal.LinkRefusal.TheVariants.{NoMemory as LinkNoMemory};
 
-use c_lex::LexRefusal;
-use c_parse::ParseRefusal;
+use crate::answer::Answer;
+use c_ast::Name;
 use elf_image::ImageRefusal;
+use mt_compile::CompileRefusal;
+use std::alloc::AllocError;
 use tag_startup::StartRefusal;
 use thiserror::Error;
 
-/// Why a source is refused. A refusal inside is never the want of memory.
+/// Why code is not linked.
 #[derive(Debug, Drop, Error)]
-pub enum CompileRefusal {
-    /// Its text is too long, or not gaps and tokens in turn.
-    #[error("{0}")]
-    Lex(LexRefusal),
-    /// Its tokens spell no program that is read.
-    #[error("{0}")]
-    Parse(ParseRefusal),
-    /// Its program is not of the form that is taken today.
-    #[error("NotYet")]
-    NotYet,
+pub enum LinkRefusal {
+    /// There is code of more than 16 texts, of so many.
+    #[error("TooManyObjects")]
+    TooManyObjects { count: u64 },
+    /// Two texts define this name.
+    #[error("Duplicate")]
+    Duplicate { name: Name },
+    /// No text defines a function `main`.
+    #[error("NoMain")]
+    NoMain,
     /// Want of memory.
     #[error("NoMemory")]
     NoMemory,
 }
 
-impl CompileRefusal {
-    ghost use Rattle.std.specs.Prelude.{◌≡◌};
-    ghost use Rattle.mt_pipeline.specs.Refused.{number_of};
+impl LinkRefusal {
+    ghost use Rattle.mt_pipeline.specs.Refusals.{link_number};
 
     /// The refusal's number, and 0 for want of memory.
     pub fn number(&self) -> u8
-        ensures { result ≡ number_of self.now }
+        ensures { result ≡ link_number self.now }
     {
         match self {
-            CompileRefusal::Lex(refusal) => refusal.number(),
-            CompileRefusal::Parse(ParseRefusal::Unexpected { .. }) => 7,
-            CompileRefusal::Parse(ParseRefusal::TooDeep { .. }) => 8,
-            CompileRefusal::Parse(ParseRefusal::NoMemory) => 0,
-            CompileRefusal::NotYet => 44,
-            CompileRefusal::NoMemory => 0,
+            LinkRefusal::TooManyObjects { .. } => 41,
+            LinkRefusal::Duplicate { .. } => 39,
+            LinkRefusal::NoMain => 40,
+            LinkRefusal::NoMemory => 0,
         }
     }
 }
 
-/// Why an image does not run.
+impl From<AllocError> for LinkRefusal {
+    ghost from_gives = { λ _ refusal. refusal ≡ LinkNoMemory };
+
+    fn from(_: AllocError) -> LinkRefusal {
+        LinkRefusal::NoMemory
+    }
+}
+
+/// Why texts are not built. A refusal inside is never the want of memory.
+#[derive(Debug, Drop, Error)]
+pub enum BuildRefusal {
+    /// The text of this number, from 0, is refused.
+    #[error("{refusal}")]
+    Compile { file: u32, refusal: CompileRefusal },
+    /// Their code is not linked.
+    #[error("{0}")]
+    Link(LinkRefusal),
+    /// Want of memory.
+    #[error("NoMemory")]
+    NoMemory,
+}
+
+/// Why an image does not run. A refusal inside is never the want of memory.
 #[derive(Debug, Drop, Error)]
 pub enum RunRefusal {
     /// Its bytes are no image that is read today.
@@ -54,4 +77,31 @@ pub enum RunRefusal {
     /// Want of memory.
     #[error("NoMemory")]
     NoMemory,
+}
+
+impl RunRefusal {
+    ghost use Rattle.mt_pipeline.specs.Refusals.{run_number};
+    ghost use Rattle.mt_pipeline.specs.Unrun.{answer_to_run};
+
+    /// The refusal's number, and 0 for want of memory.
+    pub fn number(&self) -> u8
+        ensures { result ≡ run_number self.now }
+    {
+        match self {
+            RunRefusal::Image(ImageRefusal::NotYet) | RunRefusal::Start(StartRefusal::NotYet) => 44,
+            RunRefusal::Image(ImageRefusal::NoMemory)
+            | RunRefusal::Start(StartRefusal::NoMemory)
+            | RunRefusal::NoMemory => 0,
+        }
+    }
+
+    /// What a command answers whose first file is the image.
+    pub(crate) fn answer(self) -> Answer
+        ensures { result ≡ answer_to_run self }
+    {
+        match self {
+            RunRefusal::NoMemory => Answer::NoMemory,
+            refusal => Answer::BadImage { file: 0, refusal },
+        }
+    }
 }

@@ -4,8 +4,10 @@ ghost use Rattle.mt_pipeline.specs.Answer.{ended_of};
 ghost use Rattle.mt_pipeline.specs.Status.{HasNoLine, ended_by};
 
 use crate::answer::Answer;
-use crate::refusal::CompileRefusal;
+use crate::ended::Ended;
+use crate::refusal::LinkRefusal;
 use c_lex::LexRefusal;
+use mt_compile::CompileRefusal;
 use mt_outside::{PutAnswer, Sink};
 use mte_machine::MachineEnd;
 use std::fmt;
@@ -17,12 +19,19 @@ struct Line<'a, E: Sink> {
     sink: &'a mut E,
 }
 
-impl<'a, E: Sink> Write for Line<'a, E> {
-    fn write_str(&mut self, s: &str) -> fmt::Result {
-        match self.sink.put(s.as_bytes()) {
+impl<'a, E: Sink> Line<'a, E> {
+    // Puts these bytes.
+    fn put(&mut self, bytes: &[u8]) -> fmt::Result {
+        match self.sink.put(bytes) {
             PutAnswer::Done => Ok(()),
             PutAnswer::Failed => Err(fmt::Error),
         }
+    }
+}
+
+impl<'a, E: Sink> Write for Line<'a, E> {
+    fn write_str(&mut self, s: &str) -> fmt::Result {
+        self.put(s.as_bytes())
     }
 }
 
@@ -69,8 +78,29 @@ fn report_refusal<E: Sink>(
     }
 }
 
-/// Puts the line of an answer about this file. A fault of the sink changes no answer.
-pub fn report<E: Sink>(err: &mut E, file: &str, answer: &Answer)
+// Puts the line of code that is not linked, with the name that is defined twice.
+fn report_link<E: Sink>(line: &mut Line<'_, E>, refusal: &LinkRefusal) -> fmt::Result {
+    match refusal {
+        LinkRefusal::Duplicate { name } => {
+            write!(line, "mtcc: {refusal} ")?;
+            line.put(name.as_slice())?;
+            write!(line, "\n")
+        }
+        _ => write!(line, "mtcc: {refusal}\n"),
+    }
+}
+
+/// Puts the line of an answer about this file, and ends with the answer's status. A fault of the sink changes nothing.
+pub fn finish<E: Sink>(err: &mut E, file: &str, answer: Answer) -> Ended
+    ensures ended { result ≡ ended_of answer }
+    ensures quiet { HasNoLine result.why → err.new ≡ err.old }
+{
+    report(err, file, &answer);
+    answer.ended()
+}
+
+// Puts the line of an answer about this file.
+fn report<E: Sink>(err: &mut E, file: &str, answer: &Answer)
     ensures quiet { HasNoLine (ended_of answer.now).why → err.new ≡ err.old }
 {
     let mut line = Line { sink: err };
@@ -80,6 +110,7 @@ pub fn report<E: Sink>(err: &mut E, file: &str, answer: &Answer)
         Answer::Usage => write!(line, "mtcc: usage\n"),
         Answer::Refused { place, refusal, .. } => report_refusal(&mut line, file, *place, refusal),
         Answer::NoFile { .. } => write!(line, "mtcc: {file}: no such file\n"),
+        Answer::Link(refusal) => report_link(&mut line, refusal),
         Answer::BadImage { refusal, .. } => write!(line, "mtcc: {file}: {refusal}\n"),
         Answer::NoMemory => write!(line, "mtcc: out of memory\n"),
         Answer::WriteFault { .. } => write!(line, "mtcc: {file}: write fault\n"),

@@ -1,14 +1,11 @@
 // The run of an image.
 ghost use Rattle.std.specs.Prelude.{◌≡◌, ◌≢◌, ◌⊎◌, [], IfErr, IfOk, IsErrOf};
-ghost use Rattle.a64_code.specs.Outside.{Outside};
-ghost use Rattle.a64_code.specs.State.{State};
 ghost use Rattle.elf_image.specs.Constant.{IsConstantFile};
 ghost use Rattle.elf_image.specs.Image.{Image, image_of};
 ghost use Rattle.elf_image.specs.Places.{IsValid};
-ghost use Rattle.mte_machine.specs.Answers.{RunAnswers};
 ghost use Rattle.mte_machine.specs.Objects.{objects};
-ghost use Rattle.mte_machine.specs.Run.{run, end_of};
-ghost use Rattle.tag_startup.specs.Loaded.{HoldsCodeAlone, IsStack, loaded};
+ghost use Rattle.tag_startup.specs.Loaded.{HoldsCodeAlone, IsStack};
+ghost use Rattle.tag_startup.specs.Machine.{RunsImage};
 
 use crate::refusal::RunRefusal;
 use elf_image::{ImageParts, ImageRefusal, read_image};
@@ -32,8 +29,8 @@ pub fn run_image<S: Source, K: Sink>(
     requires choices { choices.now ≢ [] }
     requires stack { IsStack stack }
     ensures image { IfOk result (λ _. (image : Image) × IsConstantFile image bytes.now) }
-    ensures runs { IfOk result (λ end. (image : Image) → IsConstantFile image bytes.now
-        → (outside : Outside) → end ≡ end_of (run n (loaded image choices.now stack outside))) }
+    ensures runs { IfOk result (λ end. (image : Image) → IsConstantFile image bytes.now →
+        RunsImage image choices.now stack n (objects S.Source K.Sink source.old sink.old) (objects S.Source K.Sink source.new sink.new) end) }
     ensures refused { IfErr result (λ refusal. (refusal ≡ RunRefusal.NoMemory)
         ⊎ ((refusal ≡ RunRefusal.Image ImageRefusal.NotYet) × ((image : Image) → ¬ IsConstantFile image bytes.now))) }
     ensures input { source.new ≡ source.old }
@@ -64,8 +61,7 @@ pub fn run_parts<S: Source, K: Sink>(
     requires valid { IsValid (image_of parts.now) }
     requires choices { choices.now ≢ [] }
     requires stack { IsStack stack }
-    // The machine goes from the image's state, and leaves another one.
-    ensures runs { IfOk result (λ end. (left : Outside → State) × RunAnswers n (loaded (image_of parts.now) choices.now stack) left
+    ensures runs { IfOk result (λ end. RunsImage (image_of parts.now) choices.now stack n
         (objects S.Source K.Sink source.old sink.old) (objects S.Source K.Sink source.new sink.new) end) }
     ensures not_yet { IsErrOf result StartRefusal.NotYet → ¬ HoldsCodeAlone (image_of parts.now) }
     ensures refused { IfErr result (λ _. (source.new ≡ source.old) × (sink.new ≡ sink.old)) }

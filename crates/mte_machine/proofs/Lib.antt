@@ -6,7 +6,6 @@ pub mod Judgement
 pub mod Led
 pub mod NoFault
 pub mod NumberLaws
-pub mod OutOfSteps
 pub mod Performed
 pub mod ReadLaws
 pub mod TagLaws

@@ -1,5 +1,6 @@
 -- What is known of an outside by what a source and a sink tell of their content.
-use Rattle.std.proofs.Common.{◌≡◌, ◌≤◌, ◌-◌, ◌^◌, ℕ, zero, suc, Bool, true, false, List, [], ◌∷◌, ◌++◌, map, take, Option, Some, None, refl, sym, ap, ◌∙◌, arith}
+use Rattle.std.proofs.Common.{◌≡◌, ◌≤◌, ◌-◌, ◌^◌, ℕ, zero, suc, Bool, true, false, List, [], ◌∷◌, ◌++◌, map, take, Option, Some, None}
+use Rattle.std.proofs.Common.{refl, sym, ap, ◌∙◌, arith}
 use Rattle.std.specs.Prelude.{if◌then◌else◌}
 use Rattle.std.proofs.lemmas.List.{append-nil}
 use Rattle.mt_outside.specs.Told.{WhereTold}
@@ -29,7 +30,8 @@ some_taken-may None = tt
 some_taken-may (Some bytes) = refl
 
 -- what tells goes on telling, whatever else holds
-pub goes_telling : (before after : Option (List ℕ)) (Holds : List ℕ → List ℕ → Type 0) → WhereTold before after Holds → WhereTold before after (λ _ _. Unit {0})
+pub goes_telling : (before after : Option (List ℕ)) (Holds : List ℕ → List ℕ → Type 0) → WhereTold before after Holds →
+    WhereTold before after (λ _ _. Unit {0})
 goes_telling None None Holds told = tt
 goes_telling (Some b) (Some a) Holds told = tt
 goes_telling None (Some a) Holds told = told
@@ -39,7 +41,8 @@ pub tells_still : (told : Option (List ℕ)) → WhereTold told told (λ _ _. Un
 tells_still None = tt
 tells_still (Some bytes) = tt
 
-pub tells_then : (before between after : Option (List ℕ)) → WhereTold before between (λ _ _. Unit {0}) → WhereTold between after (λ _ _. Unit {0}) → WhereTold before after (λ _ _. Unit {0})
+pub tells_then : (before between after : Option (List ℕ)) → WhereTold before between (λ _ _. Unit {0}) →
+    WhereTold between after (λ _ _. Unit {0}) → WhereTold before after (λ _ _. Unit {0})
 tells_then None None None first second = tt
 tells_then None None (Some a) first second = second
 tells_then None (Some c) after first second = absurd first
@@ -49,7 +52,8 @@ tells_then (Some b) (Some c) (Some a) first second = tt
 
 -- ---- a sink
 
-pub told_put : (before after : Option (List ℕ)) (taken put : List ℕ) → WhereTold before after (PutGives put Done) → MayHaveTaken before taken → MayHaveTaken after (taken ++ put)
+pub told_put : (before after : Option (List ℕ)) (taken put : List ℕ) → WhereTold before after (PutGives put Done) →
+    MayHaveTaken before taken → MayHaveTaken after (taken ++ put)
 told_put None None taken put told may = tt
 told_put None (Some a) taken put told may = absurd told
 told_put (Some b) None taken put told may = absurd told
@@ -65,7 +69,8 @@ kept_some b a taken byte zero few is may = record { keeps = false; may = may ∙
 kept_some b a taken byte (suc zero) few is may = record { keeps = true; may = ap (λ (t : List ℕ). t ++ byte ∷ []) may ∙ sym is }
 kept_some b a taken byte (suc (suc count)) few is may = absurd (omega arith)
 
-pub told_failed : (before after : Option (List ℕ)) (taken : List ℕ) (byte : ℕ) → WhereTold before after (PutGives (byte ∷ []) Failed) → MayHaveTaken before taken → Kept after taken byte
+pub told_failed : (before after : Option (List ℕ)) (taken : List ℕ) (byte : ℕ) → WhereTold before after (PutGives (byte ∷ []) Failed) →
+    MayHaveTaken before taken → Kept after taken byte
 told_failed None None taken byte told may = record { keeps = false; may = tt }
 told_failed None (Some a) taken byte told may = absurd told
 told_failed (Some b) None taken byte told may = absurd told
@@ -80,7 +85,8 @@ pub record Gives (before : Option (List ℕ)) (answers : List (Option ℕ)) (num
   pub tells : next_number from ≡ number
   pub left : left_after from ≡ answers
 
-pub told_byte : (before after : Option (List ℕ)) (byte : ℕ) (answers : List (Option ℕ)) → WhereTold before after (NextGives (Byte byte)) → MayAnswer after answers → Gives before answers byte
+pub told_byte : (before after : Option (List ℕ)) (byte : ℕ) (answers : List (Option ℕ)) → WhereTold before after (NextGives (Byte byte)) →
+    MayAnswer after answers → Gives before answers byte
 told_byte None None byte answers told may = record { from = Some byte ∷ answers; may = tt; tells = refl; left = refl }
 told_byte None (Some a) byte answers told may = absurd told
 told_byte (Some b) None byte answers told may = absurd told
@@ -91,7 +97,8 @@ told_byte (Some b) (Some a) byte answers told may = record {
   left = refl;
 }
 
-pub told_end : (before after : Option (List ℕ)) (answers : List (Option ℕ)) → WhereTold before after (NextGives End) → MayAnswer after answers → Gives before answers (2 ^ 64 - 1)
+pub told_end : (before after : Option (List ℕ)) (answers : List (Option ℕ)) → WhereTold before after (NextGives End) →
+    MayAnswer after answers → Gives before answers (2 ^ 64 - 1)
 told_end None None answers told may = record { from = None ∷ answers; may = tt; tells = refl; left = refl }
 told_end None (Some a) answers told may = absurd told
 told_end (Some b) None answers told may = absurd told
@@ -102,7 +109,8 @@ told_end (Some b) (Some a) answers told may = record {
   left = sym (may ∙ ap (λ (bytes : List ℕ). map Some bytes) told.1);
 }
 
-pub told_same : (before after : Option (List ℕ)) (answers : List (Option ℕ)) → WhereTold before after (NextGives NextFailed) → MayAnswer before answers → MayAnswer after answers
+pub told_same : (before after : Option (List ℕ)) (answers : List (Option ℕ)) → WhereTold before after (NextGives NextFailed) →
+    MayAnswer before answers → MayAnswer after answers
 told_same None None answers told may = tt
 told_same None (Some a) answers told may = absurd told
 told_same (Some b) None answers told may = absurd told

@@ -21,7 +21,8 @@ Spares without does new fault IsSame outside rest =
     (IsSame × (does (without outside) ≡ Leads (new (without rest)))) ⊎ (does (without outside) ≡ Ends fault)
 
 -- The step led from this outside to that one.
-pub record LeadsOn {S K : Type 0} (does : Outside → Stepped) (new : Outside → State) (before after : Objects S K) (outside rest : Outside) : Type 0 where
+pub record LeadsOn {S K : Type 0} (does : Outside → Stepped) (new : Outside → State) (before after : Objects S K)
+    (outside rest : Outside) : Type 0 where
   pub fits : Fits before outside
   pub leads : does outside ≡ Leads (new rest)
   pub source_kept : Spares without_input does new InputFault (after.source ≡ before.source) outside rest
@@ -29,14 +30,17 @@ pub record LeadsOn {S K : Type 0} (does : Outside → Stepped) (new : Outside �
 
 -- It ran, where the sink had taken these bytes before: whatever the objects stand for now, there is an outside before from
 -- which the step led there.
-pub record RanFrom {S K : Type 0} (does : Outside → Stepped) (new : Outside → State) (before after : Objects S K) (taken : List ℕ) : Type 0 where
+pub record RanFrom {S K : Type 0} (does : Outside → Stepped) (new : Outside → State) (before after : Objects S K)
+    (taken : List ℕ) : Type 0 where
   -- what the sink has taken now
   pub now : List ℕ
   pub told : MayHaveTaken after.output now
-  pub leads : (rest : Outside) → rest.output ≡ now → MayAnswer after.input rest.answers → (outside : Outside) × (outside.output ≡ taken) × LeadsOn does new before after outside rest
+  pub leads : (rest : Outside) → rest.output ≡ now → MayAnswer after.input rest.answers →
+      (outside : Outside) × (outside.output ≡ taken) × LeadsOn does new before after outside rest
 
 -- It ended the run, and the machine is as before.
-pub record EndedFrom {S K : Type 0} (does : Outside → Stepped) (old new : Outside → State) (before after : Objects S K) (taken : List ℕ) (end : MachineEnd) : Type 0 where
+pub record EndedFrom {S K : Type 0} (does : Outside → Stepped) (old new : Outside → State) (before after : Objects S K) (taken : List ℕ)
+    (end : MachineEnd) : Type 0 where
   pub outside : Outside
   pub output : outside.output ≡ taken
   pub fits : Fits before outside
@@ -52,13 +56,26 @@ pub record EndedFrom {S K : Type 0} (does : Outside → Stepped) (old new : Outs
   pub source_kept : (after.source ≡ before.source) ⊎ (does (without_input outside) ≡ Ends InputFault)
   pub sink_kept : (after.sink ≡ before.sink) ⊎ (does (without_output outside) ≡ Ends OutputFault)
 
-abbrev pub AnswersFrom : {S K : Type 0} → (Outside → Stepped) → (Outside → State) → (Outside → State) → Objects S K → Objects S K → List ℕ → Step → Type 0
+abbrev pub AnswersFrom : {S K : Type 0} → (Outside → Stepped) → (Outside → State) → (Outside → State) → Objects S K → Objects S K →
+    List ℕ → Step → Type 0
 AnswersFrom does old new before after taken Ran = RanFrom does new before after taken
 AnswersFrom does old new before after taken (Ended end) = EndedFrom does old new before after taken end
 
+-- The count of an object's faults is as before, unless this end is its fault.
+pub record CountsUpTo {S K : Type 0} (before after : Objects S K) (end : MachineEnd) : Type 0 where
+  pub read_faults : end ≢ InputFault → after.read_faults ≡ before.read_faults
+  pub write_faults : end ≢ OutputFault → after.write_faults ≡ before.write_faults
+
+-- A step that ran left both counts, and one that ended the run all but that of its fault.
+abbrev pub Counts : {S K : Type 0} → Objects S K → Objects S K → Step → Type 0
+Counts before after Ran = (after.read_faults ≡ before.read_faults) × (after.write_faults ≡ before.write_faults)
+Counts before after (Ended end) = CountsUpTo before after end
+
 -- What a step answers and leaves.
-pub record StepAnswers {S K : Type 0} (does : Outside → Stepped) (old new : Outside → State) (before after : Objects S K) (answer : Step) : Type 0 where
+pub record StepAnswers {S K : Type 0} (does : Outside → Stepped) (old new : Outside → State) (before after : Objects S K)
+    (answer : Step) : Type 0 where
   pub goes_on : GoesOn before after
+  pub counts : Counts before after answer
   pub answers : (taken : List ℕ) → MayHaveTaken before.output taken → AnswersFrom does old new before after taken answer
 
 -- ---- a run
@@ -75,9 +92,10 @@ pub record RunAnswers {S K : Type 0} (n : ℕ) (old new : Outside → State) (be
   pub goes_on : GoesOn before after
   pub input : MayAnswer after.input (answers_after (run n (old outside)))
   pub output : MayHaveTaken after.output (output_after (run n (old outside)))
-  -- a fault comes only where the count of that object rose
+  -- a fault comes only where the count of that object rose, and any other end left it
   pub input_fault : answer ≡ InputFault → Rose before.read_faults after.read_faults
   pub output_fault : answer ≡ OutputFault → Rose before.write_faults after.write_faults
+  pub counts : CountsUpTo before after answer
   -- an object that the run asks for nothing stays as it is
   pub source_kept : end_of (run n (old (without_input outside))) ≢ InputFault → after.source ≡ before.source
   pub sink_kept : end_of (run n (old (without_output outside))) ≢ OutputFault → after.sink ≡ before.sink

@@ -4,7 +4,10 @@ use Rattle.tag_mem.specs.declared.access.TagMemory.{Ghosts}
 use Rattle.a64_alu.specs.declared.flags.Flags.{Flags}
 use Rattle.a64_code.specs.Outside.{Outside}
 use Rattle.a64_code.specs.State.{State}
+use Rattle.a64_code.specs.Stepped.{Stepped}
 use Rattle.mte_machine.specs.declared.machine.Machine.{Machine}
+use Rattle.mte_machine.specs.declared.step.Step.{Step}
+use Rattle.mte_machine.specs.Run.{StepsAs}
 
 -- What the machine is, where its memory shows what the ghost members of its type say and this is the outside.
 abbrev pub state_of : {M : Type 0} → Ghosts M → Machine M → Outside → State
@@ -21,6 +24,11 @@ state_of shown m outside = record {
   drawn = m.drawn;
   outside = outside;
 }
+
+-- The machine does what `does` says of its state, over any outside, and answers so.
+abbrev pub Executes : {M : Type 0} → Ghosts M → (State → Stepped) → Machine M → Step → Machine M → Type 0
+Executes shown does old answer new =
+    (outside : Outside) → StepsAs (does (state_of shown old outside)) (state_of shown old outside) answer (state_of shown new outside)
 
 -- all of N, Z, C and V clear
 abbrev pub clear_flags : Flags

@@ -1,12 +1,10 @@
 // What instructions compute that the crate of arithmetic does not have as one function.
 ghost use Rattle.std.specs.Prelude.{◌≡◌, false};
 ghost use Rattle.a64_alu.specs.Width.{width, of_width};
+ghost use Rattle.a64_code.specs.Shape.{done};
 ghost use Rattle.a64_code.specs.Outside.{Outside};
-ghost use Rattle.a64_code.specs.State.{State};
-ghost use Rattle.a64_code.specs.Results.{puts, with_flags, number, chosen_or_next};
-ghost use Rattle.a64_alu.specs.Adding.{subtract_with_flags};
-ghost use Rattle.mte_machine.specs.Machine.{state_of};
-ghost use Rattle.mte_machine.specs.Run.{StepsAs};
+ghost use Rattle.a64_code.specs.Results.{subtracts, number, chosen_or_next};
+ghost use Rattle.mte_machine.specs.Machine.{state_of, Executes};
 
 use crate::machine::Machine;
 use crate::step::Step;
@@ -24,10 +22,7 @@ impl<M: TagMemory> Machine<M> {
 
     // Puts a difference into a general register, sets the flags by it, and goes on.
     pub(crate) fn put_difference(&mut self, wide: bool, register: Reg, x: u64, y: u64) -> Step
-        ensures { (w : Outside) → StepsAs
-            (puts false wide register (subtract_with_flags (width wide) (of_width wide x) (of_width wide y)).0
-            (with_flags (subtract_with_flags (width wide) (of_width wide x) (of_width wide y)).1 (state_of M.TagMemory self.old w)))
-            (state_of M.TagMemory self.old w) result (state_of M.TagMemory self.new w) }
+        ensures { Executes M.TagMemory (done (subtracts false wide register (of_width wide x) (of_width wide y))) self.old result self.new }
     {
         let (difference, flags) = subtract_with_flags(wide, x, y);
         self.flags = flags;

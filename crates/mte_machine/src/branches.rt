@@ -1,15 +1,17 @@
 // Branches and addresses relative to PC.
-ghost use Rattle.std.specs.Prelude.{◌≡◌, ◌≤◌, ◌+◌, ◌*◌};
+ghost use Rattle.std.specs.Prelude.{◌≡◌, ◌≤◌, ◌+◌, ◌*◌, true};
+ghost use Rattle.a64_code.specs.Shape.{Branches, BranchesWithLink, link_register, done};
 ghost use Rattle.a64_code.specs.Outside.{Outside};
-ghost use Rattle.a64_code.specs.State.{at_pc, general};
-ghost use Rattle.a64_code.specs.Stepped.{Leads};
-ghost use Rattle.a64_code.specs.Branches.{target, branches, branches_if, branches_with_link, link_register, page_target};
-ghost use Rattle.mte_machine.specs.Machine.{state_of};
-ghost use Rattle.mte_machine.specs.Run.{StepsAs};
+ghost use Rattle.a64_code.specs.State.{general};
+ghost use Rattle.a64_code.specs.Branches.{target, page_target};
+ghost use Rattle.a64_code.specs.Effect.{effect};
+ghost use Rattle.mte_machine.specs.Groups.{GoesElsewhere};
+ghost use Rattle.mte_machine.specs.Machine.{state_of, Executes};
 
 use crate::machine::Machine;
 use crate::step::Step;
-use a64_code::Reg;
+use a64_alu::condition_holds;
+use a64_code::{Instr, Reg};
 use mt_base::sext;
 use tag_mem::TagMemory;
 
@@ -17,6 +19,30 @@ use tag_mem::TagMemory;
 const LINK: Reg = Reg(30);
 
 impl<M: TagMemory> Machine<M> {
+    // Branches.
+    pub(crate) fn go(&mut self, instr: Instr) -> Step
+        requires group { GoesElsewhere instr }
+        ensures { Executes M.TagMemory (effect instr) self.old result self.new }
+    {
+        match instr {
+            Instr::Cbz { wide, imm19, rt } => self.branch_if(self.number(wide, rt) == 0, 19, imm19),
+            Instr::Cbnz { wide, imm19, rt } => self.branch_if(
+                self.number(wide, rt) != 0,
+                19,
+                imm19,
+            ),
+            Instr::B { imm26 } => self.branch(26, imm26),
+            Instr::Bl { imm26 } => self.branch_with_link(26, imm26),
+            Instr::BCond { imm19, cond } => self.branch_if(
+                condition_holds(cond, self.flags),
+                19,
+                imm19,
+            ),
+            Instr::Ret => self.branch_to_link(),
+            _ => unreachable!(),
+        }
+    }
+
     // So many words on from PC, or back: the lower `bits` bits are a signed number.
     fn target(&self, bits: u8, words: u32) -> u64
         requires least { 1 ≤ bits }
@@ -31,7 +57,7 @@ impl<M: TagMemory> Machine<M> {
     pub(crate) fn branch(&mut self, bits: u8, words: u32) -> Step
         requires least { 1 ≤ bits }
         requires most { bits ≤ 64 }
-        ensures { (w : Outside) → StepsAs (branches bits words (state_of M.TagMemory self.old w)) (state_of M.TagMemory self.old w) result (state_of M.TagMemory self.new w) }
+        ensures { Executes M.TagMemory (λ s. done (Branches true (target bits words s)) s) self.old result self.new }
     {
         self.pc = self.target(bits, words);
         Step::Ran
@@ -41,7 +67,7 @@ impl<M: TagMemory> Machine<M> {
     pub(crate) fn branch_if(&mut self, taken: bool, bits: u8, words: u32) -> Step
         requires least { 1 ≤ bits }
         requires most { bits ≤ 64 }
-        ensures { (w : Outside) → StepsAs (branches_if taken bits words (state_of M.TagMemory self.old w)) (state_of M.TagMemory self.old w) result (state_of M.TagMemory self.new w) }
+        ensures { Executes M.TagMemory (λ s. done (Branches taken (target bits words s)) s) self.old result self.new }
     {
         if taken {
             self.branch(bits, words)
@@ -54,7 +80,7 @@ impl<M: TagMemory> Machine<M> {
     pub(crate) fn branch_with_link(&mut self, bits: u8, words: u32) -> Step
         requires least { 1 ≤ bits }
         requires most { bits ≤ 64 }
-        ensures { (w : Outside) → StepsAs (branches_with_link bits words (state_of M.TagMemory self.old w)) (state_of M.TagMemory self.old w) result (state_of M.TagMemory self.new w) }
+        ensures { Executes M.TagMemory (λ s. done (BranchesWithLink (target bits words s)) s) self.old result self.new }
     {
         let target = self.target(bits, words);
         self.set_general(LINK, self.pc.wrapping_add(4));
@@ -64,7 +90,7 @@ impl<M: TagMemory> Machine<M> {
 
     // Goes to the address in X30.
     pub(crate) fn branch_to_link(&mut self) -> Step
-        ensures { (w : Outside) → StepsAs (Leads (at_pc (general (state_of M.TagMemory self.old w) link_register) (state_of M.TagMemory self.old w))) (state_of M.TagMemory self.old w) result (state_of M.TagMemory self.new w) }
+        ensures { Executes M.TagMemory (λ s. done (Branches true (general s link_register)) s) self.old result self.new }
     {
         self.pc = self.general(LINK);
         Step::Ran

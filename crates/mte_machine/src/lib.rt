@@ -11,12 +11,10 @@ mod machine;
 mod memory;
 mod pointer_tags;
 mod registers;
+mod results;
 mod services;
 mod step;
 
 pub use a64_code::MachineEnd;
 pub use machine::Machine;
 pub use step::Step;
-
-#[cfg(test)]
-mod tests;

@@ -1,15 +1,13 @@
 // Instructions that load and store registers.
 ghost use Rattle.std.specs.Prelude.{◌≡◌, ◌<◌, ◌≤◌, ◌*◌, ◌+◌, not, true};
 ghost use Rattle.mt_base.specs.Extension.{sign_extend};
-ghost use Rattle.mt_base.specs.Wrapping.{wrapping_add};
+ghost use Rattle.a64_code.specs.Shape.{done};
 ghost use Rattle.a64_code.specs.Outside.{Outside};
-ghost use Rattle.a64_code.specs.State.{general_or_sp, with_general, is_sp, advanced};
-ghost use Rattle.a64_code.specs.Stepped.{Leads};
 ghost use Rattle.a64_code.specs.Effect.{effect, as_it_is};
-ghost use Rattle.a64_code.specs.LoadsAndStores.{register_bytes, behind, beside, is_checked, loads, stores};
-ghost use Rattle.mte_machine.specs.Machine.{state_of};
-ghost use Rattle.mte_machine.specs.Run.{StepsAs};
+ghost use Rattle.a64_code.specs.LoadsAndStores.{register_bytes, behind, beside, is_checked, loads, stores, loads_pair, stores_pair};
+ghost use Rattle.mte_machine.specs.Groups.{IsLoad, IsStore};
 ghost use Rattle.mte_machine.specs.Written.{base_is_sp, FollowsWrite};
+ghost use Rattle.mte_machine.specs.Machine.{state_of, Executes};
 
 use crate::machine::Machine;
 use crate::memory::{load, load_pair, store, store_pair};
@@ -19,12 +17,53 @@ use mt_base::sext;
 use tag_mem::TagMemory;
 
 impl<M: TagMemory> Machine<M> {
+    // Loads.
+    pub(crate) fn load(&mut self, instr: Instr) -> Step
+        requires group { IsLoad instr }
+        ensures { Executes M.TagMemory (effect instr) self.old result self.new }
+    {
+        match instr {
+            Instr::Ldr {
+                wide,
+                imm12,
+                rn,
+                rt,
+            } => self.load_register(register_bytes(wide), imm12, rn, rt),
+            Instr::Ldrb { imm12, rn, rt } => self.load_register(1, imm12, rn, rt),
+            Instr::Ldrh { imm12, rn, rt } => self.load_register(2, imm12, rn, rt),
+            Instr::Ldrsw { imm12, rn, rt } => self.load_signed(4, imm12, rn, rt),
+            Instr::Ldrsb { imm12, rn, rt } => self.load_signed(1, imm12, rn, rt),
+            Instr::Ldrsh { imm12, rn, rt } => self.load_signed(2, imm12, rn, rt),
+            Instr::Ldp { imm7, rt2, rn, rt } => self.load_two_registers(imm7, rt2, rn, rt),
+            Instr::Ldg { simm9, rn, rt } => self.load_granule_tag(simm9, rn, rt),
+            _ => unreachable!(),
+        }
+    }
+
+    // Stores.
+    pub(crate) fn store(&mut self, instr: Instr) -> Step
+        requires group { IsStore instr }
+        ensures { Executes M.TagMemory (effect instr) self.old result self.new }
+    {
+        match instr {
+            Instr::Str {
+                wide,
+                imm12,
+                rn,
+                rt,
+            } => self.store_register(register_bytes(wide), imm12, rn, rt),
+            Instr::Strb { imm12, rn, rt } => self.store_register(1, imm12, rn, rt),
+            Instr::Strh { imm12, rn, rt } => self.store_register(2, imm12, rn, rt),
+            Instr::Stp { imm7, rt2, rn, rt } => self.store_two_registers(imm7, rt2, rn, rt),
+            _ => unreachable!(),
+        }
+    }
+
     // LDR, LDRH and LDRB: a number of so many bytes goes into a register.
     pub(crate) fn load_register(&mut self, bytes: u8, imm12: u16, rn: Reg, rt: Reg) -> Step
         requires some { 0 < bytes }
         requires few { bytes ≤ 8 }
-        ensures { (w : Outside) → let old = state_of M.TagMemory self.old w in
-            StepsAs (loads base_is_sp bytes as_it_is (behind base_is_sp bytes imm12 rn old) (is_checked base_is_sp rn) rt old) old result (state_of M.TagMemory self.new w) }
+        ensures { Executes M.TagMemory (λ s. done (loads base_is_sp bytes as_it_is imm12 rn rt s) s) self.old result self.new }
     {
         let pointer = self.behind(rn, bytes, imm12);
         match load(&self.memory, pointer, usize::from(bytes), is_checked(rn)) {
@@ -37,8 +76,8 @@ impl<M: TagMemory> Machine<M> {
     pub(crate) fn load_signed(&mut self, bytes: u8, imm12: u16, rn: Reg, rt: Reg) -> Step
         requires some { 0 < bytes }
         requires few { bytes ≤ 8 }
-        ensures { (w : Outside) → let old = state_of M.TagMemory self.old w in
-            StepsAs (loads base_is_sp bytes (sign_extend (8 * bytes) 64) (behind base_is_sp bytes imm12 rn old) (is_checked base_is_sp rn) rt old) old result (state_of M.TagMemory self.new w) }
+        ensures { Executes M.TagMemory (λ s. done (loads base_is_sp bytes (sign_extend (8 * bytes) 64) imm12 rn rt s) s) self.old result
+            self.new }
     {
         let pointer = self.behind(rn, bytes, imm12);
         match load(&self.memory, pointer, usize::from(bytes), is_checked(rn)) {
@@ -51,8 +90,7 @@ impl<M: TagMemory> Machine<M> {
     pub(crate) fn store_register(&mut self, bytes: u8, imm12: u16, rn: Reg, rt: Reg) -> Step
         requires some { 0 < bytes }
         requires few { bytes ≤ 8 }
-        ensures { (w : Outside) → let old = state_of M.TagMemory self.old w in
-            StepsAs (stores base_is_sp bytes (behind base_is_sp bytes imm12 rn old) (is_checked base_is_sp rn) rt old) old result (state_of M.TagMemory self.new w) }
+        ensures { Executes M.TagMemory (λ s. done (stores base_is_sp bytes imm12 rn rt s) s) self.old result self.new }
     {
         let pointer = self.behind(rn, bytes, imm12);
         let value = self.general(rt);
@@ -68,8 +106,7 @@ impl<M: TagMemory> Machine<M> {
 
     // LDP: two numbers of 8 bytes go into registers, into Rt first.
     pub(crate) fn load_two_registers(&mut self, imm7: u8, rt2: Reg, rn: Reg, rt: Reg) -> Step
-        ensures { (w : Outside) → let old = state_of M.TagMemory self.old w in
-            StepsAs (effect (Instr.Ldp imm7 rt2 rn rt) old) old result (state_of M.TagMemory self.new w) }
+        ensures { Executes M.TagMemory (λ s. done (loads_pair base_is_sp imm7 rt2 rn rt s) s) self.old result self.new }
     {
         let pointer = self.beside(rn, 7, 8, u16::from(imm7));
         match load_pair(&self.memory, pointer, is_checked(rn)) {
@@ -83,8 +120,7 @@ impl<M: TagMemory> Machine<M> {
 
     // STP: two registers go to memory.
     pub(crate) fn store_two_registers(&mut self, imm7: u8, rt2: Reg, rn: Reg, rt: Reg) -> Step
-        ensures { (w : Outside) → let old = state_of M.TagMemory self.old w in
-            StepsAs (effect (Instr.Stp imm7 rt2 rn rt) old) old result (state_of M.TagMemory self.new w) }
+        ensures { Executes M.TagMemory (λ s. done (stores_pair base_is_sp imm7 rt2 rn rt s) s) self.old result self.new }
     {
         let pointer = self.beside(rn, 7, 8, u16::from(imm7));
         let first = self.general(rt);

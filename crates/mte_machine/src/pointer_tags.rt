@@ -1,19 +1,23 @@
 // Instructions that compute the tag of a pointer.
-ghost use Rattle.std.specs.Prelude.{◌≡◌, ◌≤◌, ℕ};
+ghost use Rattle.std.specs.Prelude.{◌≡◌, ◌≤◌, ℕ, true};
 ghost use Rattle.mt_base.specs.Tags.{next_tag, zero_excluded};
 ghost use Rattle.mt_base.specs.Pointers.{tag_of, with_tag};
+ghost use Rattle.a64_code.specs.Shape.{done};
 ghost use Rattle.a64_code.specs.Outside.{Outside};
-ghost use Rattle.a64_code.specs.State.{general_or_sp, with_general_or_sp, advanced};
-ghost use Rattle.a64_code.specs.Stepped.{Leads};
+ghost use Rattle.a64_code.specs.State.{with_choice_drawn};
 ghost use Rattle.a64_code.specs.Effect.{effect};
 ghost use Rattle.a64_code.specs.declared.instr.Instr.TheVariants.{Irg};
-ghost use Rattle.a64_code.specs.TagInstructions.{next_choice, with_choice_drawn};
-ghost use Rattle.mte_machine.specs.Machine.{state_of};
-ghost use Rattle.mte_machine.specs.Run.{StepsAs};
+ghost use Rattle.a64_code.specs.TagInstructions.{next_choice};
+ghost use Rattle.a64_code.specs.Field.{AllFit};
+ghost use Rattle.a64_code.specs.Table.{encoding};
+ghost use Rattle.a64_code.specs.Results.{puts};
+ghost use Rattle.mte_machine.specs.Groups.{TagsPointer};
+ghost use Rattle.mte_machine.specs.Machine.{state_of, Executes};
 
 use crate::machine::Machine;
 use crate::step::Step;
-use a64_code::Reg;
+use a64_alu::{add, subtract};
+use a64_code::{Instr, Reg};
 use mt_base::{Exclude, Tag, next_tag, tag_of, with_tag};
 use tag_mem::TagMemory;
 
@@ -21,6 +25,38 @@ use tag_mem::TagMemory;
 const ZERO: u16 = 1;
 
 impl<M: TagMemory> Machine<M> {
+    // Tags of pointers.
+    pub(crate) fn tag_pointer(&mut self, instr: Instr) -> Step
+        requires fields { AllFit (encoding instr).fields }
+        requires group { TagsPointer instr }
+        ensures { Executes M.TagMemory (effect instr) self.old result self.new }
+    {
+        match instr {
+            Instr::Addg {
+                uimm6,
+                uimm4,
+                rn,
+                rd,
+            } => {
+                let pointer = self.general_or_sp(rn);
+                let address = add(true, pointer, 16 * u64::from(uimm6));
+                self.put_with_next_tag(rd, address, pointer, uimm4)
+            }
+            Instr::Subg {
+                uimm6,
+                uimm4,
+                rn,
+                rd,
+            } => {
+                let pointer = self.general_or_sp(rn);
+                let address = subtract(true, pointer, 16 * u64::from(uimm6));
+                self.put_with_next_tag(rd, address, pointer, uimm4)
+            }
+            Instr::Irg { rm, rn, rd } => self.insert_random_tag(rm, rn, rd),
+            _ => unreachable!(),
+        }
+    }
+
     // Puts an address into a register with the tag at an offset from the tag of a pointer, and goes on: ADDG and SUBG.
     pub(crate) fn put_with_next_tag(
         &mut self,
@@ -30,9 +66,8 @@ impl<M: TagMemory> Machine<M> {
         offset: u8,
     ) -> Step
         requires { offset ≤ 15 }
-        ensures { (w : Outside) → StepsAs
-            (Leads (advanced (with_general_or_sp register (with_tag address (next_tag (tag_of pointer) offset zero_excluded)) (state_of M.TagMemory self.old w))))
-            (state_of M.TagMemory self.old w) result (state_of M.TagMemory self.new w) }
+        ensures { Executes M.TagMemory
+            (done (puts true true register (with_tag address (next_tag (tag_of pointer) offset zero_excluded)))) self.old result self.new }
     {
         let tag = next_tag(tag_of(pointer), offset, Exclude(ZERO));
         self.set_general_or_sp(register, with_tag(address, tag));
@@ -41,7 +76,7 @@ impl<M: TagMemory> Machine<M> {
 
     // IRG: Rn with a random tag that is not excluded.
     pub(crate) fn insert_random_tag(&mut self, rm: Reg, rn: Reg, rd: Reg) -> Step
-        ensures { (w : Outside) → StepsAs (effect (Irg rm rn rd) (state_of M.TagMemory self.old w)) (state_of M.TagMemory self.old w) result (state_of M.TagMemory self.new w) }
+        ensures { Executes M.TagMemory (effect (Irg rm rn rd)) self.old result self.new }
     {
         let excluded = (self.general(rm) % 65536) as u16 | ZERO;
         let tag = next_tag(self.draw(), 0, Exclude(excluded));

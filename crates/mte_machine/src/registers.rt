@@ -1,11 +1,10 @@
 // How instructions read and write the registers.
 ghost use Rattle.std.specs.Prelude.{◌≡◌, ◌^◌, ◌<◌, true, false};
-ghost use Rattle.a64_alu.specs.Width.{width};
+ghost use Rattle.a64_code.specs.Shape.{done};
 ghost use Rattle.a64_code.specs.Outside.{Outside};
-ghost use Rattle.a64_code.specs.State.{general, general_or_sp, of_width, with_general, with_general_or_sp, at_pc, advanced};
+ghost use Rattle.a64_code.specs.State.{general, general_or_sp, of_width, with_general, with_general_or_sp, advanced};
 ghost use Rattle.a64_code.specs.Results.{puts};
-ghost use Rattle.mte_machine.specs.Machine.{state_of};
-ghost use Rattle.mte_machine.specs.Run.{StepsAs};
+ghost use Rattle.mte_machine.specs.Machine.{state_of, Executes};
 
 use crate::machine::Machine;
 use crate::step::Step;
@@ -65,7 +64,7 @@ impl<M: TagMemory> Machine<M> {
 
     // Puts the result of an instruction into a general register, where one of 32 bits clears the upper half, and goes on.
     pub(crate) fn put(&mut self, wide: bool, register: Reg, value: u64) -> Step
-        ensures { (w : Outside) → StepsAs (puts false wide register value (state_of M.TagMemory self.old w)) (state_of M.TagMemory self.old w) result (state_of M.TagMemory self.new w) }
+        ensures { Executes M.TagMemory (done (puts false wide register value)) self.old result self.new }
     {
         self.set_general(register, of_width(wide, value));
         self.advance()
@@ -73,7 +72,7 @@ impl<M: TagMemory> Machine<M> {
 
     // The same where the number 31 is the stack pointer.
     pub(crate) fn put_or_sp(&mut self, wide: bool, register: Reg, value: u64) -> Step
-        ensures { (w : Outside) → StepsAs (puts true wide register value (state_of M.TagMemory self.old w)) (state_of M.TagMemory self.old w) result (state_of M.TagMemory self.new w) }
+        ensures { Executes M.TagMemory (done (puts true wide register value)) self.old result self.new }
     {
         self.set_general_or_sp(register, of_width(wide, value));
         self.advance()

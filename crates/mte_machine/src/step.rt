@@ -3,7 +3,7 @@
 use a64_code::MachineEnd;
 
 /// What one step does.
-#[derive(Clone, Copy, Debug, PartialEq, Eq)]
+#[derive(Clone, Copy, PartialEq, Eq)]
 pub enum Step {
     /// It ran, and the machine stands at the next instruction or at the target of a branch.
     Ran,

@@ -1,9 +1,10 @@
 -- What an access answers where its bytes stand in one region, and what its answer says of them.
-use Rattle.std.proofs.Common.{◌≡◌, ℕ, zero, suc, ◌+◌, ◌*◌, ◌/◌, ◌%◌, ◌<◌, Bool, true, false, not, cond, List, [], ◌∷◌, length, get_or, refl, sym, ◌∙◌, ap, subst, arith, inl, inr}
+use Rattle.std.proofs.Common.{◌≡◌, ℕ, zero, suc, ◌+◌, ◌*◌, ◌/◌, ◌%◌, ◌<◌, Bool, true, false, not, cond, List, [], ◌∷◌, length, get_or}
+use Rattle.std.proofs.Common.{refl, sym, ◌∙◌, ap, subst, arith, inl, inr}
 use Rattle.std.specs.List.{All}
 use Rattle.std.proofs.lemmas.Bool.{cases_Bool}
 use Rattle.mt_base.specs.Memory.{Span, Extent, is_in_span, is_in_extent, is_mapped, is_protected, every_byte, some_byte}
-use Rattle.mt_base.specs.MemoryLaws.{every_byte_at, some_byte_none}
+use Rattle.mt_base.specs.Laws.Memory.{every_byte_at, some_byte_none}
 use Rattle.tag_mem.specs.declared.access.Access.TheVariants.{Done, Unmapped, Guard, Protected}
 use Rattle.tag_mem.specs.declared.region.Region.{Region}
 use Rattle.tag_mem.specs.declared.chunk.Chunk.{Chunk}
@@ -27,7 +28,8 @@ pub region_of_chunk : (regions : List Region) (at most : ℕ) (chunk : Chunk) �
 region_of_chunk [] at most chunk c = absurd (omega (arith, c.in_range))
 region_of_chunk (x ∷ rs) at most chunk c = record {
   region = get_or (x ∷ rs) chunk.region x;
-  run = run_of (x ∷ rs) at most chunk (get_or (x ∷ rs) chunk.region x) c (get_or_any (x ∷ rs) chunk.region x (get_or (x ∷ rs) chunk.region x) c.in_range);
+  run = run_of (x ∷ rs) at most chunk (get_or (x ∷ rs) chunk.region x) c
+      (get_or_any (x ∷ rs) chunk.region x (get_or (x ∷ rs) chunk.region x) c.in_range);
 }
 
 pub held_mapped : (regions : List Region) (i at : ℕ) → IsHeldBy regions i at → is_mapped (extents_of regions) at ≡ true
@@ -38,28 +40,40 @@ held_mapped (x ∷ rs) i at h =
     (h.holds x)
 
 -- no byte of a chunk is in the guard
-run_unguarded : (regions : List Region) (guard : Span) (at : ℕ) (chunk : Chunk) (r : Region) → All (IsApartFrom guard) (extents_of regions) → IsRun regions at chunk r → some_byte (is_in_span guard) at chunk.count ≡ false
+run_unguarded : (regions : List Region) (guard : Span) (at : ℕ) (chunk : Chunk) (r : Region) →
+    All (IsApartFrom guard) (extents_of regions) → IsRun regions at chunk r → some_byte (is_in_span guard) at chunk.count ≡ false
 run_unguarded regions guard at chunk r apart run = some_byte_none (is_in_span guard) at chunk.count each
   where
     each : (k : ℕ) → k < chunk.count → is_in_span guard (at + k) ≡ false
     each k h = elim (cases_Bool (is_in_span guard (at + k))) [
-      | inl both ↦ absurd (apart chunk.region (extent_of r) (omega (arith, run.here.in_range, length_extents regions)) (at + k) both (ap (λ e. is_in_extent e (at + k)) (get_or_extents regions chunk.region r ∙ ap extent_of run.here.is) ∙ run_holds regions at chunk r run k h))
+      | inl both ↦
+          absurd (apart chunk.region (extent_of r) (omega (arith, run.here.in_range, length_extents regions)) (at + k) both
+          (ap (λ e. is_in_extent e (at + k)) (get_or_extents regions chunk.region r ∙ ap extent_of run.here.is)
+          ∙ run_holds regions at chunk r run k h))
       | inr other ↦ other
     ]
 
-pub chunk_done : (regions : List Region) (guard : Span) (at most : ℕ) (chunk : Chunk) → IsWellPlaced (extents_of regions) guard → IsChunk regions at most chunk → chunk.count ≡ most → read_answer (extents_of regions) guard at most ≡ Done
+pub chunk_done : (regions : List Region) (guard : Span) (at most : ℕ) (chunk : Chunk) → IsWellPlaced (extents_of regions) guard →
+    IsChunk regions at most chunk → chunk.count ≡ most → read_answer (extents_of regions) guard at most ≡ Done
 chunk_done regions guard at most chunk placed c whole =
     let has = region_of_chunk regions at most chunk c in
-    let unguarded : some_byte (is_in_span guard) at most ≡ false = ap (some_byte (is_in_span guard) at) (sym whole) ∙ run_unguarded regions guard at chunk has.region placed.guard_apart has.run in
-    let mapped : every_byte (is_mapped (extents_of regions)) at most ≡ true = ap (every_byte (is_mapped (extents_of regions)) at) (sym whole) ∙ run_mapped regions at chunk has.region has.run in
+    let unguarded : some_byte (is_in_span guard) at most ≡ false =
+    ap (some_byte (is_in_span guard) at) (sym whole) ∙ run_unguarded regions guard at chunk has.region placed.guard_apart has.run in
+    let mapped : every_byte (is_mapped (extents_of regions)) at most ≡ true =
+    ap (every_byte (is_mapped (extents_of regions)) at) (sym whole) ∙ run_mapped regions at chunk has.region has.run in
     rw (unguarded, mapped) refl
 
-pub chunk_written : (regions : List Region) (guard : Span) (at most : ℕ) (chunk : Chunk) (r : Region) → IsWellPlaced (extents_of regions) guard → IsChunk regions at most chunk → chunk.count ≡ most → r ≡ get_or regions chunk.region r → r.writable ≡ true → write_answer (extents_of regions) guard at most ≡ Done
+pub chunk_written : (regions : List Region) (guard : Span) (at most : ℕ) (chunk : Chunk) (r : Region) →
+    IsWellPlaced (extents_of regions) guard → IsChunk regions at most chunk → chunk.count ≡ most → r ≡ get_or regions chunk.region r →
+    r.writable ≡ true → write_answer (extents_of regions) guard at most ≡ Done
 chunk_written regions guard at most chunk r placed c whole is writable =
     let run = run_of regions at most chunk r c is in
-    let unguarded : some_byte (is_in_span guard) at most ≡ false = ap (some_byte (is_in_span guard) at) (sym whole) ∙ run_unguarded regions guard at chunk r placed.guard_apart run in
-    let mapped : every_byte (is_mapped (extents_of regions)) at most ≡ true = ap (every_byte (is_mapped (extents_of regions)) at) (sym whole) ∙ run_mapped regions at chunk r run in
-    let free : some_byte (is_protected (extents_of regions)) at most ≡ false = ap (some_byte (is_protected (extents_of regions)) at) (sym whole) ∙ run_writable regions at chunk r placed.apart run writable in
+    let unguarded : some_byte (is_in_span guard) at most ≡ false =
+    ap (some_byte (is_in_span guard) at) (sym whole) ∙ run_unguarded regions guard at chunk r placed.guard_apart run in
+    let mapped : every_byte (is_mapped (extents_of regions)) at most ≡ true =
+    ap (every_byte (is_mapped (extents_of regions)) at) (sym whole) ∙ run_mapped regions at chunk r run in
+    let free : some_byte (is_protected (extents_of regions)) at most ≡ false =
+    ap (some_byte (is_protected (extents_of regions)) at) (sym whole) ∙ run_writable regions at chunk r placed.apart run writable in
     rw (unguarded, mapped, free) refl
 
 -- where writing is done, each byte is in a region
@@ -69,11 +83,13 @@ written_mapped false true p is = refl
 written_mapped false false p is = cc
 
 -- where a tag is set, the address is in a region
-pub tagged_mapped : (regions : List Extent) (guard : Span) (at : ℕ) → Done ≡ write_answer regions guard (at / 16 * 16) 16 → is_mapped regions at ≡ true
+pub tagged_mapped : (regions : List Extent) (guard : Span) (at : ℕ) → Done ≡ write_answer regions guard (at / 16 * 16) 16 →
+    is_mapped regions at ≡ true
 tagged_mapped regions guard at is =
     ap (is_mapped regions) (let e : at ≡ at / 16 * 16 + at % 16 = omega arith in e)
     ∙ every_byte_at (is_mapped regions) (at / 16 * 16) 16
-    (written_mapped (some_byte (is_in_span guard) (at / 16 * 16) 16) (every_byte (is_mapped regions) (at / 16 * 16) 16) (some_byte (is_protected regions) (at / 16 * 16) 16) is)
+    (written_mapped (some_byte (is_in_span guard) (at / 16 * 16) 16) (every_byte (is_mapped regions) (at / 16 * 16) 16)
+    (some_byte (is_protected regions) (at / 16 * 16) 16) is)
     (at % 16) (omega arith)
 
 -- the region that holds an address
@@ -82,9 +98,11 @@ pub record IsHolder (regions : List Region) (i at : ℕ) (r : Region) : Type 0 w
   pub holds : is_in_extent (extent_of r) at ≡ true
   pub whole : IsWhole (extent_of r)
 
-pub holder_of : (regions : List Region) (i at : ℕ) (r : Region) → All IsWhole (extents_of regions) → IsHeldBy regions i at → r ≡ get_or regions i r → IsHolder regions i at r
+pub holder_of : (regions : List Region) (i at : ℕ) (r : Region) → All IsWhole (extents_of regions) → IsHeldBy regions i at →
+    r ≡ get_or regions i r → IsHolder regions i at r
 holder_of regions i at r whole held is = record {
   here = record { in_range = held.in_range; is = sym is };
   holds = ap (λ x. is_in_extent (extent_of x) at) is ∙ held.holds r;
-  whole = subst IsWhole (get_or_extents regions i r ∙ ap extent_of (sym is)) (whole i (extent_of r) (omega (arith, held.in_range, length_extents regions)));
+  whole = subst IsWhole (get_or_extents regions i r ∙ ap extent_of (sym is))
+      (whole i (extent_of r) (omega (arith, held.in_range, length_extents regions)));
 }

@@ -1,5 +1,6 @@
 -- Regions: where they may lie, and what a list of them holds.
-use Rattle.std.specs.Prelude.{◌≡◌, ℕ, ◌+◌, ◌-◌, ◌*◌, ◌/◌, ◌%◌, ◌^◌, ◌<◌, ◌≤◌, true, if◌then◌else◌, List, [], ◌∷◌, map, length, slice_index, slice_index_or, ◌++◌, take, drop}
+use Rattle.std.specs.Prelude.{◌≡◌, ℕ, ◌+◌, ◌-◌, ◌*◌, ◌/◌, ◌%◌, ◌^◌, ◌<◌, ◌≤◌, true, if◌then◌else◌, List, [], ◌∷◌, map, length}
+use Rattle.std.specs.Prelude.{slice_index, slice_index_or, ◌++◌, take, drop}
 use Rattle.std.specs.Global.{Vec}
 use Rattle.std.specs.List.{All, AllPairs}
 use Rattle.mt_base.specs.Memory.{Span, Extent, is_in_extent, is_in_span}
@@ -57,7 +58,8 @@ tag_in (e ∷ es) (t ∷ ts) granule =
 -- each region has a tag for each of its granules
 pub record HaveTags (regions : List Extent) (tags : List (Vec ℕ)) : Type 0 where
   pub count : length tags ≡ length regions
-  pub each : (k : ℕ) (e : Extent) (t : Vec ℕ) → k < length regions → length (slice_index_or tags k t).items * 16 ≡ (slice_index_or regions k e).bytes
+  pub each : (k : ℕ) (e : Extent) (t : Vec ℕ) → k < length regions →
+      length (slice_index_or tags k t).items * 16 ≡ (slice_index_or regions k e).bytes
 
 -- ---- a run of addresses in one region
 

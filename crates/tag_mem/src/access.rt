@@ -7,7 +7,7 @@ ghost use Rattle.tag_mem.specs.Regions.{IsWellPlaced};
 use mt_base::Tag;
 
 /// What came of an access. Where several hold, the first of `Guard`, `Unmapped` and `Protected` is answered.
-#[derive(Clone, Copy, Debug, PartialEq, Eq)]
+#[derive(Clone, Copy)]
 pub enum Access {
     /// It was done.
     Done,

@@ -52,7 +52,7 @@ impl FlatMemory {
 
 impl TagMemory for FlatMemory {
     ghost use Rattle.tag_mem.specs.Regions.{extents_of, span_of, byte_in, tag_in};
-    ghost use Rattle.tag_mem.specs.RegionLaws.{byte_in-lt, tag_in-lt};
+    ghost use Rattle.tag_mem.specs.Laws.Regions.{byte_in-lt, tag_in-lt};
 
     ghost byte = { λ m. byte_in m.regions.items };
 
@@ -92,6 +92,3 @@ impl TagMemory for FlatMemory {
         fetch_word(&self.regions, &self.index, at)
     }
 }
-
-#[cfg(test)]
-mod tests;

@@ -2,7 +2,7 @@ ghost use Rattle.std.specs.Prelude.{◌≡◌, ◌+◌, ◌≤◌, ◌++◌, len
 ghost use Rattle.mt_base.specs.Memory.{is_in_extent};
 
 /// A part of memory to start from: its bytes, from the address `start` on, and what may be done there besides reading.
-#[derive(Debug, Drop)]
+#[derive(Drop)]
 pub struct Region {
     /// The address of the first byte, a multiple of 16.
     pub start: u64,
@@ -35,7 +35,7 @@ impl Region {
 }
 
 /// So many addresses from `start` on.
-#[derive(Clone, Copy, Debug, PartialEq, Eq)]
+#[derive(Clone, Copy)]
 pub struct Span64 {
     /// The first address.
     pub start: u64,

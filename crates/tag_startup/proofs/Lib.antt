@@ -1,4 +1,2 @@
-mod Placed
 mod Held
 mod Started
-pub mod CodeInMemory

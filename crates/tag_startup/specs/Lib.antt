@@ -1,2 +1,4 @@
 pub mod Loaded
+pub mod Machine
 pub mod Memory
+pub mod Laws

@@ -7,7 +7,7 @@ use Rattle.a64_code.specs.State.{State}
 use Rattle.elf_image.specs.Image.{Image}
 use Rattle.elf_image.specs.Places.{rodata_end, code_place, code_end, dynamic_place, memory_end}
 use Rattle.elf_image.specs.Pieces.{pieces}
-use Rattle.elf_image.specs.FileBytes.{byte_among}
+use Rattle.elf_image.specs.Laws.FileBytes.{byte_among}
 use Rattle.mte_machine.specs.Machine.{clear_flags}
 
 -- where an image is loaded, and where the stack ends, below which it grows
@@ -19,7 +19,7 @@ stack_end = 0x40000000
 
 -- the guard below the stack has so many bytes
 abbrev pub guard_bytes : ℕ
-guard_bytes = 65536
+guard_bytes = 524288
 
 -- a size of the stack, in bytes: whole kilobytes up to 64 MiB
 pub record IsStack (bytes : ℕ) : Type 0 where

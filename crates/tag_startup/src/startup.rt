@@ -9,7 +9,7 @@ ghost use Rattle.tag_startup.specs.Memory.{IsLoaded};
 
 use crate::parts::{LOAD_ADDRESS, STACK_END, guard_of, regions_of};
 use crate::refusal::StartRefusal;
-use elf_image::{ImageParts, write_image};
+use elf_image::ImageParts;
 use mt_base::Tag;
 use mte_machine::Machine;
 use std::alloc::{AllocError, Global};
@@ -57,8 +57,6 @@ fn memory_of(alloc: Global, image: &ImageParts, stack: u64) -> Result<FlatMemory
     requires stack { IsStack stack }
     ensures { IfOk result (λ m. IsLoaded ⟦<FlatMemory as TagMemory>⟧ m (image_of image.now) stack) }
 {
-    let file = write_image(alloc, image)?;
-    let regions = regions_of(alloc, image, &file, stack)?;
-    drop(file);
+    let regions = regions_of(alloc, image, stack)?;
     FlatMemory::new(alloc, regions, guard_of(stack))
 }

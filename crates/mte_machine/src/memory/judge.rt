@@ -5,8 +5,7 @@ ghost use Rattle.mt_base.specs.Memory.{is_mapped, every_byte, bytes_at, store_by
 ghost use Rattle.mt_base.specs.Pointers.{address_of};
 ghost use Rattle.tag_mem.specs.Answers.{write_answer};
 ghost use Rattle.a64_code.specs.Access.{tag_fault_at, access_end};
-ghost use Rattle.a64_code.specs.LoadsAndStores.{with_bytes};
-ghost use Rattle.a64_code.specs.State.{State};
+ghost use Rattle.a64_code.specs.State.{State, with_bytes};
 ghost use Rattle.a64_code.specs.Stepped.{unless};
 ghost use Rattle.mte_machine.specs.Accesses.{with_memory, gives, fails, Performs, touching, end_of_answer, end_of_tags};
 
@@ -26,7 +25,8 @@ pub fn read<M: TagMemory>(
     requires unit { 0 < unit }
     requires some { 0 < length out.old }
     requires few { length out.old ≤ 32 }
-    ensures answer { (s : State) → result ≡ gives (access_end (with_memory M.TagMemory memory.now s) (touching pointer unit (length out.old) false checked)) tt }
+    ensures answer { (s : State) → result
+        ≡ gives (access_end (with_memory M.TagMemory memory.now s) (touching pointer unit (length out.old) false checked)) tt }
     ensures done { result ≡ Ok tt → out.new ≡ bytes_at (length out.old) (M.byte memory.now) (address_of pointer) }
 {
     let at = address_of(pointer);
@@ -50,7 +50,9 @@ pub fn write<M: TagMemory>(
     requires unit { 0 < unit }
     requires some { 0 < length bytes.now }
     requires few { length bytes.now ≤ 32 }
-    ensures { (s : State) → let old = with_memory M.TagMemory memory.old s in Performs (unless (access_end old (touching pointer unit (length bytes.now) true checked)) (with_bytes (store_bytes old.byte (address_of pointer) bytes.now) old)) old result (with_memory M.TagMemory memory.new s) }
+    ensures { (s : State) → let old = with_memory M.TagMemory memory.old s in
+        Performs (unless (access_end old (touching pointer unit (length bytes.now) true checked))
+        (with_bytes (store_bytes old.byte (address_of pointer) bytes.now) old)) old result (with_memory M.TagMemory memory.new s) }
 {
     let at = address_of(pointer);
     if at % unit != 0 {
@@ -120,7 +122,8 @@ fn compare_tags<M: TagMemory>(
 ) -> Result<(), MachineEnd>
     requires some { 0 < count }
     requires few { count ≤ 32 }
-    ensures { (s : State) → every_byte (is_mapped (M.regions memory.now)) (address_of pointer) count ≡ true → result ≡ gives (end_of_tags checked (with_memory M.TagMemory memory.now s) pointer count) tt }
+    ensures { (s : State) → every_byte (is_mapped (M.regions memory.now)) (address_of pointer) count ≡ true →
+        result ≡ gives (end_of_tags checked (with_memory M.TagMemory memory.now s) pointer count) tt }
 {
     if !checked {
         return Ok(());
@@ -137,7 +140,8 @@ fn compare_tags<M: TagMemory>(
 /// Whether the pointer's tag is that of the granule of this address, which is in a region.
 #[inline(always)]
 fn compare_tag<M: TagMemory>(memory: &M, pointer: u64, at: u64) -> Result<(), MachineEnd>
-    ensures { (s : State) → is_mapped (M.regions memory.now) at ≡ true → result ≡ gives (tag_fault_at (with_memory M.TagMemory memory.now s) pointer (granule_of at)) tt }
+    ensures { (s : State) → is_mapped (M.regions memory.now) at ≡ true →
+        result ≡ gives (tag_fault_at (with_memory M.TagMemory memory.now s) pointer (granule_of at)) tt }
 {
     let Some(memory_tag) = memory.tag(at) else {
         return Ok(());

@@ -3,8 +3,7 @@ ghost use Rattle.std.specs.Prelude.{◌≡◌, ℕ, ◌+◌, ◌++◌, true, fal
 ghost use Rattle.mt_base.specs.Memory.{load, store, bytes_of};
 ghost use Rattle.mt_base.specs.Pointers.{address_of};
 ghost use Rattle.a64_code.specs.Access.{pair, access_end};
-ghost use Rattle.a64_code.specs.LoadsAndStores.{with_bytes};
-ghost use Rattle.a64_code.specs.State.{State};
+ghost use Rattle.a64_code.specs.State.{State, with_bytes};
 ghost use Rattle.a64_code.specs.Stepped.{unless};
 ghost use Rattle.mte_machine.specs.Accesses.{with_memory, gives, Performs};
 
@@ -19,7 +18,9 @@ pub fn load_pair<M: TagMemory>(
     pointer: u64,
     checked: bool,
 ) -> Result<(u64, u64), MachineEnd>
-    ensures { (s : State) → let now = with_memory M.TagMemory memory.now s in result ≡ gives (access_end now (pair pointer false checked)) (load 8 now.byte (address_of pointer), load 8 now.byte (address_of pointer + 8)) }
+    ensures { (s : State) → let now = with_memory M.TagMemory memory.now s in
+        result ≡ gives (access_end now (pair pointer false checked))
+        (load 8 now.byte (address_of pointer), load 8 now.byte (address_of pointer + 8)) }
 {
     let mut numbers = [0; 16];
     read(memory, pointer, 8, checked, &mut numbers)?;
@@ -39,7 +40,10 @@ pub fn store_pair<M: TagMemory>(
     second: u64,
     checked: bool,
 ) -> Result<(), MachineEnd>
-    ensures { (s : State) → let old = with_memory M.TagMemory memory.old s in Performs (unless (access_end old (pair pointer true checked)) (with_bytes (store 8 (store 8 old.byte (address_of pointer) first) (address_of pointer + 8) second) old)) old result (with_memory M.TagMemory memory.new s) }
+    ensures { (s : State) → let old = with_memory M.TagMemory memory.old s in
+        Performs (unless (access_end old (pair pointer true checked))
+        (with_bytes (store 8 (store 8 old.byte (address_of pointer) first) (address_of pointer + 8) second) old)) old result
+        (with_memory M.TagMemory memory.new s) }
 {
     let numbers = bytes_of_pair(first, second);
     write(memory, pointer, 8, checked, &numbers)

@@ -3,8 +3,7 @@ ghost use Rattle.std.specs.Prelude.{◌≡◌, ℕ, ◌<◌, ◌≤◌, true, fa
 ghost use Rattle.mt_base.specs.Memory.{load, store};
 ghost use Rattle.mt_base.specs.Pointers.{address_of};
 ghost use Rattle.a64_code.specs.Access.{single, access_end};
-ghost use Rattle.a64_code.specs.LoadsAndStores.{with_bytes};
-ghost use Rattle.a64_code.specs.State.{State};
+ghost use Rattle.a64_code.specs.State.{State, with_bytes};
 ghost use Rattle.a64_code.specs.Stepped.{unless};
 ghost use Rattle.mte_machine.specs.Accesses.{with_memory, gives, Performs};
 
@@ -22,7 +21,8 @@ pub fn load<M: TagMemory>(
 ) -> Result<u64, MachineEnd>
     requires some { 0 < bytes }
     requires few { bytes ≤ 8 }
-    ensures { (s : State) → let now = with_memory M.TagMemory memory.now s in result ≡ gives (access_end now (single bytes pointer false checked)) (load bytes now.byte (address_of pointer)) }
+    ensures { (s : State) → let now = with_memory M.TagMemory memory.now s in
+        result ≡ gives (access_end now (single bytes pointer false checked)) (load bytes now.byte (address_of pointer)) }
 {
     let mut number = [0; 8];
     read(memory, pointer, bytes as u64, checked, &mut number[..bytes])?;
@@ -40,7 +40,9 @@ pub fn store<M: TagMemory>(
 ) -> Result<(), MachineEnd>
     requires some { 0 < bytes }
     requires few { bytes ≤ 8 }
-    ensures { (s : State) → let old = with_memory M.TagMemory memory.old s in Performs (unless (access_end old (single bytes pointer true checked)) (with_bytes (store bytes old.byte (address_of pointer) value) old)) old result (with_memory M.TagMemory memory.new s) }
+    ensures { (s : State) → let old = with_memory M.TagMemory memory.old s in
+        Performs (unless (access_end old (single bytes pointer true checked))
+        (with_bytes (store bytes old.byte (address_of pointer) value) old)) old result (with_memory M.TagMemory memory.new s) }
 {
     let number = value.to_le_bytes();
     write(memory, pointer, bytes as u64, checked, &number[..bytes])

@@ -5,10 +5,8 @@ ghost use Rattle.mt_base.specs.Memory.{store};
 ghost use Rattle.mt_base.specs.Pointers.{address_of};
 ghost use Rattle.tag_mem.specs.Answers.{write_answer};
 ghost use Rattle.a64_code.specs.Access.{tag_store, tag_load, access_end};
-ghost use Rattle.a64_code.specs.LoadsAndStores.{with_bytes};
-ghost use Rattle.a64_code.specs.State.{State};
+ghost use Rattle.a64_code.specs.State.{State, with_bytes, tagged, with_tags};
 ghost use Rattle.a64_code.specs.Stepped.{unless};
-ghost use Rattle.a64_code.specs.TagInstructions.{tagged, with_tags};
 ghost use Rattle.mte_machine.specs.Accesses.{with_memory, gives, Performs, end_of_answer};
 
 use crate::memory::judge::{end_at, write_back};
@@ -18,7 +16,8 @@ use tag_mem::{Access, TagMemory};
 
 /// The tag of the granule that the pointer's address is in: `AArch64.MemTag[]` of the Arm ARM.
 pub fn load_tag<M: TagMemory>(memory: &M, pointer: u64) -> Result<Tag, MachineEnd>
-    ensures { (s : State) → let now = with_memory M.TagMemory memory.now s in result ≡ gives (access_end now (tag_load pointer)) (now.tag (granule_of (address_of pointer))) }
+    ensures { (s : State) → let now = with_memory M.TagMemory memory.now s in
+        result ≡ gives (access_end now (tag_load pointer)) (now.tag (granule_of (address_of pointer))) }
 {
     let at = address_of(pointer);
     let mut granule = [0; 16];
@@ -32,7 +31,9 @@ pub fn load_tag<M: TagMemory>(memory: &M, pointer: u64) -> Result<Tag, MachineEn
 
 /// Gives the granule at the pointer's address a tag.
 pub fn tag_granule<M: TagMemory>(memory: &mut M, pointer: u64, tag: Tag) -> Result<(), MachineEnd>
-    ensures { (s : State) → let old = with_memory M.TagMemory memory.old s in Performs (unless (access_end old (tag_store 1 pointer)) (with_tags (tagged 1 old.tag (address_of pointer) tag) old)) old result (with_memory M.TagMemory memory.new s) }
+    ensures { (s : State) → let old = with_memory M.TagMemory memory.old s in
+        Performs (unless (access_end old (tag_store 1 pointer)) (with_tags (tagged 1 old.tag (address_of pointer) tag) old)) old
+        result (with_memory M.TagMemory memory.new s) }
 {
     let at = address_of(pointer);
     if at % 16 != 0 {
@@ -48,7 +49,9 @@ pub fn tag_two_granules<M: TagMemory>(
     pointer: u64,
     tag: Tag,
 ) -> Result<(), MachineEnd>
-    ensures { (s : State) → let old = with_memory M.TagMemory memory.old s in Performs (unless (access_end old (tag_store 2 pointer)) (with_tags (tagged 2 old.tag (address_of pointer) tag) old)) old result (with_memory M.TagMemory memory.new s) }
+    ensures { (s : State) → let old = with_memory M.TagMemory memory.old s in
+        Performs (unless (access_end old (tag_store 2 pointer)) (with_tags (tagged 2 old.tag (address_of pointer) tag) old)) old
+        result (with_memory M.TagMemory memory.new s) }
 {
     let at = address_of(pointer);
     if at % 16 != 0 {
@@ -64,7 +67,10 @@ pub fn tag_two_granules<M: TagMemory>(
 
 /// Gives the granule at the pointer's address a tag and zeros for bytes.
 pub fn clear_granule<M: TagMemory>(memory: &mut M, pointer: u64, tag: Tag) -> Result<(), MachineEnd>
-    ensures { (s : State) → let old = with_memory M.TagMemory memory.old s in Performs (unless (access_end old (tag_store 1 pointer)) (with_bytes (store 16 old.byte (address_of pointer) 0) (with_tags (tagged 1 old.tag (address_of pointer) tag) old))) old result (with_memory M.TagMemory memory.new s) }
+    ensures { (s : State) → let old = with_memory M.TagMemory memory.old s in
+        Performs (unless (access_end old (tag_store 1 pointer))
+        (with_bytes (store 16 old.byte (address_of pointer) 0) (with_tags (tagged 1 old.tag (address_of pointer) tag) old))) old
+        result (with_memory M.TagMemory memory.new s) }
 {
     let at = address_of(pointer);
     if at % 16 != 0 {
@@ -82,7 +88,10 @@ pub fn clear_two_granules<M: TagMemory>(
     pointer: u64,
     tag: Tag,
 ) -> Result<(), MachineEnd>
-    ensures { (s : State) → let old = with_memory M.TagMemory memory.old s in Performs (unless (access_end old (tag_store 2 pointer)) (with_bytes (store 32 old.byte (address_of pointer) 0) (with_tags (tagged 2 old.tag (address_of pointer) tag) old))) old result (with_memory M.TagMemory memory.new s) }
+    ensures { (s : State) → let old = with_memory M.TagMemory memory.old s in
+        Performs (unless (access_end old (tag_store 2 pointer))
+        (with_bytes (store 32 old.byte (address_of pointer) 0) (with_tags (tagged 2 old.tag (address_of pointer) tag) old))) old
+        result (with_memory M.TagMemory memory.new s) }
 {
     let at = address_of(pointer);
     if at % 16 != 0 {
@@ -98,7 +107,8 @@ pub fn clear_two_granules<M: TagMemory>(
 fn set_a_tag<M: TagMemory>(memory: &mut M, at: u64, tag: Tag)
     requires whole { at % 16 ≡ 0 }
     requires writable { write_answer (M.regions memory.old) (M.guard memory.old) at 16 ≡ Access.Done }
-    ensures { (s : State) → let old = with_memory M.TagMemory memory.old s in with_memory M.TagMemory memory.new s ≡ with_tags (tagged 1 old.tag at tag) old }
+    ensures { (s : State) → let old = with_memory M.TagMemory memory.old s in
+        with_memory M.TagMemory memory.new s ≡ with_tags (tagged 1 old.tag at tag) old }
 {
     memory.set_tag(at, tag);
 }
@@ -108,7 +118,8 @@ fn set_two_tags<M: TagMemory>(memory: &mut M, at: u64, tag: Tag)
     requires whole { at % 16 ≡ 0 }
     requires low { at < 2 ^ 56 }
     requires writable { write_answer (M.regions memory.old) (M.guard memory.old) at 32 ≡ Access.Done }
-    ensures { (s : State) → let old = with_memory M.TagMemory memory.old s in with_memory M.TagMemory memory.new s ≡ with_tags (tagged 2 old.tag at tag) old }
+    ensures { (s : State) → let old = with_memory M.TagMemory memory.old s in
+        with_memory M.TagMemory memory.new s ≡ with_tags (tagged 2 old.tag at tag) old }
 {
     set_a_tag(memory, at, tag);
     set_a_tag(memory, at + 16, tag);

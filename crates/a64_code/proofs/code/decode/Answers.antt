@@ -1,8 +1,8 @@
 use Rattle.std.proofs.Common.{◌≡◌, ◌∙◌, sym, ap, Some}
 use Rattle.std.specs.Option.{option_copied}
 use Rattle.a64_code.specs.Decoded.{decoded}
-use Rattle.a64_code.proofs.Decoding.{decode-row, decode-none, one_row}
-use Rattle.a64_code.proofs.WordLaws.{instruction_of-word}
+use Rattle.a64_code.specs.Laws.Decoding.{decode-row, decode-none, one_row}
+use Rattle.a64_code.specs.Laws.Words.{instruction_of-word}
 use Rattle.a64_code.proofs.Listing.{decoded-found, decoded_not_found}
 use Rattle.a64_code.proofs.code.decode.Goals as goal
 

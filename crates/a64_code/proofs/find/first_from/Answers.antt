@@ -9,5 +9,6 @@ use Rattle.a64_code.proofs.find.first_from.Goals as goal
 pub returns : goal.returns
 returns c =
     let rest = drop c.args.start ROWS in
-    let whole : take (length ROWS - c.args.start) rest ≡ rest = ap (λ n. take n rest) (sym (length-drop c.args.start ROWS)) ∙ take-length rest in
+    let whole : take (length ROWS - c.args.start) rest ≡ rest =
+    ap (λ n. take n rest) (sym (length-drop c.args.start ROWS)) ∙ take-length rest in
     c.first_of.ensures ∙ ap (find (λ r. bit_and c.args.word r.fixed == r.base)) whole

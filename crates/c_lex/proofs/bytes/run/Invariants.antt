@@ -1,7 +1,7 @@
 use Rattle.std.proofs.Common.{◌≡◌, ◌+◌, ◌-◌, ◌≤◌, length, drop}
 use Rattle.std.specs.List.{prefix_len}
 use Rattle.c_lex.proofs.bytes.run.Given as goal
-use Rattle.c_lex.specs.Scanner.{is_of}
+use Rattle.c_lex.specs.Scan.Words.{is_of}
 
 abbrev pub invariant-loop-end : goal.invariant-loop-end
 invariant-loop-end l =

@@ -1,6 +1,6 @@
 use Rattle.std.proofs.Common.{◌≡◌, ◌+◌, ◌*◌, ◌<◌, ◌^◌, drop, fold}
 use Rattle.std.specs.Char.{digit_value}
-use Rattle.c_lex.specs.Digits.{value_of}
+use Rattle.c_lex.specs.Scan.Digits.{value_of}
 use Rattle.c_lex.proofs.digits.value_of.Given as goal
 
 -- the digits left go on from the value so far

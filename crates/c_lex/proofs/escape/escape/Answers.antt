@@ -1,4 +1,4 @@
-use Rattle.c_lex.proofs.EscapeLaws.{digits-fits}
+use Rattle.c_lex.specs.Laws.EscapeLaws.{digits-fits}
 use Rattle.c_lex.proofs.escape.escape.Goals as goal
 
 pub returns-in-None-clause-within : goal.returns-in-None-clause-within

@@ -1,5 +1,5 @@
 use Rattle.std.proofs.Common.{◌-◌, length}
-use Rattle.c_lex.proofs.TextLaws.{IsReadTo}
+use Rattle.c_lex.specs.Laws.TextLaws.{IsReadTo}
 use Rattle.c_lex.proofs.quoted.read_text.Given as goal
 
 abbrev pub invariant-loop-value : goal.invariant-loop-value

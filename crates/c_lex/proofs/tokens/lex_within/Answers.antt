@@ -10,7 +10,11 @@ loop-place-init c = record { reached = rw c.new-tokens.ensures.items (arrives-st
 pub overflow_add-place : goal.overflow_add-place
 overflow_add-place c =
     let is = sym (rw take_rest at c.in-Ok.ensures) ∙ c.in-Gap.is in
-    omega (arith, (gap-goes c.args.text.now c.loop-place.place c.loop-place.line c.loop-place-test.true c.in-Gap.bytes is).within, c.requires)
+    omega (
+      arith,
+      (gap-goes c.args.text.now c.loop-place.place c.loop-place.line c.loop-place-test.true c.in-Gap.bytes is).within,
+      c.requires,
+    )
 
 pub loop-place-smaller-in-Gap : goal.loop-place-smaller-in-Gap
 loop-place-smaller-in-Gap c =
@@ -23,7 +27,8 @@ loop-place-preserved-in-Gap c =
     let is = sym (rw take_rest at c.in-Ok.ensures) ∙ c.in-Gap.is in
     let text = c.args.text.now in
     record {
-      reached = rw (c.behind-line.ensures, take_rest) (gap-reached text c.loop-place.place c.loop-place.line c.loop-place-test.true _ c.in-Gap.bytes c.loop-place.invariant.reached is);
+      reached = rw (c.behind-line.ensures, take_rest)
+          (gap-reached text c.loop-place.place c.loop-place.line c.loop-place-test.true _ c.in-Gap.bytes c.loop-place.invariant.reached is);
       within = (gap-goes text c.loop-place.place c.loop-place.line c.loop-place-test.true c.in-Gap.bytes is).within;
     }
 
@@ -32,12 +37,17 @@ slice_bounds-token-end c =
     let is = sym (rw take_rest at c.in-Ok.ensures) ∙ c.in-Token.is in
     let text = c.args.text.now in
     let goes = token-goes text c.loop-place.place c.loop-place.line c.loop-place-test.true c.in-Token.kind c.in-Token.bytes is in
-    rw take_rest (sym (length-take-le c.in-Token.bytes (drop c.loop-place.place text) (omega (arith, goes.within, length-drop c.loop-place.place text))))
+    rw take_rest (sym (length-take-le c.in-Token.bytes (drop c.loop-place.place text)
+    (omega (arith, goes.within, length-drop c.loop-place.place text))))
 
 pub overflow_add-place-in-Token : goal.overflow_add-place-in-Token
 overflow_add-place-in-Token c =
     let is = sym (rw take_rest at c.in-Ok.ensures) ∙ c.in-Token.is in
-    omega (arith, (token-goes c.args.text.now c.loop-place.place c.loop-place.line c.loop-place-test.true c.in-Token.kind c.in-Token.bytes is).within, c.requires)
+    omega (
+      arith,
+      (token-goes c.args.text.now c.loop-place.place c.loop-place.line c.loop-place-test.true c.in-Token.kind c.in-Token.bytes is).within,
+      c.requires,
+    )
 
 pub loop-place-smaller : goal.loop-place-smaller
 loop-place-smaller c =
@@ -50,23 +60,33 @@ loop-place-preserved c =
     let is = sym (rw take_rest at c.in-Ok.ensures) ∙ c.in-Token.is in
     let text = c.args.text.now in
     record {
-      reached = rw (c.in-Ok-push.ensures.items, map_push, take_rest) (token-reached text c.loop-place.place c.loop-place.line c.loop-place-test.true _ c.in-Token.kind c.in-Token.bytes c.loop-place.invariant.reached is);
+      reached = rw (c.in-Ok-push.ensures.items, map_push, take_rest)
+          (token-reached text c.loop-place.place c.loop-place.line c.loop-place-test.true _ c.in-Token.kind c.in-Token.bytes c.loop-place.invariant.reached is);
       within = (token-goes text c.loop-place.place c.loop-place.line c.loop-place-test.true c.in-Token.kind c.in-Token.bytes is).within;
     }
 
 pub overflow_add-place-in-Fault : goal.overflow_add-place-in-Fault
 overflow_add-place-in-Fault c =
     let is = sym (rw take_rest at c.in-Ok.ensures) ∙ c.in-Fault.is in
-    omega (arith, fault-within c.args.text.now c.loop-place.place c.loop-place.line c.loop-place-test.true c.in-Fault.fault c.in-Fault.offset is, c.requires)
+    omega (
+      arith,
+      fault-within c.args.text.now c.loop-place.place c.loop-place.line c.loop-place-test.true c.in-Fault.fault c.in-Fault.offset is,
+      c.requires,
+    )
 
 pub overflow_cast-place : goal.overflow_cast-place
 overflow_cast-place c =
     let is = sym (rw take_rest at c.in-Ok.ensures) ∙ c.in-Fault.is in
-    omega (arith, fault-within c.args.text.now c.loop-place.place c.loop-place.line c.loop-place-test.true c.in-Fault.fault c.in-Fault.offset is, c.requires)
+    omega (
+      arith,
+      fault-within c.args.text.now c.loop-place.place c.loop-place.line c.loop-place-test.true c.in-Fault.fault c.in-Fault.offset is,
+      c.requires,
+    )
 
 pub returns-in-Fault-clause-refused : goal.returns-in-Fault-clause-refused
 returns-in-Fault-clause-refused c =
     let is = sym (rw take_rest at c.in-Ok.ensures) ∙ c.in-Fault.is in
     let text = c.args.text.now in
     rw c.refusal.ensures
-    (refusal-cause text c.in-Fault.fault _ (fault-first text c.loop-place.place c.loop-place.line c.loop-place-test.true _ c.in-Fault.fault c.in-Fault.offset c.loop-place.invariant.reached is))
+    (refusal-cause text c.in-Fault.fault _
+    (fault-first text c.loop-place.place c.loop-place.line c.loop-place-test.true _ c.in-Fault.fault c.in-Fault.offset c.loop-place.invariant.reached is))

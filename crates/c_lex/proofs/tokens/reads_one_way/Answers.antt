@@ -1,4 +1,4 @@
-use Rattle.c_lex.proofs.TokenLaws.{read_one_way}
+use Rattle.c_lex.specs.Laws.TokenLaws.{read_one_way}
 use Rattle.c_lex.proofs.tokens.reads_one_way.Goals as goal
 
 pub returns : goal.returns

@@ -1,18 +1,20 @@
 use Rattle.std.proofs.Common.{sym, ◌∙◌, ap, refl}
-use Rattle.c_reader.specs.Reading.{answers_on, answers_by, answers_stop, answers_next, answers_made, passed}
-use Rattle.c_parse.specs.Values.{stored}
-use Rattle.c_parse.specs.Externals.{head}
-use Rattle.c_parse.specs.Code.{specifiers_stored, specifiers_plain}
+use Rattle.c_parse_base.specs.Laws.AnswerLaws.{answers_on, answers_by, answers_stop, answers_next, answers_made, passed}
+use Rattle.c_parse.specs.Reading.Values.{stored}
+use Rattle.c_parse.specs.Reading.Externals.{head}
+use Rattle.c_parse.specs.Laws.Code.{specifiers_stored, specifiers_plain}
 use Rattle.c_parse.proofs.parser.specifiers.Goals as goal
 
 pub returns-in_err-head-clause-answers : goal.returns-in_err-head-clause-answers
 returns-in_err-head-clause-answers c =
     answers_on _ c.from_residual.ensures.1
-    (answers_by (specifiers_plain c.args.depth c.args.cursor.now (sym c.next_storage.ensures ∙ c.in_default.is)) (answers_stop _ c.in_err-head.ensures.answers))
+    (answers_by (specifiers_plain c.args.depth c.args.cursor.now (sym c.next_storage.ensures ∙ c.in_default.is))
+    (answers_stop _ c.in_err-head.ensures.answers))
 
 pub returns-in_default-clause-answers : goal.returns-in_default-clause-answers
 returns-in_default-clause-answers c =
-    answers_by (specifiers_plain c.args.depth c.args.cursor.now (sym c.next_storage.ensures ∙ c.in_default.is)) (answers_next _ c.in_ok-head.ensures.answers (record { is = refl }))
+    answers_by (specifiers_plain c.args.depth c.args.cursor.now (sym c.next_storage.ensures ∙ c.in_default.is))
+    (answers_next _ c.in_ok-head.ensures.answers (record { is = refl }))
 
 pub returns-in_err-head-2-clause-answers : goal.returns-in_err-head-2-clause-answers
 returns-in_err-head-2-clause-answers c =

@@ -1,6 +1,6 @@
 use Rattle.std.proofs.Common.{◌≡◌, ◌≤◌, length}
-use Rattle.c_parse.specs.Externals.{unit}
-use Rattle.c_parse.specs.Code.{more_units}
+use Rattle.c_parse.specs.Reading.Externals.{unit}
+use Rattle.c_parse.specs.Laws.Code.{more_units}
 use Rattle.c_parse.proofs.parser.unit.Given as goal
 
 -- the external declarations that are left are read from here on

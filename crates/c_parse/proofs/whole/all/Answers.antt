@@ -1,4 +1,4 @@
-use Rattle.c_reader.specs.Reading.{answers_on, answers_stop}
+use Rattle.c_parse_base.specs.Laws.AnswerLaws.{answers_on, answers_stop}
 use Rattle.c_parse.proofs.whole.all.Goals as goal
 
 pub returns-in_err-read : goal.returns-in_err-read

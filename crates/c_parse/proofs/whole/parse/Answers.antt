@@ -1,17 +1,18 @@
 use Rattle.std.proofs.Common.{◌≡◌, ◌-◌, length, sym, ◌∙◌, ap, subst}
 use Rattle.std.specs.Prelude.{Ok, Err}
-use Rattle.c_reader.specs.Exact.{ended, place_in}
-use Rattle.c_reader.specs.Reading.{passed}
-use Rattle.c_parse.specs.Values.{program_of}
-use Rattle.c_parse.specs.Externals.{unit}
+use Rattle.c_parse_base.specs.Reading.Exact.{ended}
+use Rattle.c_parse_base.specs.Laws.AnswerLaws.{passed}
+use Rattle.c_parse.specs.Reading.Values.{program_of}
+use Rattle.c_parse.specs.Reading.Externals.{unit}
 use Rattle.c_parse.specs.Parsed.{Parsed, limit}
-use Rattle.c_parse.specs.ParsedLaws.{deep_refused}
-use Rattle.c_parse.specs.WholeCode.{refused, none_left, some_left, parsed_none, parsed_read, parsed_stop, program_read, program_kept, program_none}
+use Rattle.c_parse.specs.Laws.ParsedLaws.{deep_refused}
+use Rattle.c_parse.specs.Laws.WholeCode.{refused, taken_of, none_left, some_left, parsed_none, parsed_read, parsed_stop, program_read, program_kept, program_none}
 use Rattle.c_parse.proofs.whole.parse.Goals as goal
 
 pub returns-then-tokens-eq0-clause-parsed : goal.returns-then-tokens-eq0-clause-parsed
 returns-then-tokens-eq0-clause-parsed c =
-    subst (λ items. Parsed limit c.args.tokens.now (Ok (program_of items))) (sym c.new.ensures) (parsed_none limit c.args.tokens.now (none_left c.args.tokens.now c.if-tokens-eq0.true))
+    subst (λ items. Parsed limit c.args.tokens.now (Ok (program_of items))) (sym c.new.ensures)
+    (parsed_none limit c.args.tokens.now (none_left c.args.tokens.now c.if-tokens-eq0.true))
 
 pub returns-then-tokens-eq0-clause-all : goal.returns-then-tokens-eq0-clause-all
 returns-then-tokens-eq0-clause-all c = λ program depth spells low.
@@ -25,25 +26,31 @@ returns-in-Ok-clause-parsed c =
 pub returns-in-Ok-clause-all : goal.returns-in-Ok-clause-all
 returns-in-Ok-clause-all c = λ program depth spells low.
     c.program.ensures
-    ∙ program_read limit c.args.tokens.now c.all.new.cursor program depth c.in-Ok.read (some_left c.args.tokens.now c.if-tokens-eq0.false) spells low
+    ∙ program_read limit c.args.tokens.now c.all.new.cursor program depth c.in-Ok.read
+    (some_left c.args.tokens.now c.if-tokens-eq0.false) spells low
     (passed (ended (unit limit)) c.new-cursor.ensures c.in-Ok.ensures)
 
 pub returns-in-Err-clause-parsed : goal.returns-in-Err-clause-parsed
 returns-in-Err-clause-parsed c =
-    let place : c.saturating_sub-place.result ≡ place_in c.args.tokens.now c.all.new.cursor = c.saturating_sub-place.ensures ∙ ap (λ n. length c.args.tokens.now - n) c.left.ensures in
-    let told : c.refused.result ≡ refused c.in-Err.stop (place_in c.args.tokens.now c.all.new.cursor) = c.refused.ensures ∙ ap (refused c.in-Err.stop) place in
+    let place : c.saturating_sub-place.result ≡ taken_of c.args.tokens.now c.all.new.cursor = c.saturating_sub-place.ensures
+    ∙ ap (λ n. length c.args.tokens.now - n) c.left.ensures in
+    let told : c.refused.result ≡ refused c.in-Err.stop (taken_of c.args.tokens.now c.all.new.cursor) = c.refused.ensures
+    ∙ ap (refused c.in-Err.stop) place in
     subst (λ e. Parsed limit c.args.tokens.now (Err e)) (sym told)
-    (parsed_stop limit c.args.tokens.now c.all.new.cursor c.in-Err.stop (some_left c.args.tokens.now c.if-tokens-eq0.false) (passed (ended (unit limit)) c.new-cursor.ensures c.in-Err.ensures))
+    (parsed_stop limit c.args.tokens.now c.all.new.cursor c.in-Err.stop (some_left c.args.tokens.now c.if-tokens-eq0.false)
+    (passed (ended (unit limit)) c.new-cursor.ensures c.in-Err.ensures))
 
 pub returns-in-Err-clause-all : goal.returns-in-Err-clause-all
 returns-in-Err-clause-all c = λ program depth spells low.
     c.refused.ensures
     ∙ ap (λ s. refused s c.saturating_sub-place.result)
-    (program_kept limit c.args.tokens.now c.all.new.cursor program depth c.in-Err.stop (some_left c.args.tokens.now c.if-tokens-eq0.false) spells low
+    (program_kept limit c.args.tokens.now c.all.new.cursor program depth c.in-Err.stop
+    (some_left c.args.tokens.now c.if-tokens-eq0.false) spells low
     (passed (ended (unit limit)) c.new-cursor.ensures c.in-Err.ensures))
 
 pub returns-then-tokens-eq0-clause-deep : goal.returns-then-tokens-eq0-clause-deep
-returns-then-tokens-eq0-clause-deep c = deep_refused limit c.args.tokens.now (Ok (program_of c.new.result)) (returns-then-tokens-eq0-clause-parsed c)
+returns-then-tokens-eq0-clause-deep c = deep_refused limit c.args.tokens.now (Ok (program_of c.new.result))
+    (returns-then-tokens-eq0-clause-parsed c)
 
 pub returns-in-Ok-clause-deep : goal.returns-in-Ok-clause-deep
 returns-in-Ok-clause-deep c = deep_refused limit c.args.tokens.now (Ok c.program.result) (returns-in-Ok-clause-parsed c)

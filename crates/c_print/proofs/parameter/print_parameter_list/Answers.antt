@@ -5,5 +5,7 @@ use Rattle.c_print.proofs.parameter.print_parameter_list.Goals as goal
 
 pub loop-index-preserved : goal.loop-index-preserved
 loop-index-preserved c =
-    comma_kept parameter_of c.args.decls.now c.loop-index.index c.index-decls-index.result c.args.out.now.items c.loop-index.out.items c.print_separator.new.out.items
-    c.print_parameter.new.out.items (omega arith) c.index-decls-index.is c.loop-index.invariant c.in_ok-print_separator.ensures c.in_ok-print_parameter.ensures
+    comma_kept parameter_of c.args.decls.now c.loop-index.index c.index-decls-index.result c.args.out.now.items c.loop-index.out.items
+    c.print_separator.new.out.items
+    c.print_parameter.new.out.items (omega arith) c.index-decls-index.is c.loop-index.invariant c.in_ok-print_separator.ensures
+    c.in_ok-print_parameter.ensures

@@ -4,7 +4,7 @@ use Rattle.elf_base.specs.declared.dynamic.Dyn.{Dyn}
 use Rattle.elf_base.specs.Field.{signed, number}
 use Rattle.elf_base.specs.Place.{number_at}
 use Rattle.elf_base.specs.Records.{dyn_fields}
-use Rattle.elf_base.proofs.Reading.{fields_like, is_found, is_only, is_within, cast_signed-twice}
+use Rattle.elf_base.specs.Laws.Reads.{fields_like, is_found, is_only, is_within, cast_signed-twice}
 use Rattle.elf_base.proofs.Same.{same_dyn}
 use Rattle.elf_base.proofs.dynamic.read_dyn.Goals as goal
 

@@ -3,7 +3,7 @@ use Rattle.std.specs.Prelude.{FitsSigned}
 use Rattle.std.specs.Int.{w64, cast_unsigned}
 use Rattle.std.proofs.lemmas.Int.{to_z-of_z}
 use Rattle.elf_base.specs.Field.{field_bytes, signed, number}
-use Rattle.elf_base.specs.Laws.{field_bytes-signed}
+use Rattle.elf_base.specs.Laws.Lengths.{field_bytes-signed}
 use Rattle.elf_base.specs.Records.{dyn_fields}
 use Rattle.elf_base.proofs.Writing.{put_fields, put_fields-whole}
 use Rattle.elf_base.proofs.dynamic.write_dyn.Goals as goal

@@ -1,7 +1,7 @@
 use Rattle.std.proofs.Common.{◌≡◌, refl, ap, arith, Ok}
 use Rattle.elf_base.specs.declared.segment.Phdr.{Phdr}
 use Rattle.elf_base.specs.Records.{phdr_fields}
-use Rattle.elf_base.proofs.Reading.{fields_like, is_found, is_only, is_within}
+use Rattle.elf_base.specs.Laws.Reads.{fields_like, is_found, is_only, is_within}
 use Rattle.elf_base.proofs.Same.{same_phdr}
 use Rattle.elf_base.proofs.segment.read_phdr.Goals as goal
 

@@ -1,5 +1,5 @@
 use Rattle.std.proofs.Common.{◌/◌, ◌%◌, arith}
-use Rattle.elf_image.specs.FirstWords.{none_is_not_some}
+use Rattle.elf_image.specs.Laws.FirstWords.{none_is_not_some}
 use Rattle.elf_image.proofs.constant.constant_of.Goals as goal
 
 pub returns-in_err-low-clause-one_move : goal.returns-in_err-low-clause-one_move

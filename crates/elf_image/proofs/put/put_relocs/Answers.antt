@@ -1,5 +1,5 @@
 use Rattle.std.proofs.Common.{◌≡◌, take, refl, take_all}
-use Rattle.elf_image.specs.Laying.{put}
+use Rattle.elf_base.specs.Laying.{put}
 use Rattle.elf_image.proofs.put.put_relocs.Goals as goal
 
 pub returns : goal.returns

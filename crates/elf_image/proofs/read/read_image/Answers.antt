@@ -5,10 +5,10 @@ use Rattle.std.proofs.lemmas.Slice.Eq.{slice_eq-Decides}
 use Rattle.elf_image.specs.Image.{Image, image_of}
 use Rattle.elf_image.specs.Places.{IsValid}
 use Rattle.elf_image.specs.ImageFile.{ImageFile}
-use Rattle.elf_image.specs.OneFile.{one_file}
+use Rattle.elf_image.specs.Laws.OneFile.{one_file}
 use Rattle.elf_image.specs.Constant.{constant_image}
-use Rattle.elf_image.specs.FirstWords.{some_same}
-use Rattle.elf_image.specs.ConstantLaws.{constant_valid, code_stands}
+use Rattle.elf_image.specs.Laws.FirstWords.{some_same}
+use Rattle.elf_image.specs.Laws.ConstantLaws.{constant_valid, code_stands}
 use Rattle.elf_image.proofs.read.read_image.Goals as goal
 
 pub write_image-requires : goal.write_image-requires
@@ -24,8 +24,11 @@ returns-then-eq-clause-only c = λ n le f.
 
 pub returns-else-eq-clause-only : goal.returns-else-eq-clause-only
 returns-else-eq-clause-only c = λ n le f.
-    let image : image_of c.in_ok-parts.parts ≡ constant_image n = c.in_ok-parts.ensures ∙ ap constant_image (some_same c.in-Some.n n (c.in-Some.ensures.only n le (code_stands n c.args.bytes.now f))) in
-    let written : ImageFile (constant_image n) c.in_ok-file.file.items = subst (λ (p : Image). ImageFile p c.in_ok-file.file.items) image c.in_ok-file.ensures in
-    let same : c.in_ok-file.file.items ≡ c.args.bytes.now = one_file (constant_image n) c.in_ok-file.file.items c.args.bytes.now written f in
+    let image : image_of c.in_ok-parts.parts ≡ constant_image n = c.in_ok-parts.ensures ∙ ap constant_image (some_same c.in-Some.n n
+    (c.in-Some.ensures.only n le (code_stands n c.args.bytes.now f))) in
+    let written : ImageFile (constant_image n) c.in_ok-file.file.items =
+    subst (λ (p : Image). ImageFile p c.in_ok-file.file.items) image c.in_ok-file.ensures in
+    let same : c.in_ok-file.file.items ≡ c.args.bytes.now =
+    one_file (constant_image n) c.in_ok-file.file.items c.args.bytes.now written f in
     let equal = (slice_eq-Decides Decides-eqb _ _ _ c.eq.ensures).1 (c.as_slice.ensures.value ∙ same) in
     absurd (false≢true (sym c.if-eq.false ∙ equal))

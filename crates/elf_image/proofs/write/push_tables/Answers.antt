@@ -2,7 +2,7 @@ use Rattle.std.proofs.Common.{◌≡◌, ◌-◌, ◌*◌, length, arith, append
 use Rattle.std.proofs.lemmas.List.{append-nil}
 use Rattle.elf_image.specs.Image.{image_of}
 use Rattle.elf_image.specs.Pieces.{entries_bytes}
-use Rattle.elf_image.proofs.Order.{InOrder, in_order}
+use Rattle.elf_image.specs.Laws.Order.{InOrder, in_order}
 use Rattle.elf_image.proofs.write.push_tables.Goals as goal
 
 pub overflow_sub-descriptors_place : goal.overflow_sub-descriptors_place

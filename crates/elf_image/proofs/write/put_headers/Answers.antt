@@ -1,6 +1,6 @@
 use Rattle.std.proofs.Common.{arith}
 use Rattle.elf_image.specs.Image.{image_of}
-use Rattle.elf_image.proofs.Order.{InOrder, in_order}
+use Rattle.elf_image.specs.Laws.Order.{InOrder, in_order}
 use Rattle.elf_image.proofs.write.put_headers.Goals as goal
 
 pub overflow_sub-filesz : goal.overflow_sub-filesz

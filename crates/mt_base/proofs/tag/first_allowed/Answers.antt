@@ -1,5 +1,5 @@
 use Rattle.std.proofs.Common.{◌∙◌, sym, arith, rules}
-use Rattle.mt_base.specs.TagChoice.{first_is, first_none}
+use Rattle.mt_base.specs.Laws.TagChoice.{first_is, first_none}
 use Rattle.mt_base.proofs.tag.first_allowed.Goals as goal
 
 -- the tags before this one are excluded, and it is not

@@ -1,6 +1,6 @@
 use Rattle.std.proofs.Common.{◌∙◌, ap, ◌+◌, arith, slice_index}
 use Rattle.mt_base.specs.Tags.{allowed_from}
-use Rattle.mt_base.specs.TagChoice.{next_tag_next}
+use Rattle.mt_base.specs.Laws.TagChoice.{next_tag_next}
 use Rattle.mt_base.proofs.tag.next_tag.Goals as goal
 
 -- the first tag behind the one before is that of the next offset

@@ -1,6 +1,7 @@
 -- A write at the first file of the name, and a new file behind the others.
 use Rattle.std.proofs.Common.{Some, ◌≡◌, string_bytes, sym, ◌∙◌, ap}
-use Rattle.mt_outside.proofs.FirstFiles.{IsFirstAt, IsFirstAt-from_place, name-first_at, first_bytes-set, first_bytes-set_other, IsNowhere-from_place, first_bytes-push, first_bytes-push_other}
+use Rattle.mt_outside.proofs.FirstFiles.{IsFirstAt, IsFirstAt-from_place, name-first_at, first_bytes-set, first_bytes-set_other}
+use Rattle.mt_outside.proofs.FirstFiles.{IsNowhere-from_place, first_bytes-push, first_bytes-push_other}
 use Rattle.mt_outside.proofs.mem_files.put_bytes.Goals as goal
 
 first : (c : goal.After-drop-index_mut) → IsFirstAt c.args.files.now.items c.args.name.now c.in-Some.place
@@ -22,4 +23,5 @@ returns-in_ok-push-in-None-clause-named c =
     ∙ ap Some c.in_ok-bytes.ensures.items)
 
 pub returns-in_ok-push-in-None-clause-others : goal.returns-in_ok-push-in-None-clause-others
-returns-in_ok-push-in-None-clause-others c = rw c.in_ok-push-in-None.ensures.items (first_bytes-push_other _ _ _ c.in_ok-name-in-None.ensures.ok)
+returns-in_ok-push-in-None-clause-others c = rw c.in_ok-push-in-None.ensures.items
+    (first_bytes-push_other _ _ _ c.in_ok-name-in-None.ensures.ok)

@@ -1,34 +1,29 @@
-use Rattle.std.proofs.Common.{◌≡◌, ◌∙◌, ap, subst, sym}
+use Rattle.std.proofs.Common.{◌≡◌, ◌∙◌, subst, sym}
 use Rattle.elf_image.specs.Constant.{constant_image}
-use Rattle.elf_image.specs.Image.{image_of}
+use Rattle.elf_image.specs.Image.{Image, image_of}
 use Rattle.elf_image.specs.ImageFile.{ImageFile}
 use Rattle.mte_machine.specs.Objects.{objects}
-use Rattle.mte_machine.specs.Run.{run, end_of}
-use Rattle.tag_startup.specs.Loaded.{loaded}
-use Rattle.mt_pipeline.proofs.ConstantRun.{image_quiet}
+use Rattle.tag_startup.specs.Machine.{RunsImage}
+use Rattle.mt_pipeline.proofs.Quiet.{constant_file_quiet}
 use Rattle.mt_pipeline.proofs.runner.run_image.Goals as goal
 
--- a constant's run ends so over any outside, and the bytes are the file of one image alone
+-- the bytes are the file of one image alone
 pub returns-in-Ok-run_parts-clause-runs : goal.returns-in-Ok-run_parts-clause-runs
-returns-in-Ok-run_parts-clause-runs g c image constant outside =
-    let runs = c.in-Ok-run_parts.ensures.runs in
+returns-in-Ok-run_parts-clause-runs g c image constant =
+    let only : image_of c.in-Ok.parts ≡ constant_image constant.constant = c.in-Ok.ensures.only constant.constant constant.fits (subst (λ i. ImageFile i c.args.bytes.now) constant.image constant.file_is) in
     let before = objects g.S.Source g.K.Sink c.args.source.now c.args.sink.now in
     let after = objects g.S.Source g.K.Sink c.run_parts.new.source c.run_parts.new.sink in
-    let only : image_of c.in-Ok.parts ≡ constant_image constant.constant = c.in-Ok.ensures.only constant.constant constant.fits (subst (λ i. ImageFile i c.args.bytes.now) constant.image constant.file_is) in
-    (image_quiet (image_of c.in-Ok.parts) c.args.bytes.now c.args.n c.args.choices.now c.args.stack runs.0 before after c.in-Ok-run_parts.end c.in-Ok.ensures.found runs.1).ends outside
-    ∙ ap (λ i. end_of (run c.args.n (loaded i c.args.choices.now c.args.stack outside))) (only ∙ sym constant.image)
+    subst (λ (i : Image). RunsImage i c.args.choices.now c.args.stack c.args.n before after c.in-Ok-run_parts.end) (only ∙ sym constant.image) c.in-Ok-run_parts.ensures.runs
 
--- and leaves the source and the sink alone
+-- whose run leaves the source and the sink alone
 pub returns-in-Ok-run_parts-clause-input : goal.returns-in-Ok-run_parts-clause-input
 returns-in-Ok-run_parts-clause-input g c =
-    let runs = c.in-Ok-run_parts.ensures.runs in
     let before = objects g.S.Source g.K.Sink c.args.source.now c.args.sink.now in
     let after = objects g.S.Source g.K.Sink c.run_parts.new.source c.run_parts.new.sink in
-    (image_quiet (image_of c.in-Ok.parts) c.args.bytes.now c.args.n c.args.choices.now c.args.stack runs.0 before after c.in-Ok-run_parts.end c.in-Ok.ensures.found runs.1).source
+    (constant_file_quiet (image_of c.in-Ok.parts) c.args.bytes.now c.args.choices.now c.args.stack c.args.n before after c.in-Ok-run_parts.end c.in-Ok.ensures.found c.in-Ok-run_parts.ensures.runs).source
 
 pub returns-in-Ok-run_parts-clause-output : goal.returns-in-Ok-run_parts-clause-output
 returns-in-Ok-run_parts-clause-output g c =
-    let runs = c.in-Ok-run_parts.ensures.runs in
     let before = objects g.S.Source g.K.Sink c.args.source.now c.args.sink.now in
     let after = objects g.S.Source g.K.Sink c.run_parts.new.source c.run_parts.new.sink in
-    (image_quiet (image_of c.in-Ok.parts) c.args.bytes.now c.args.n c.args.choices.now c.args.stack runs.0 before after c.in-Ok-run_parts.end c.in-Ok.ensures.found runs.1).sink
+    (constant_file_quiet (image_of c.in-Ok.parts) c.args.bytes.now c.args.choices.now c.args.stack c.args.n before after c.in-Ok-run_parts.end c.in-Ok.ensures.found c.in-Ok-run_parts.ensures.runs).sink

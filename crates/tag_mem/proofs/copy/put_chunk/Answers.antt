@@ -18,7 +18,8 @@ returns-clause-bytes c at most chunk =
     let run = run_of c.args.regions.now at most c.args.chunk r chunk c.index-regions-chunk.is in
     byte_in-put c.args.regions.now c.args.chunk.region r c.put.new.self c.args.chunk.offset c.args.source.now c.requires.apart run.here
     (c.put.ensures.extent ∙ ap extent_of (sym c.index-regions-chunk.is))
-    (c.put.ensures.bytes ∙ ap (λ (x : Region). put_list x.bytes.items c.args.chunk.offset c.args.source.now) (sym c.index-regions-chunk.is))
+    (c.put.ensures.bytes ∙ ap (λ (x : Region). put_list x.bytes.items c.args.chunk.offset c.args.source.now)
+    (sym c.index-regions-chunk.is))
     (omega (arith, run.within, c.requires.len))
     (λ k. let small = c.type_inv.source k in omega arith)
     ∙ ap (λ a. store_bytes (byte_in c.args.regions.now) a c.args.source.now) run.placed

@@ -9,7 +9,8 @@ use Rattle.tag_mem.proofs.copy.read_bytes.Goals as goal
 pub returns-clause-answer : goal.returns-clause-answer
 returns-clause-answer c =
     sym (ap (λ a. read_answer (extents_of c.args.regions.now) (span_of c.args.guard) a (length c.args.out.now)) (sym (add-zero c.args.at))
-    ∙ chunk_done c.args.regions.now (span_of c.args.guard) (c.args.at + 0) (length c.args.out.now) c.in-Some.chunk c.requires c.in-Some.ensures.found c.if-chunk-out.true)
+    ∙ chunk_done c.args.regions.now (span_of c.args.guard) (c.args.at + 0)
+    (length c.args.out.now) c.in-Some.chunk c.requires c.in-Some.ensures.found c.if-chunk-out.true)
 
 pub returns-clause-done : goal.returns-clause-done
 returns-clause-done c _ =

@@ -1,11 +1,13 @@
-use Rattle.std.proofs.Common.{◌≡◌, ◌≤◌, ℕ, List, ◌+◌, ◌-◌, take-add, ◌∙◌, length, take, drop, sym, ap, refl, arith, true≢false, length-take}
+use Rattle.std.proofs.Common.{◌≡◌, ◌≤◌, ℕ, List, ◌+◌, ◌-◌, take-add, ◌∙◌, length, take, drop, sym, ap, refl, arith, true≢false}
+use Rattle.std.proofs.Common.{length-take}
 use Rattle.mt_base.specs.Memory.{is_mapped, store_bytes}
-use Rattle.mt_base.specs.MemoryLaws.{every_byte_at, store_bytes-nil, store_bytes-append}
+use Rattle.mt_base.specs.Laws.Memory.{every_byte_at, store_bytes-nil, store_bytes-append}
 use Rattle.tag_mem.specs.Regions.{extents_of, byte_in}
 use Rattle.tag_mem.proofs.copy.scatter.Goals as goal
 
 pub loop-done-init : goal.loop-done-init
-loop-done-init c = record { in_range = omega arith; extents = refl; written = sym (store_bytes-nil (byte_in c.args.regions.now) c.args.at) }
+loop-done-init c =
+    record { in_range = omega arith; extents = refl; written = sym (store_bytes-nil (byte_in c.args.regions.now) c.args.at) }
 
 -- each byte is in a region
 pub unreachable-requires : goal.unreachable-requires
@@ -19,10 +21,12 @@ length_front : (bytes : List ℕ) (done : ℕ) → done ≤ length bytes → len
 length_front bytes done within = omega (arith, within, length-take done bytes)
 
 -- one store goes on where the other ended
-more : (bytes : List ℕ) (old now : ℕ → ℕ) (at done count : ℕ) → done ≤ length bytes → now ≡ store_bytes old at (take done bytes) → store_bytes now (at + done) (take count (drop done bytes)) ≡ store_bytes old at (take (done + count) bytes)
+more : (bytes : List ℕ) (old now : ℕ → ℕ) (at done count : ℕ) → done ≤ length bytes → now ≡ store_bytes old at (take done bytes) →
+    store_bytes now (at + done) (take count (drop done bytes)) ≡ store_bytes old at (take (done + count) bytes)
 more bytes old now at done count within written =
     ap (λ f. store_bytes f (at + done) (take count (drop done bytes))) written
-    ∙ ap (λ n. store_bytes (store_bytes old at (take done bytes)) (at + n) (take count (drop done bytes))) (sym (length_front bytes done within))
+    ∙ ap (λ n. store_bytes (store_bytes old at (take done bytes)) (at + n) (take count (drop done bytes)))
+    (sym (length_front bytes done within))
     ∙ store_bytes-append old at (take done bytes) (take count (drop done bytes))
     ∙ ap (store_bytes old at) (sym (take-add done count bytes))
 
@@ -37,6 +41,8 @@ loop-done-preserved c =
       extents = c.put_chunk.ensures.extents ∙ c.loop-done.invariant.extents;
       written =
           written
-          ∙ ap (λ xs. store_bytes (byte_in c.loop-done.regions) (c.args.at + c.loop-done.done) xs) (ap (λ n. take n (drop c.loop-done.done c.args.bytes.now)) counted)
-          ∙ more c.args.bytes.now (byte_in c.args.regions.now) (byte_in c.loop-done.regions) c.args.at c.loop-done.done c.in-Some.chunk.count (omega arith) c.loop-done.invariant.written;
+          ∙ ap (λ xs. store_bytes (byte_in c.loop-done.regions) (c.args.at + c.loop-done.done) xs)
+          (ap (λ n. take n (drop c.loop-done.done c.args.bytes.now)) counted)
+          ∙ more c.args.bytes.now (byte_in c.args.regions.now)
+          (byte_in c.loop-done.regions) c.args.at c.loop-done.done c.in-Some.chunk.count (omega arith) c.loop-done.invariant.written;
     }

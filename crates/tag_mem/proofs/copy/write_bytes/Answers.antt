@@ -13,14 +13,20 @@ whole_part old new n same is = take_at new (drop (length new) old) n (same ∙ s
 -- one region, which is writable, holds all the bytes
 pub returns-clause-answer : goal.returns-clause-answer
 returns-clause-answer c =
-    sym (ap (λ a. write_answer (extents_of c.args.regions.now.items) (span_of c.args.guard) a (length c.args.bytes.now)) (sym (add-zero c.args.at))
-    ∙ chunk_written c.args.regions.now.items (span_of c.args.guard) (c.args.at + 0) (length c.args.bytes.now) c.in-Some.chunk c.index.result.now c.requires
-    (subst (λ (rs : List Region). IsChunk rs (c.args.at + 0) (length c.args.bytes.now) c.in-Some.chunk) c.deref.ensures.value c.in-Some.ensures.found)
+    sym (ap (λ a. write_answer (extents_of c.args.regions.now.items) (span_of c.args.guard) a (length c.args.bytes.now))
+    (sym (add-zero c.args.at))
+    ∙ chunk_written c.args.regions.now.items (span_of c.args.guard) (c.args.at + 0)
+    (length c.args.bytes.now) c.in-Some.chunk c.index.result.now c.requires
+    (subst (λ (rs : List Region). IsChunk rs (c.args.at + 0) (length c.args.bytes.now) c.in-Some.chunk) c.deref.ensures.value
+    c.in-Some.ensures.found)
     c.if-chunk-bytes.true c.index.ensures c.if-index.true)
 
 pub returns-clause-done : goal.returns-clause-done
 returns-clause-done c _ =
-    ap byte_in (whole_part c.args.regions.now.items c.put_chunk.new.regions c.args.regions.now.len (c.put_chunk.auto.regions ∙ ap length c.deref_mut.ensures.value) c.args.regions.now.ok.0)
+    ap byte_in
+    (whole_part c.args.regions.now.items c.put_chunk.new.regions c.args.regions.now.len
+    (c.put_chunk.auto.regions ∙ ap length c.deref_mut.ensures.value) c.args.regions.now.ok.0)
     ∙ c.put_chunk.ensures.bytes (c.args.at + 0) (length c.args.bytes.now)
-    (subst (λ (rs : List Region). IsChunk rs (c.args.at + 0) (length c.args.bytes.now) c.in-Some.chunk) (c.deref.ensures.value ∙ sym c.deref_mut.ensures.value) c.in-Some.ensures.found)
+    (subst (λ (rs : List Region). IsChunk rs (c.args.at + 0) (length c.args.bytes.now) c.in-Some.chunk)
+    (c.deref.ensures.value ∙ sym c.deref_mut.ensures.value) c.in-Some.ensures.found)
     ∙ ap₂ (λ rs a. store_bytes (byte_in rs) a c.args.bytes.now) c.deref_mut.ensures.value (add-zero c.args.at)

@@ -1,6 +1,6 @@
 use Rattle.std.proofs.Common.{◌+◌, ◌∙◌, sym, ap, ap₂, arith, not, ◌&&◌, ◌||◌, is_some}
 use Rattle.mt_base.specs.Memory.{is_mapped, is_protected}
-use Rattle.mt_base.specs.MemoryLaws.{every_byte_not}
+use Rattle.mt_base.specs.Laws.Memory.{every_byte_not}
 use Rattle.tag_mem.specs.declared.region.Region.{Region}
 use Rattle.tag_mem.specs.Regions.{extents_of}
 use Rattle.tag_mem.proofs.Pieces.{every_byte-add, some_byte-add, every_byte-zero, some_byte-zero, not-and}
@@ -18,7 +18,9 @@ loop-done-init c = record {
 pub returns-in_err-chunk-clause-mapped : goal.returns-in_err-chunk-clause-mapped
 returns-in_err-chunk-clause-mapped c =
     ap is_some c.from_residual.ensures
-    ∙ sym (every_byte_not (is_mapped (extents_of c.args.regions.now)) c.args.at c.args.count c.loop-done.done (omega arith) c.in_err-chunk.ensures.none)
+    ∙ sym
+    (every_byte_not (is_mapped (extents_of c.args.regions.now)) c.args.at c.args.count c.loop-done.done
+    (omega arith) c.in_err-chunk.ensures.none)
 
 -- the bytes of the chunk are in its region
 pub loop-done-preserved : goal.loop-done-preserved

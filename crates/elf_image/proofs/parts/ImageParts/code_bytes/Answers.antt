@@ -1,6 +1,6 @@
 use Rattle.std.proofs.Common.{arith}
 use Rattle.elf_image.specs.Image.{image_of}
-use Rattle.elf_image.proofs.Order.{Within, within}
+use Rattle.elf_image.specs.Laws.Order.{Within, within}
 use Rattle.elf_image.proofs.parts.ImageParts.code_bytes.Goals as goal
 
 pub overflow_mul-result : goal.overflow_mul-result

@@ -1,6 +1,6 @@
 use Rattle.std.proofs.Common.{arith, ap, length}
 use Rattle.elf_image.specs.Image.{image_of}
-use Rattle.elf_image.proofs.Order.{Within, within}
+use Rattle.elf_image.specs.Laws.Order.{Within, within}
 use Rattle.elf_image.proofs.parts.ImageParts.rodata_end.Goals as goal
 
 pub overflow_add-result : goal.overflow_add-result

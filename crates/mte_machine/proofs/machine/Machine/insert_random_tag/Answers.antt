@@ -16,9 +16,14 @@ returns g c = λ w.
     ∙ ap (λ mask. next_tag (next_choice old) 0 (excluded_by mask)) (c.general.ensures w) in
     let pointer : c.general_or_sp.result ≡ general_or_sp old c.args.rn =
     c.general_or_sp.ensures w ∙ ap (λ s. general_or_sp s c.args.rn) (c.draw.ensures.state w) in
-    let value = c.with_tag.ensures ∙ ap (λ p. with_tag p c.next_tag-tag.result) pointer ∙ ap (with_tag (general_or_sp old c.args.rn)) tag in (
+    let value = c.with_tag.ensures ∙ ap (λ p. with_tag p c.next_tag-tag.result) pointer
+    ∙ ap (with_tag (general_or_sp old c.args.rn)) tag in (
       c.advance.ensures.ran,
       c.advance.ensures.state w ∙ ap advanced (c.set_general_or_sp.ensures w)
           ∙ ap (λ v. advanced (with_general_or_sp c.args.rd v drawn)) value
-          ∙ ap (λ s. advanced (with_general_or_sp c.args.rd (with_tag (general_or_sp old c.args.rn) (next_tag (next_choice old) 0 (excluded_by (general old c.args.rm)))) s)) (c.draw.ensures.state w),
+          ∙ ap
+          (λ s. advanced
+          (with_general_or_sp c.args.rd
+          (with_tag (general_or_sp old c.args.rn) (next_tag (next_choice old) 0 (excluded_by (general old c.args.rm)))) s))
+          (c.draw.ensures.state w),
     )

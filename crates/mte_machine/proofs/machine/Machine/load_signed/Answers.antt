@@ -19,7 +19,8 @@ returns-in-Ok g c = λ w.
     (let went = c.put.ensures w in (
       went.0,
       went.1
-          ∙ ap (λ value. advanced (with_general c.args.rt value old)) (c.sext.ensures ∙ ap (λ n. sign_extend (8 * n) 64 c.in-Ok.number) (sym c.from.ensures)),
+          ∙ ap (λ value. advanced (with_general c.args.rt value old))
+          (c.sext.ensures ∙ ap (λ n. sign_extend (8 * n) 64 c.in-Ok.number) (sym c.from.ensures)),
     )))
 
 pub returns-in-Err : goal.returns-in-Err

@@ -7,5 +7,6 @@ pub returns : goal.returns
 returns g c = λ w. (
   c.advance.ensures.ran,
   c.advance.ensures.state w ∙ ap advanced (c.set_general_or_sp.ensures w)
-      ∙ ap (λ value. advanced (with_general_or_sp c.args.register value (state_of g.M.TagMemory c.args.self.now w))) c.of_width.ensures.value,
+      ∙ ap (λ value. advanced (with_general_or_sp c.args.register value (state_of g.M.TagMemory c.args.self.now w)))
+      c.of_width.ensures.value,
 )

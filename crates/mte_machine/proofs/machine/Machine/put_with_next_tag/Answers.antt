@@ -8,7 +8,8 @@ use Rattle.mte_machine.proofs.machine.Machine.put_with_next_tag.Goals as goal
 pub returns : goal.returns
 returns g c =
     let value =
-    c.with_tag.ensures ∙ ap (with_tag c.args.address) (c.next_tag-tag.ensures ∙ ap (λ tag. next_tag tag c.args.offset zero_excluded) c.tag_of.ensures) in
+    c.with_tag.ensures ∙ ap (with_tag c.args.address)
+    (c.next_tag-tag.ensures ∙ ap (λ tag. next_tag tag c.args.offset zero_excluded) c.tag_of.ensures) in
     λ w. (
       c.advance.ensures.ran,
       c.advance.ensures.state w ∙ ap advanced (c.set_general_or_sp.ensures w)

@@ -1,7 +1,8 @@
 use Rattle.std.proofs.Common.{◌≡◌, ◌-◌, ◌^◌, ℕ, List, Option, [], ap, ◌∙◌, sym, refl, ◌≢◌, arith}
 use Rattle.std.proofs.lemmas.Bool.{ne_eqb}
 use Rattle.mt_outside.specs.Source.{NextGives}
-use Rattle.mt_outside.specs.declared.source.NextAnswer.TheVariants.{Byte, End}
+use Rattle.mt_outside.specs.declared.source.NextAnswer.TheVariants.{Byte, End, Failed as NextFailed}
+use Rattle.mt_outside.specs.declared.sink.PutAnswer.TheVariants.{Done, Failed as PutFailed}
 use Rattle.a64_code.specs.Outside.{outside_of}
 use Rattle.a64_code.specs.Stepped.{Ends}
 use Rattle.a64_code.specs.declared.end.MachineEnd.TheVariants.{Exited}
@@ -19,7 +20,8 @@ returns-in-Done g c =
     let put = rw byte at c.in-Done.ensures.content in
     let number : c.from.result ≡ low_byte s = c.from.ensures ∙ byte in
     rw (c.in-1.is, (c.put-in-Done.ensures (outside_of [])).0)
-    (put_answers g.S.Source g.K.Sink c.args.source.now c.args.sink.now _ s _ put c.in-Done.ensures.never_falls
+    (put_answers g.S.Source g.K.Sink c.args.source.now c.args.sink.now _ s _ put
+    (c.in-Done.ensures.uncounted (λ is. let differ : Done ≡ PutFailed = is in cc))
     (λ w. (c.put-in-Done.ensures w).1
     ∙ ap (λ (n : ℕ). advanced (with_general service_register n (state_of g.M.TagMemory c.args.self.now w))) number))
 
@@ -29,7 +31,8 @@ returns-in-Failed g c =
     let byte : c.low_byte-byte.result ≡ low_byte s = c.low_byte-byte.ensures (outside_of []) in
     let put = rw byte at c.in-Failed.ensures.content in
     rw c.in-1.is
-    (put_fails g.S.Source g.K.Sink c.args.source.now c.args.sink.now _ s put c.in-Failed.ensures.never_falls (c.in-Failed.ensures.failed refl))
+    (put_fails g.S.Source g.K.Sink c.args.source.now c.args.sink.now _ s put c.in-Failed.ensures.never_falls
+    (c.in-Failed.ensures.failed refl))
 
 pub returns-in-Byte : goal.returns-in-Byte
 returns-in-Byte g c =
@@ -38,7 +41,8 @@ returns-in-Byte g c =
     rw (c.in-2.is, (c.put-in-Byte.ensures (outside_of [])).0)
     (next_answers g.S.Source g.K.Sink c.args.source.now _ c.args.sink.now s _ c.in-Byte.byte
     (goes_telling _ _ (NextGives (Byte c.in-Byte.byte)) told)
-    (λ (answers : List (Option ℕ)) may. told_byte _ _ c.in-Byte.byte answers told may) c.in-Byte.ensures.never_falls
+    (λ (answers : List (Option ℕ)) may. told_byte _ _ c.in-Byte.byte answers told may)
+    (c.in-Byte.ensures.uncounted (λ is. let differ : Byte c.in-Byte.byte ≡ NextFailed = is in cc))
     (λ w. (c.put-in-Byte.ensures w).1
     ∙ ap (λ (n : ℕ). advanced (with_general service_register n (state_of g.M.TagMemory c.args.self.now w))) c.from-in-Byte.ensures))
 
@@ -49,7 +53,8 @@ returns-in-End g c =
     rw (c.in-2.is, (c.put-in-End.ensures (outside_of [])).0)
     (next_answers g.S.Source g.K.Sink c.args.source.now _ c.args.sink.now s _ (2 ^ 64 - 1)
     (goes_telling _ _ (NextGives End) told)
-    (λ (answers : List (Option ℕ)) may. told_end _ _ answers told may) c.in-End.ensures.never_falls
+    (λ (answers : List (Option ℕ)) may. told_end _ _ answers told may)
+    (c.in-End.ensures.uncounted (λ is. let differ : End ≡ NextFailed = is in cc))
     (λ w. (c.put-in-End.ensures w).1))
 
 pub returns-in-Failed-next : goal.returns-in-Failed-next
@@ -74,4 +79,5 @@ returns-in_default g c =
     let not_next : n ≢ 2 = omega arith in
     let not_exit : n ≢ 3 = omega arith in
     let not_divide : n ≢ 4 = omega arith in
-    ends_alone _ _ _ _ _ (λ w. refl) tt (λ w. rw (ne_eqb n 1 not_put, ne_eqb n 2 not_next, ne_eqb n 3 not_exit, ne_eqb n 4 not_divide) refl) (λ w. refl)
+    ends_alone _ _ _ _ _ (λ w. refl) tt
+    (λ w. rw (ne_eqb n 1 not_put, ne_eqb n 2 not_next, ne_eqb n 3 not_exit, ne_eqb n 4 not_divide) refl) (λ w. refl)

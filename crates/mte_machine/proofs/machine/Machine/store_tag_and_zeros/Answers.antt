@@ -1,8 +1,7 @@
 use Rattle.mt_base.specs.Memory.{store}
 use Rattle.mt_base.specs.Pointers.{address_of}
+use Rattle.a64_code.specs.State.{with_bytes, tagged, with_tags}
 use Rattle.a64_code.specs.Access.{tag_store, access_end}
-use Rattle.a64_code.specs.LoadsAndStores.{with_bytes}
-use Rattle.a64_code.specs.TagInstructions.{tagged, with_tags}
 use Rattle.mte_machine.specs.Machine.{state_of}
 use Rattle.mte_machine.proofs.Performed.{stored}
 use Rattle.mte_machine.proofs.machine.Machine.store_tag_and_zeros.Goals as goal
@@ -13,4 +12,5 @@ returns g c = λ w.
     let pointer = c.beside-pointer.result in
     let tags = with_tags (tagged 1 old.tag (address_of pointer) c.tag_of-tag.result) old in
     rw (← c.beside-pointer.ensures w, ← c.general_or_sp.ensures w, ← c.tag_of-tag.ensures)
-    (stored (access_end old (tag_store 1 pointer)) (with_bytes (store 16 old.byte (address_of pointer) 0) tags) old _ _ _ _ (c.clear_granule-answer.ensures old) (c.go_on.ensures w))
+    (stored (access_end old (tag_store 1 pointer)) (with_bytes (store 16 old.byte (address_of pointer) 0) tags) old _ _ _ _
+    (c.clear_granule-answer.ensures old) (c.go_on.ensures w))

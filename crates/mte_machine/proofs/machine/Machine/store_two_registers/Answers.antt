@@ -1,8 +1,8 @@
 use Rattle.std.proofs.Common.{◌+◌, true}
 use Rattle.mt_base.specs.Memory.{store}
 use Rattle.mt_base.specs.Pointers.{address_of}
+use Rattle.a64_code.specs.State.{with_bytes}
 use Rattle.a64_code.specs.Access.{pair, access_end}
-use Rattle.a64_code.specs.LoadsAndStores.{with_bytes}
 use Rattle.mte_machine.specs.Machine.{state_of}
 use Rattle.mte_machine.proofs.Performed.{stored}
 use Rattle.mte_machine.proofs.machine.Machine.store_two_registers.Goals as goal

@@ -1,6 +1,6 @@
 use Rattle.mt_base.specs.Pointers.{address_of}
+use Rattle.a64_code.specs.State.{tagged, with_tags}
 use Rattle.a64_code.specs.Access.{tag_store, access_end}
-use Rattle.a64_code.specs.TagInstructions.{tagged, with_tags}
 use Rattle.mte_machine.specs.Machine.{state_of}
 use Rattle.mte_machine.proofs.Performed.{stored}
 use Rattle.mte_machine.proofs.machine.Machine.store_two_tags.Goals as goal

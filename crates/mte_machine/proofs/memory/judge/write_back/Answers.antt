@@ -12,4 +12,5 @@ returns-in-Done-clause-same g c s =
       same_regions = c.write.ensures.same_regions;
       same_guard = c.write.ensures.same_guard;
     } in
-    written_back g.M.TagMemory c.args.memory.now c.write.new.self s c.args.at (length c.args.bytes.now) c.read.new.out c.write.result wrote (c.in-Done.ensures.done refl)
+    written_back g.M.TagMemory c.args.memory.now c.write.new.self s c.args.at
+    (length c.args.bytes.now) c.read.new.out c.write.result wrote (c.in-Done.ensures.done refl)

@@ -14,5 +14,7 @@ returns g c s =
     let first : c.from_le_bytes.result ≡ load 8 now.byte at =
     c.from_le_bytes.ensures ∙ front_of_pair now.byte at c.read.new.out c.copy_from_slice.new.self read c.copy_from_slice.ensures.after in
     let second : c.from_le_bytes-2.result ≡ load 8 now.byte (at + 8) =
-    c.from_le_bytes-2.ensures ∙ back_of_pair now.byte at c.read.new.out c.copy_from_slice-2.new.self read c.copy_from_slice-2.ensures.after in
-    given (access_end now (pair c.args.pointer false c.args.checked)) c.in_ok-read.field-0 _ _ (c.in_ok-read.ensures.answer s) (ap₂ (λ x y. (x, y)) first second)
+    c.from_le_bytes-2.ensures ∙ back_of_pair now.byte at c.read.new.out c.copy_from_slice-2.new.self read
+    c.copy_from_slice-2.ensures.after in
+    given (access_end now (pair c.args.pointer false c.args.checked)) c.in_ok-read.field-0 _ _ (c.in_ok-read.ensures.answer s)
+    (ap₂ (λ x y. (x, y)) first second)

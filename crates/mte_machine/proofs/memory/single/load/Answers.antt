@@ -15,6 +15,8 @@ returns g c s =
     let long : length (take c.args.bytes none) ≡ c.args.bytes = length-take c.args.bytes none ∙ omega arith in
     let read = c.in_ok-read.ensures.done refl ∙ ap (λ n. bytes_at n now.byte at) long in
     let number : c.from_le_bytes.result ≡ load c.args.bytes now.byte at =
-    c.from_le_bytes.ensures ∙ ap (λ xs. from_le_bytes w64 (xs ++ drop c.args.bytes none)) read ∙ number_read c.args.bytes now.byte at c.requires.few in
-    given (access_end now (single c.args.bytes c.args.pointer false c.args.checked)) c.in_ok-read.field-0 c.from_le_bytes.result (load c.args.bytes now.byte at)
+    c.from_le_bytes.ensures ∙ ap (λ xs. from_le_bytes w64 (xs ++ drop c.args.bytes none)) read
+    ∙ number_read c.args.bytes now.byte at c.requires.few in
+    given (access_end now (single c.args.bytes c.args.pointer false c.args.checked)) c.in_ok-read.field-0 c.from_le_bytes.result
+    (load c.args.bytes now.byte at)
     (rw long at (c.in_ok-read.ensures.answer s)) number

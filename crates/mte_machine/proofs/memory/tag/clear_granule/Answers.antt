@@ -1,9 +1,7 @@
 use Rattle.std.proofs.Common.{◌≡◌, ℕ, ◌∙◌, Err, false, sym, ap, rules}
 use Rattle.mt_base.specs.Memory.{store, bytes_of}
 use Rattle.mt_base.specs.Pointers.{address_of}
-use Rattle.a64_code.specs.LoadsAndStores.{with_bytes}
-use Rattle.a64_code.specs.State.{State}
-use Rattle.a64_code.specs.TagInstructions.{tagged, with_tags}
+use Rattle.a64_code.specs.State.{State, with_bytes, tagged, with_tags}
 use Rattle.mte_machine.specs.Accesses.{with_memory, end_of_answer}
 use Rattle.mte_machine.proofs.Judgement.{no_end, answered}
 use Rattle.mte_machine.proofs.WriteLaws.{write_misaligned, same_memory, other_bytes}
@@ -18,34 +16,46 @@ pub returns-then-at-ne0 : goal.returns-then-at-ne0
 unfolding cleared
 returns-then-at-ne0 g c s =
     let old = with_memory g.M.TagMemory c.args.memory.now s in
-    write_misaligned old c.args.pointer 16 16 c.address_of-at.result false (cleared old (address_of c.args.pointer) c.args.tag) c.address_of-at.ensures c.if-at-ne0.true
+    write_misaligned old c.args.pointer 16 16 c.address_of-at.result false
+    (cleared old (address_of c.args.pointer) c.args.tag) c.address_of-at.ensures c.if-at-ne0.true
 
 pub returns-in_err-end_at : goal.returns-in_err-end_at
 unfolding cleared
 returns-in_err-end_at g c s =
     let failed : c.from_residual.result ≡ Err c.in_err-end_at.field-0.0 = search rules in
     let old = with_memory g.M.TagMemory c.args.memory.now s in
-    unchecked old (with_memory g.M.TagMemory c.write-answer.new.self s) (cleared old (address_of c.args.pointer) c.args.tag) c.args.pointer 16 c.address_of-at.result
-    c.write-answer.result c.from_residual.result c.address_of-at.ensures c.if-at-ne0.false c.write-answer.ensures.answer (failed ∙ c.in_err-end_at.ensures)
+    unchecked old (with_memory g.M.TagMemory c.write-answer.new.self s)
+    (cleared old (address_of c.args.pointer) c.args.tag) c.args.pointer 16 c.address_of-at.result
+    c.write-answer.result c.from_residual.result c.address_of-at.ensures c.if-at-ne0.false c.write-answer.ensures.answer
+    (failed ∙ c.in_err-end_at.ensures)
     (λ did. absurd (not_done c.write-answer.result c.address_of-at.result c.in_err-end_at.field-0.0 c.in_err-end_at.ensures did))
-    (λ other. same_memory g.M.TagMemory c.args.memory.now c.write-answer.new.self s (c.write-answer.ensures.refused other) c.write-answer.ensures.same_tags c.write-answer.ensures.same_regions c.write-answer.ensures.same_guard)
+    (λ other. same_memory g.M.TagMemory c.args.memory.now c.write-answer.new.self s
+    (c.write-answer.ensures.refused other) c.write-answer.ensures.same_tags c.write-answer.ensures.same_regions
+    c.write-answer.ensures.same_guard)
 
 pub set_a_tag-requires-clause-writable : goal.set_a_tag-requires-clause-writable
 set_a_tag-requires-clause-writable g c =
     let old = with_memory g.M.TagMemory c.args.memory.now some_state in
     let new = with_memory g.M.TagMemory c.write-answer.new.self some_state in
-    let did = answered c.write-answer.result c.address_of-at.result (no_end (end_of_answer c.write-answer.result c.address_of-at.result) c.in_ok-end_at.field-0 (tt {0}) c.in_ok-end_at.ensures) in
-    still_writable old new c.address_of-at.result 16 c.write-answer.ensures.same_regions c.write-answer.ensures.same_guard (sym c.write-answer.ensures.answer ∙ did)
+    let did = answered c.write-answer.result c.address_of-at.result
+    (no_end (end_of_answer c.write-answer.result c.address_of-at.result) c.in_ok-end_at.field-0 (tt {0}) c.in_ok-end_at.ensures) in
+    still_writable old new c.address_of-at.result 16 c.write-answer.ensures.same_regions c.write-answer.ensures.same_guard
+    (sym c.write-answer.ensures.answer ∙ did)
 
 pub returns : goal.returns
 unfolding cleared bytes_of
 returns g c s =
     let old = with_memory g.M.TagMemory c.args.memory.now s in
     let at = c.address_of-at.result in
-    let did = answered c.write-answer.result at (no_end (end_of_answer c.write-answer.result at) c.in_ok-end_at.field-0 (tt {0}) c.in_ok-end_at.ensures) in
+    let did = answered c.write-answer.result at
+    (no_end (end_of_answer c.write-answer.result at) c.in_ok-end_at.field-0 (tt {0}) c.in_ok-end_at.ensures) in
     let wrote : with_memory g.M.TagMemory c.write-answer.new.self s ≡ with_bytes (store 16 old.byte at 0) old =
-    other_bytes g.M.TagMemory c.args.memory.now c.write-answer.new.self s (store 16 old.byte at 0) (c.write-answer.ensures.done did) c.write-answer.ensures.same_tags c.write-answer.ensures.same_regions c.write-answer.ensures.same_guard in
-    unchecked old (with_memory g.M.TagMemory c.set_a_tag.new.memory s) (cleared old (address_of c.args.pointer) c.args.tag) c.args.pointer 16 at
+    other_bytes g.M.TagMemory c.args.memory.now c.write-answer.new.self s (store 16 old.byte at 0)
+    (c.write-answer.ensures.done did) c.write-answer.ensures.same_tags c.write-answer.ensures.same_regions
+    c.write-answer.ensures.same_guard in
+    unchecked old (with_memory g.M.TagMemory c.set_a_tag.new.memory s)
+    (cleared old (address_of c.args.pointer) c.args.tag) c.args.pointer 16 at
     c.write-answer.result _ c.address_of-at.ensures c.if-at-ne0.false c.write-answer.ensures.answer c.in_ok-end_at.ensures
-    (λ _. c.set_a_tag.ensures s ∙ ap (λ (t : State). with_tags (tagged 1 t.tag at c.args.tag) t) wrote ∙ ap (λ a. cleared old a c.args.tag) c.address_of-at.ensures)
+    (λ _. c.set_a_tag.ensures s ∙ ap (λ (t : State). with_tags (tagged 1 t.tag at c.args.tag) t) wrote
+    ∙ ap (λ a. cleared old a c.args.tag) c.address_of-at.ensures)
     (λ other. absurd (other did))

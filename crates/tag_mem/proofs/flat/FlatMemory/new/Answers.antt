@@ -5,8 +5,16 @@ use Rattle.tag_mem.proofs.flat.FlatMemory.new.Goals as goal
 -- each region has its zeros when all were gone through
 all_zero : (c : goal.After-loop-region) → AreZeros c.args.regions.items c.loop-region.tags.items
 all_zero c = record {
-  count = omega (arith, c.loop-region.invariant.count, c.loop-region-test.false, c.loop-region.auto.region-index-end, ap length c.deref-region-items.ensures.value);
-  zeros = λ k r t below. rw c.deref-region-items.ensures.value at (c.loop-region.invariant.zeros k r t (omega (arith, below, c.loop-region-test.false, ap length c.deref-region-items.ensures.value)));
+  count =
+      omega (
+        arith,
+        c.loop-region.invariant.count,
+        c.loop-region-test.false,
+        c.loop-region.auto.region-index-end,
+        ap length c.deref-region-items.ensures.value,
+      );
+  zeros = λ k r t below. rw c.deref-region-items.ensures.value at
+      (c.loop-region.invariant.zeros k r t (omega (arith, below, c.loop-region-test.false, ap length c.deref-region-items.ensures.value)));
 }
 
 pub invariant_of-result : goal.invariant_of-result

@@ -10,4 +10,5 @@ pub put_tag-requires-clause-mapped : goal.put_tag-requires-clause-mapped
 put_tag-requires-clause-mapped c =
     ap (λ rs. is_mapped (extents_of rs) c.args.at) c.deref-in-Done.ensures.value
     ∙ tagged_mapped (extents_of c.args.self.now.regions.items) (span_of c.args.self.now.guard) c.args.at
-    (c.in-Done.ensures ∙ ap (λ rs. write_answer (extents_of rs) (span_of c.args.self.now.guard) (c.args.at / 16 * 16) 16) c.deref.ensures.value)
+    (c.in-Done.ensures ∙ ap (λ rs. write_answer (extents_of rs) (span_of c.args.self.now.guard) (c.args.at / 16 * 16) 16)
+    c.deref.ensures.value)

@@ -1,3 +1,0 @@
-mod arithmetic;
-mod bitfields;
-mod flags;

@@ -1,6 +1,0 @@
-pub mod Declarators
-pub mod StarredLaws
-pub mod BracketLaws
-pub mod DeclaratorLaws
-pub mod Growth
-pub mod Code

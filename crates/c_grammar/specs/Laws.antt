@@ -1,0 +1,2 @@
+-- Laws for later proofs.
+pub mod EndingLaws

@@ -1,5 +1,0 @@
-pub mod Initializers
-pub mod ListLaws
-pub mod InitialLaws
-pub mod Growth
-pub mod Code

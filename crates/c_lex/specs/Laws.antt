@@ -1,0 +1,26 @@
+-- Starts and TokenLaws are laws of the tokens of a text. The others lead there: what the scanner finds is what the definitions say.
+pub mod Starts
+pub mod RunLaws
+pub mod Slices
+pub mod Classes
+pub mod Tells
+pub mod WordReads
+pub mod EscapeLaws
+pub mod EscapeFronts
+pub mod TextLaws
+pub mod BodyFronts
+pub mod QuotedReads
+pub mod DirectiveReads
+pub mod ItemFaults
+pub mod LineFaults
+pub mod FaultReads
+pub mod ReadLaws
+pub mod Standing
+pub mod TokenLaws
+pub mod DigitValues
+pub mod Escapes
+pub mod Items
+pub mod Literals
+pub mod Scanned
+pub mod ScannedFaults
+pub mod FaultForms

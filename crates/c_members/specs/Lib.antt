@@ -1,5 +1,0 @@
-pub mod Members
-pub mod ListLaws
-pub mod MemberLaws
-pub mod Growth
-pub mod Code

@@ -1,8 +1,0 @@
-pub mod Objects
-pub mod ObjectLaws
-pub mod EndLaws
-pub mod RestLaws
-pub mod RestParts
-pub mod LocalLaws
-pub mod Growth
-pub mod Code

@@ -1,0 +1,25 @@
+-- Laws for later proofs.
+pub mod Lists
+pub mod ChainLaws
+pub mod LoopLaws
+pub mod Deeper
+pub mod ExactLaws
+pub mod WholeLaws
+pub mod OptionalLaws
+pub mod Depths
+pub mod NameLaws
+pub mod TypeWordLaws
+pub mod TypeOrders
+pub mod TypeNameLaws
+pub mod StarLaws
+pub mod TypeGrowth
+pub mod TypeCode
+pub mod Bases
+pub mod Parts
+pub mod AnswerLaws
+pub mod WordLaws
+pub mod WordGood
+pub mod SpanLaws
+pub mod StartingLaws
+pub mod GuardedLaws
+pub mod WordListLaws

@@ -1,0 +1,114 @@
+use Rattle.std.proofs.Common.{arith, sym, ◌∙◌, ap, ◌-◌, refl}
+use Rattle.c_ast.specs.declared.punctuator.Punctuator.TheVariants as mark
+use Rattle.c_parse_base.specs.Reading.Words.{punct}
+use Rattle.c_parse_base.specs.Laws.AnswerLaws.{answers_on, answers_by, answers_stop, answers_next, answers_behind, answers_made}
+use Rattle.c_parse_decl.specs.Reading.Initializers.{closed, under}
+use Rattle.c_parse_decl.specs.Laws.Initializers.Code.{rest_items, turn_item, turn_comma, items_is, items_first, items_end, items_turn, items_read, turn_takes, closed_is, initial_value, initial_deep, initial_braces}
+use Rattle.c_parse_decl.proofs.initializers.parser.+initializer.Goals as goal
+
+pub turn-returns-in_err-expect-clause-answers : goal.turn-returns-in_err-expect-clause-answers
+turn-returns-in_err-expect-clause-answers t c =
+    answers_on _ c.from_residual.ensures.1 (answers_by (turn_comma c.args.depth c.args.read c.args.cursor.now c.if-not-read.true)
+    (answers_stop _ c.in_err-expect.ensures))
+
+pub turn-returns-then-not-read-clause-answers : goal.turn-returns-then-not-read-clause-answers
+turn-returns-then-not-read-clause-answers t c =
+    answers_made c.with_comma.ensures (answers_by (turn_comma c.args.depth c.args.read c.args.cursor.now c.if-not-read.true)
+    (answers_next _ c.in_ok-expect.ensures (record { is = refl })))
+
+pub turn-returns-in_err-next-clause-answers : goal.turn-returns-in_err-next-clause-answers
+turn-returns-in_err-next-clause-answers t c =
+    answers_on _ c.from_residual-in_err-next.ensures.1 (answers_by
+    (turn_item c.args.depth c.args.read c.args.cursor.now c.requires.room c.if-not-read.false)
+    (answers_stop _ c.in_err-next.ensures.answers))
+
+pub turn-returns-clause-answers : goal.turn-returns-clause-answers
+turn-returns-clause-answers t c =
+    answers_made c.in_ok-with.ensures
+    (answers_by (turn_item c.args.depth c.args.read c.args.cursor.now c.requires.room c.if-not-read.false)
+    (answers_next _ c.in_ok-next.ensures.answers (record { is = refl })))
+
+pub items-returns-in_err-first-clause-answers : goal.items-returns-in_err-first-clause-answers
+items-returns-in_err-first-clause-answers t c =
+    answers_on _ c.from_residual.ensures.1 (answers_by (items_is c.args.depth c.args.cursor.now c.requires)
+    (answers_stop _ (answers_stop _ c.in_err-first.ensures.answers)))
+
+pub items-loop-alloc-init : goal.items-loop-alloc-init
+items-loop-alloc-init t c = record {
+  reads = items_first c.args.depth c.args.cursor.now c.initial.new.cursor c.in_ok-first.first c.requires c.in_ok-first.ensures.answers.is
+      ∙ ap (λ a. rest_items c.args.depth a c.initial.new.cursor) (sym c.in_ok-read.ensures);
+  low = omega (arith, ap (λ a. a.height) c.in_ok-read.ensures, c.in_ok-first.ensures.low, c.requires);
+}
+
+pub items-returns-in_err-read-2-clause-answers : goal.items-returns-in_err-read-2-clause-answers
+items-returns-in_err-read-2-clause-answers t c =
+    answers_on _ c.from_residual-in_err-read-2.ensures.1
+    (answers_by (c.loop-alloc.invariant.reads ∙ items_turn c.args.depth c.loop-alloc.read c.loop-alloc.cursor
+    (sym c.goes_on.ensures ∙ c.loop-alloc-test.true))
+    (answers_stop _ c.in_err-read-2.ensures.answers))
+
+pub items-loop-alloc-smaller : goal.items-loop-alloc-smaller
+items-loop-alloc-smaller t c = turn_takes c.args.depth c.loop-alloc.read c.in_ok-read-2.read c.loop-alloc.cursor c.turn.new.cursor
+    c.requires c.loop-alloc.invariant.low c.in_ok-read-2.ensures.answers.is
+
+pub items-loop-alloc-preserved : goal.items-loop-alloc-preserved
+items-loop-alloc-preserved t c = record {
+  reads = c.loop-alloc.invariant.reads
+      ∙ items_read c.args.depth c.loop-alloc.read c.in_ok-read-2.read c.loop-alloc.cursor c.turn.new.cursor c.requires
+      c.loop-alloc.invariant.low (sym c.goes_on.ensures ∙ c.loop-alloc-test.true)
+      c.in_ok-read-2.ensures.answers.is;
+  low = c.in_ok-read-2.ensures.low;
+}
+
+pub items-returns-clause-answers : goal.items-returns-clause-answers
+items-returns-clause-answers t c =
+    record {
+      is = c.loop-alloc.invariant.reads ∙ items_end c.args.depth c.loop-alloc.read c.loop-alloc.cursor
+          (sym c.goes_on.ensures ∙ c.loop-alloc-test.false);
+    }
+
+pub closed-returns-in_err-read-clause-answers : goal.closed-returns-in_err-read-clause-answers
+closed-returns-in_err-read-clause-answers t c =
+    answers_on _ c.from_residual.ensures.1 (answers_by (closed_is c.args.depth c.args.left c.args.cursor.now)
+    (answers_stop _ (answers_stop _ c.in_err-read.ensures.answers)))
+
+pub closed-returns-in_err-right-clause-answers : goal.closed-returns-in_err-right-clause-answers
+closed-returns-in_err-right-clause-answers t c =
+    answers_on _ c.from_residual-in_err-right.ensures.1
+    (answers_by (closed_is c.args.depth c.args.left c.args.cursor.now)
+    (answers_stop _ (answers_next _ c.in_ok-read.ensures.answers (answers_stop _ c.in_err-right.ensures))))
+
+pub closed-returns-clause-answers : goal.closed-returns-clause-answers
+closed-returns-clause-answers t c =
+    answers_made c.list.ensures
+    (answers_by (closed_is c.args.depth c.args.left c.args.cursor.now)
+    (answers_next _ (answers_next _ c.in_ok-read.ensures.answers (answers_next _ c.in_ok-right.ensures (record { is = refl })))
+    (record { is = refl })))
+
+pub initial-returns-in_err-read-clause-answers : goal.initial-returns-in_err-read-clause-answers
+initial-returns-in_err-read-clause-answers t c =
+    answers_on _ c.from_residual.ensures.1 (answers_by (initial_value c.args.depth c.args.cursor.now (sym c.if-not-sees.ensures))
+    (answers_stop _ c.in_err-read.ensures.answers))
+
+pub initial-returns-then-not-sees-clause-answers : goal.initial-returns-then-not-sees-clause-answers
+initial-returns-then-not-sees-clause-answers t c =
+    answers_made c.value.ensures
+    (answers_by (initial_value c.args.depth c.args.cursor.now (sym c.if-not-sees.ensures))
+    (answers_next _ c.in_ok-read.ensures.answers (record { is = refl })))
+
+pub initial-returns-then-depth-eq0-clause-answers : goal.initial-returns-then-depth-eq0-clause-answers
+initial-returns-then-depth-eq0-clause-answers t c = record {
+  is = initial_deep c.args.depth c.args.cursor.now (sym c.if-not-sees.ensures)
+      (omega arith);
+}
+
+pub initial-returns-in_err-left-clause-answers : goal.initial-returns-in_err-left-clause-answers
+initial-returns-in_err-left-clause-answers t c =
+    answers_on _ c.from_residual-in_err-left.ensures.1
+    (answers_by (initial_braces c.args.depth c.args.cursor.now (sym c.if-not-sees.ensures) (omega arith))
+    (answers_stop _ (answers_stop _ c.in_err-left.ensures)))
+
+pub initial-returns-clause-answers : goal.initial-returns-clause-answers
+initial-returns-clause-answers t c =
+    answers_by (initial_braces c.args.depth c.args.cursor.now (sym c.if-not-sees.ensures) (omega arith))
+    (answers_behind (punct mark.LeftBrace) (closed (under c.args.depth)) _ c.in_ok-left.ensures c.closed.ensures.answers)

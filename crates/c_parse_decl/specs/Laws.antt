@@ -1,0 +1,6 @@
+-- Laws for later proofs.
+pub mod Declarators
+pub mod Parameters
+pub mod Initializers
+pub mod Objects
+pub mod Members

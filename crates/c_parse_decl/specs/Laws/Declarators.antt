@@ -1,0 +1,5 @@
+pub mod StarredLaws
+pub mod BracketLaws
+pub mod DeclaratorLaws
+pub mod Growth
+pub mod Code

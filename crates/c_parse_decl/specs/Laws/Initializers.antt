@@ -1,0 +1,4 @@
+pub mod ListLaws
+pub mod InitialLaws
+pub mod Growth
+pub mod Code

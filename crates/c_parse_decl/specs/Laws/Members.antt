@@ -1,0 +1,4 @@
+pub mod ListLaws
+pub mod MemberLaws
+pub mod Growth
+pub mod Code

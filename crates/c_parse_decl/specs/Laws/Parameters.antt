@@ -1,0 +1,10 @@
+pub mod ParameterWords
+pub mod VoidWords
+pub mod ListWords
+pub mod ListOut
+pub mod Beginnings
+pub mod ParameterLaws
+pub mod ListLaws
+pub mod ParametersLaws
+pub mod Growth
+pub mod Code

@@ -1,0 +1,22 @@
+-- Laws for later proofs.
+pub mod StartLaws
+pub mod AfterLaws
+pub mod BeginLaws
+pub mod TypeBegins
+pub mod PrimaryLaws
+pub mod MarkedLaws
+pub mod ArgumentLaws
+pub mod StepLaws
+pub mod SuffixLaws
+pub mod PostfixLaws
+pub mod UnaryLaws
+pub mod SizeofLaws
+pub mod OperandLaws
+pub mod ChoiceLaws
+pub mod ExpressionLaws
+pub mod Growth
+pub mod WordCode
+pub mod OperandCode
+pub mod Code
+pub mod OperatorLaws
+pub mod LevelLaws

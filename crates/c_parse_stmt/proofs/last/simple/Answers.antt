@@ -1,0 +1,16 @@
+use Rattle.std.proofs.Common.{◌-◌, refl}
+use Rattle.c_parse_base.specs.Laws.AnswerLaws.{answers_on, answers_by, answers_stop, answers_next, answers_made}
+use Rattle.c_parse_stmt.specs.Laws.ClauseCode.{simple_is}
+use Rattle.c_parse_stmt.proofs.last.simple.Goals as goal
+
+pub returns-in_err-read-clause-answers : goal.returns-in_err-read-clause-answers
+returns-in_err-read-clause-answers c =
+    answers_on _ c.from_residual.ensures.1
+    (answers_by (simple_is c.args.depth c.args.cursor.now)
+    (answers_stop _ c.in_err-read.ensures.answers))
+
+pub returns-clause-answers : goal.returns-clause-answers
+returns-clause-answers c =
+    answers_made c.in_ok-simple.ensures
+    (answers_by (simple_is c.args.depth c.args.cursor.now)
+    (answers_next _ c.in_ok-read.ensures.answers (record { is = refl })))

@@ -1,0 +1,9 @@
+pub mod Wrapping
+pub mod TwosComplement
+pub mod Extension
+pub mod Shifts
+pub mod Granules
+pub mod Pointers
+pub mod TagChoice
+pub mod SlotTags
+pub mod Memory

@@ -1,0 +1,3 @@
+pub mod ConstantExamples
+pub mod Encoded
+pub mod LexCauses

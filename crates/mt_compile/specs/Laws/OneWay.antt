@@ -1,0 +1,40 @@
+-- Work that gives one thing, or has one refusal at one place, and never both; and stages of such work in turn.
+use Rattle.std.proofs.Common.{◌≡◌, ℕ, sym, subst}
+
+pub record OneWay {B R : Type 0} (Gives : B → Type 0) (Refuses : R → ℕ → Type 0) : Type 0 where
+  pub gives_one : (b c : B) → Gives b → Gives c → b ≡ c
+  pub refuses_one : (r s : R) (p q : ℕ) → Refuses r p → Refuses s q → (r ≡ s) × (p ≡ q)
+  pub never_both : (b : B) (r : R) (p : ℕ) → Gives b → Refuses r p → ⊥
+
+-- a second stage goes on from what the first one gives
+pub record GoesOn {B C : Type 0} (Gives : B → Type 0) (Next : B → C → Type 0) (c : C) : Type 0 where
+  pub between : B
+  pub first : Gives between
+  pub second : Next between c
+
+-- one of the two refuses, the second from what the first one gives
+pub data Stops {B R : Type 0} (Gives : B → Type 0) (Refuses : R → ℕ → Type 0) (NextRefuses : B → R → ℕ → Type 0) (r : R) (p : ℕ) : Type 0 where
+  at_first : Refuses r p → Stops Gives Refuses NextRefuses r p
+  behind : (between : B) → Gives between → NextRefuses between r p → Stops Gives Refuses NextRefuses r p
+
+module _ {B C R : Type 0} (Gives : B → Type 0) (Refuses : R → ℕ → Type 0) (Next : B → C → Type 0) (NextRefuses : B → R → ℕ → Type 0)
+    (first : OneWay Gives Refuses) (second : (b : B) → OneWay (Next b) (NextRefuses b)) where
+  one_result : (c d : C) → GoesOn Gives Next c → GoesOn Gives Next d → c ≡ d
+  one_result c d x y =
+      (second x.between).gives_one c d x.second (subst (λ b. Next b d) (sym (first.gives_one x.between y.between x.first y.first)) y.second)
+
+  one_stop : (r s : R) (p q : ℕ) → Stops Gives Refuses NextRefuses r p → Stops Gives Refuses NextRefuses s q → (r ≡ s) × (p ≡ q)
+  one_stop r s p q (at_first x) (at_first y) = first.refuses_one r s p q x y
+  one_stop r s p q (at_first x) (behind b gives y) = absurd (first.never_both b r p gives x)
+  one_stop r s p q (behind b gives x) (at_first y) = absurd (first.never_both b s q gives y)
+  one_stop r s p q (behind b gives x) (behind c also y) =
+      (second b).refuses_one r s p q x (subst (λ e. NextRefuses e s q) (sym (first.gives_one b c gives also)) y)
+
+  never_stops : (c : C) (r : R) (p : ℕ) → GoesOn Gives Next c → Stops Gives Refuses NextRefuses r p → ⊥
+  never_stops c r p x (at_first y) = first.never_both x.between r p x.first y
+  never_stops c r p x (behind b gives y) =
+      (second x.between).never_both c r p x.second (subst (λ e. NextRefuses e r p) (sym (first.gives_one x.between b x.first gives)) y)
+
+  -- Two stages in turn go one way.
+  pub in_turn : OneWay (GoesOn Gives Next) (Stops Gives Refuses NextRefuses)
+  in_turn = record { gives_one = one_result; refuses_one = one_stop; never_both = never_stops }

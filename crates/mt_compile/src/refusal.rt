@@ -1,0 +1,41 @@
+// Why a source is refused.
+
+use c_lex::LexRefusal;
+use c_parse::ParseRefusal;
+use thiserror::Error;
+
+/// Why a source is refused. A refusal inside is never the want of memory.
+#[derive(Debug, Drop, Error)]
+pub enum CompileRefusal {
+    /// Its text is too long, or not gaps and tokens in turn.
+    #[error("{0}")]
+    Lex(LexRefusal),
+    /// Its tokens spell no program that is read.
+    #[error("{0}")]
+    Parse(ParseRefusal),
+    /// Its program is not of the form that is taken today.
+    #[error("NotYet")]
+    NotYet,
+    /// Want of memory.
+    #[error("NoMemory")]
+    NoMemory,
+}
+
+impl CompileRefusal {
+    ghost use Rattle.std.specs.Prelude.{◌≡◌};
+    ghost use Rattle.mt_compile.specs.Refused.{number_of};
+
+    /// The refusal's number, and 0 for want of memory.
+    pub fn number(&self) -> u8
+        ensures { result ≡ number_of self.now }
+    {
+        match self {
+            CompileRefusal::Lex(refusal) => refusal.number(),
+            CompileRefusal::Parse(ParseRefusal::Unexpected { .. }) => 7,
+            CompileRefusal::Parse(ParseRefusal::TooDeep { .. }) => 8,
+            CompileRefusal::Parse(ParseRefusal::NoMemory) => 0,
+            CompileRefusal::NotYet => 44,
+            CompileRefusal::NoMemory => 0,
+        }
+    }
+}

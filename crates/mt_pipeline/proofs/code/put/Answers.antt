@@ -1,4 +1,0 @@
-use Rattle.mt_pipeline.proofs.code.put.Goals as goal
-
-pub returns : goal.returns
-returns c = (c.unwrap.result, (c.encode.ensures.row c.unwrap.result).0 c.unwrap.ensures, c.in_ok-push.ensures.items)

@@ -1,6 +1,0 @@
-use Rattle.mt_pipeline.proofs.ConstantTrees.{constant_in_range}
-use Rattle.mt_pipeline.proofs.image.parts_of.Goals as goal
-
--- the constant is of type int
-pub words_of-requires : goal.words_of-requires
-words_of-requires c = constant_in_range c.in-Ok.ensures.constant.returns

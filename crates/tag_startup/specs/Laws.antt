@@ -1,0 +1,3 @@
+pub mod Placed
+pub mod CodeInMemory
+pub mod MachineLaws
