@@ -1,0 +1,11 @@
+-- The numbers of the refusals.
+use Rattle.std.specs.Prelude.{ℕ}
+use Rattle.memtag_desc.specs.declared.refusal.DescRefusal.{DescRefusal}
+use Rattle.memtag_desc.specs.declared.refusal.DescRefusal.TheVariants.{Cut, LongForm, TooFar, NoMemory}
+
+-- the number of each refusal; want of memory, which says nothing of the bytes, has none
+abbrev pub number_of : DescRefusal → ℕ
+number_of (Cut at) = 35
+number_of (LongForm at) = 36
+number_of (TooFar at) = 37
+number_of NoMemory = 0
