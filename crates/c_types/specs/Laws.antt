@@ -1,0 +1,12 @@
+pub mod Opened
+pub mod SizeLaws
+pub mod LayoutLaws
+pub mod FirstScalarLaws
+pub mod StructLaws
+pub mod FirstLaws
+pub mod WellTypedLaws
+pub mod SaidLaws
+pub mod TypeLaws
+pub mod GrowthLaws
+pub mod TableLaws
+pub mod PromiseLaws

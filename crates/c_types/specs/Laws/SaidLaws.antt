@@ -1,0 +1,268 @@
+-- What is said of expressions, types, initialisers and statements, one equation a construct.
+use Rattle.std.proofs.Common.{◌≡◌, ℕ, List, map, Option, Some, None, ap, ◌∙◌}
+use Rattle.c_ast.specs.Tree.{expr}
+use Rattle.c_ast.specs.Laws.Opened.{given_trees}
+use Rattle.c_ast.specs.declared.token.Span.{Span}
+use Rattle.c_ast.specs.declared.int_type.IntType.{IntType}
+use Rattle.c_ast.specs.declared.operator.UnaryOperator.{UnaryOperator}
+use Rattle.c_ast.specs.declared.operator.BinaryOperator.{BinaryOperator}
+use Rattle.c_ast.specs.declared.operator.AssignOperator.{AssignOperator}
+use Rattle.c_ast.specs.declared.operator.Step.{Step}
+use Rattle.c_ast.specs.declared.expr.CType.{CType}
+use Rattle.c_ast.specs.declared.expr.CType.TheVariants as ctype
+use Rattle.c_ast.specs.declared.expr.Expr.{Expr}
+use Rattle.c_ast.specs.declared.expr.Node.{Node}
+use Rattle.c_ast.specs.declared.expr.Node.TheVariants as node
+use Rattle.c_ast.specs.declared.expr.CType.TheOpen.{CType-F, Node-F}
+use Rattle.c_ast.specs.declared.expr.CType.TheFolds.{fold-Node, fold-roll-CType, fold-roll-Node, fold_out-Expr}
+use Rattle.c_ast.specs.declared.declaration.Decl.{Decl}
+use Rattle.c_ast.specs.declared.declaration.Init.{Init}
+use Rattle.c_ast.specs.declared.declaration.Init.TheVariants as init
+use Rattle.c_ast.specs.declared.declaration.Init.TheOpen.{Init-F}
+use Rattle.c_ast.specs.declared.declaration.Init.TheFolds.{fold-roll-Init}
+use Rattle.c_ast.specs.declared.statement.Stmt.{Stmt}
+use Rattle.c_ast.specs.declared.statement.Stmt.TheVariants as stmt
+use Rattle.c_ast.specs.declared.statement.Item.{Item}
+use Rattle.c_ast.specs.declared.statement.Item.TheVariants as item
+use Rattle.c_ast.specs.declared.statement.Item.TheOpen.{Item-F, Stmt-F}
+use Rattle.c_ast.specs.declared.statement.Item.TheFolds.{fold-Item, fold-roll-Item, fold-roll-Stmt}
+use Rattle.c_types.specs.declared.statement.TItem.{TItem}
+use Rattle.c_types.specs.Outcomes.{Judged}
+use Rattle.c_types.specs.Said.{Said, NodeSaid, Written, type_step}
+use Rattle.c_types.specs.Expressions.{node_step, expr_step, expression, written}
+use Rattle.c_types.specs.Initials.{InitSaid, init_step, initialiser}
+use Rattle.c_types.specs.Statements.{StmtSaid, stmt_step, item_step, statement}
+
+-- ---- types
+
+pub written-void : written ctype.Void ≡ type_step CType-F.Void
+unfolding given_trees
+written-void = fold-roll-CType (Span → Judged Written) NodeSaid Said type_step node_step expr_step CType-F.Void
+
+pub written-int : (t : IntType) → written (ctype.Int t) ≡ type_step (CType-F.Int t)
+unfolding given_trees
+written-int t = fold-roll-CType (Span → Judged Written) NodeSaid Said type_step node_step expr_step (CType-F.Int t)
+
+pub written-struct : (tag : List ℕ) → written (ctype.Struct tag) ≡ type_step (CType-F.Struct tag)
+unfolding given_trees
+written-struct tag = fold-roll-CType (Span → Judged Written) NodeSaid Said type_step node_step expr_step (CType-F.Struct tag)
+
+pub written-pointer : (t : CType) → written (ctype.Pointer t) ≡ type_step (CType-F.Pointer (written t))
+unfolding given_trees
+written-pointer t = fold-roll-CType (Span → Judged Written) NodeSaid Said type_step node_step expr_step (CType-F.Pointer t)
+
+pub written-array : (t : CType) (e : Expr) → written (ctype.Array t (Some e)) ≡ type_step (CType-F.Array (written t) (Some (expression e)))
+unfolding given_trees
+written-array t e = fold-roll-CType (Span → Judged Written) NodeSaid Said type_step node_step expr_step (CType-F.Array t (Some e))
+
+pub written-open : (t : CType) → written (ctype.Array t None) ≡ type_step (CType-F.Array (written t) None)
+unfolding given_trees
+written-open t = fold-roll-CType (Span → Judged Written) NodeSaid Said type_step node_step expr_step (CType-F.Array t None)
+
+-- ---- expressions
+
+said_by : (span : Span) (n : Node) → expression (expr span n) ≡ expr_step (record {
+  span =
+      span;
+  node = fold-Node (Span → Judged Written) NodeSaid Said type_step node_step expr_step n;
+})
+unfolding given_trees
+said_by span n = fold_out-Expr (Span → Judged Written) NodeSaid Said type_step node_step expr_step (expr span n)
+
+pub said-constant : (span : Span) (n : ℕ) (t : IntType) → expression (expr span (node.Constant n t)) ≡
+    expr_step (record { span = span; node = node_step (Node-F.Constant n t) })
+unfolding given_trees
+said-constant span n t =
+    said_by span (node.Constant n t)
+    ∙ ap (λ n. expr_step (record { span = span; node = n }))
+    (fold-roll-Node (Span → Judged Written) NodeSaid Said type_step node_step expr_step (Node-F.Constant n t))
+
+pub said-text : (span : Span) (bytes : List ℕ) → expression (expr span (node.Text bytes)) ≡
+    expr_step (record { span = span; node = node_step (Node-F.Text bytes) })
+unfolding given_trees
+said-text span bytes =
+    said_by span (node.Text bytes)
+    ∙ ap (λ n. expr_step (record { span = span; node = n }))
+    (fold-roll-Node (Span → Judged Written) NodeSaid Said type_step node_step expr_step (Node-F.Text bytes))
+
+pub said-variable : (span : Span) (name : List ℕ) → expression (expr span (node.Variable name)) ≡
+    expr_step (record { span = span; node = node_step (Node-F.Variable name) })
+unfolding given_trees
+said-variable span name =
+    said_by span (node.Variable name)
+    ∙ ap (λ n. expr_step (record { span = span; node = n }))
+    (fold-roll-Node (Span → Judged Written) NodeSaid Said type_step node_step expr_step (Node-F.Variable name))
+
+pub said-paren : (span : Span) (e : Expr) → expression (expr span (node.Paren e)) ≡
+    expr_step (record { span = span; node = node_step (Node-F.Paren (expression e)) })
+unfolding given_trees
+said-paren span e =
+    said_by span (node.Paren e)
+    ∙ ap (λ n. expr_step (record { span = span; node = n }))
+    (fold-roll-Node (Span → Judged Written) NodeSaid Said type_step node_step expr_step (Node-F.Paren e))
+
+pub said-unary : (span : Span) (o : UnaryOperator) (e : Expr) → expression (expr span (node.Unary o e)) ≡
+    expr_step (record { span = span; node = node_step (Node-F.Unary o (expression e)) })
+unfolding given_trees
+said-unary span o e =
+    said_by span (node.Unary o e)
+    ∙ ap (λ n. expr_step (record { span = span; node = n }))
+    (fold-roll-Node (Span → Judged Written) NodeSaid Said type_step node_step expr_step (Node-F.Unary o e))
+
+pub said-binary : (span : Span) (o : BinaryOperator) (a : Expr) (b : Expr) → expression (expr span (node.Binary o a b)) ≡
+    expr_step (record { span = span; node = node_step (Node-F.Binary o (expression a) (expression b)) })
+unfolding given_trees
+said-binary span o a b =
+    said_by span (node.Binary o a b)
+    ∙ ap (λ n. expr_step (record { span = span; node = n }))
+    (fold-roll-Node (Span → Judged Written) NodeSaid Said type_step node_step expr_step (Node-F.Binary o a b))
+
+pub said-assign : (span : Span) (o : Option AssignOperator) (a : Expr) (b : Expr) → expression (expr span (node.Assign o a b)) ≡
+    expr_step (record { span = span; node = node_step (Node-F.Assign o (expression a) (expression b)) })
+unfolding given_trees
+said-assign span o a b =
+    said_by span (node.Assign o a b)
+    ∙ ap (λ n. expr_step (record { span = span; node = n }))
+    (fold-roll-Node (Span → Judged Written) NodeSaid Said type_step node_step expr_step (Node-F.Assign o a b))
+
+pub said-cond : (span : Span) (c : Expr) (a : Expr) (b : Expr) → expression (expr span (node.Cond c a b)) ≡
+    expr_step (record { span = span; node = node_step (Node-F.Cond (expression c) (expression a) (expression b)) })
+unfolding given_trees
+said-cond span c a b =
+    said_by span (node.Cond c a b)
+    ∙ ap (λ n. expr_step (record { span = span; node = n }))
+    (fold-roll-Node (Span → Judged Written) NodeSaid Said type_step node_step expr_step (Node-F.Cond c a b))
+
+pub said-cast : (span : Span) (t : CType) (e : Expr) → expression (expr span (node.Cast t e)) ≡
+    expr_step (record { span = span; node = node_step (Node-F.Cast (written t) (expression e)) })
+unfolding given_trees
+said-cast span t e =
+    said_by span (node.Cast t e)
+    ∙ ap (λ n. expr_step (record { span = span; node = n }))
+    (fold-roll-Node (Span → Judged Written) NodeSaid Said type_step node_step expr_step (Node-F.Cast t e))
+
+pub said-sizeof : (span : Span) (e : Expr) → expression (expr span (node.SizeofExpr e)) ≡
+    expr_step (record { span = span; node = node_step (Node-F.SizeofExpr (expression e)) })
+unfolding given_trees
+said-sizeof span e =
+    said_by span (node.SizeofExpr e)
+    ∙ ap (λ n. expr_step (record { span = span; node = n }))
+    (fold-roll-Node (Span → Judged Written) NodeSaid Said type_step node_step expr_step (Node-F.SizeofExpr e))
+
+pub said-sizeof_name : (span : Span) (t : CType) → expression (expr span (node.SizeofName t)) ≡
+    expr_step (record { span = span; node = node_step (Node-F.SizeofName (written t)) })
+unfolding given_trees
+said-sizeof_name span t =
+    said_by span (node.SizeofName t)
+    ∙ ap (λ n. expr_step (record { span = span; node = n }))
+    (fold-roll-Node (Span → Judged Written) NodeSaid Said type_step node_step expr_step (Node-F.SizeofName t))
+
+pub said-call : (span : Span) (f : Expr) (es : List Expr) → expression (expr span (node.Call f es)) ≡
+    expr_step (record { span = span; node = node_step (Node-F.Call (expression f) (map expression es)) })
+unfolding given_trees
+said-call span f es =
+    said_by span (node.Call f es)
+    ∙ ap (λ n. expr_step (record { span = span; node = n }))
+    (fold-roll-Node (Span → Judged Written) NodeSaid Said type_step node_step expr_step (Node-F.Call f es))
+
+pub said-index : (span : Span) (a : Expr) (i : Expr) → expression (expr span (node.Index a i)) ≡
+    expr_step (record { span = span; node = node_step (Node-F.Index (expression a) (expression i)) })
+unfolding given_trees
+said-index span a i =
+    said_by span (node.Index a i)
+    ∙ ap (λ n. expr_step (record { span = span; node = n }))
+    (fold-roll-Node (Span → Judged Written) NodeSaid Said type_step node_step expr_step (Node-F.Index a i))
+
+pub said-member : (span : Span) (e : Expr) (name : List ℕ) → expression (expr span (node.Member e name)) ≡
+    expr_step (record { span = span; node = node_step (Node-F.Member (expression e) name) })
+unfolding given_trees
+said-member span e name =
+    said_by span (node.Member e name)
+    ∙ ap (λ n. expr_step (record { span = span; node = n }))
+    (fold-roll-Node (Span → Judged Written) NodeSaid Said type_step node_step expr_step (Node-F.Member e name))
+
+pub said-arrow : (span : Span) (e : Expr) (name : List ℕ) → expression (expr span (node.Arrow e name)) ≡
+    expr_step (record { span = span; node = node_step (Node-F.Arrow (expression e) name) })
+unfolding given_trees
+said-arrow span e name =
+    said_by span (node.Arrow e name)
+    ∙ ap (λ n. expr_step (record { span = span; node = n }))
+    (fold-roll-Node (Span → Judged Written) NodeSaid Said type_step node_step expr_step (Node-F.Arrow e name))
+
+pub said-step : (span : Span) (s : Step) (e : Expr) → expression (expr span (node.Step s e)) ≡
+    expr_step (record { span = span; node = node_step (Node-F.Step s (expression e)) })
+unfolding given_trees
+said-step span s e =
+    said_by span (node.Step s e)
+    ∙ ap (λ n. expr_step (record { span = span; node = n }))
+    (fold-roll-Node (Span → Judged Written) NodeSaid Said type_step node_step expr_step (Node-F.Step s e))
+
+-- ---- initialisers
+
+pub said-one : (e : Expr) → initialiser (init.One e) ≡ init_step (Init-F.One e)
+unfolding given_trees
+said-one e = fold-roll-Init InitSaid init_step (Init-F.One e)
+
+pub said-list : (is : List Init) (span : Span) → initialiser (init.List is span) ≡ init_step (Init-F.List (map initialiser is) span)
+unfolding given_trees
+said-list is span = fold-roll-Init InitSaid init_step (Init-F.List is span)
+
+-- ---- statements
+
+abbrev pub item_judged : Item → Judged TItem
+item_judged = fold-Item (Judged TItem) StmtSaid item_step stmt_step
+
+pub said-block : (is : List Item) → statement (stmt.Block is) ≡ stmt_step (Stmt-F.Block (map item_judged is))
+unfolding given_trees
+said-block is = fold-roll-Stmt (Judged TItem) StmtSaid item_step stmt_step (Stmt-F.Block is)
+
+pub said-expression : (e : Expr) → statement (stmt.Expr e) ≡ stmt_step (Stmt-F.Expr e)
+unfolding given_trees
+said-expression e = fold-roll-Stmt (Judged TItem) StmtSaid item_step stmt_step (Stmt-F.Expr e)
+
+pub said-empty : statement stmt.Empty ≡ stmt_step Stmt-F.Empty
+unfolding given_trees
+said-empty = fold-roll-Stmt (Judged TItem) StmtSaid item_step stmt_step Stmt-F.Empty
+
+pub said-if : (e : Expr) (s : Stmt) → statement (stmt.If e s None) ≡ stmt_step (Stmt-F.If e (statement s) None)
+unfolding given_trees
+said-if e s = fold-roll-Stmt (Judged TItem) StmtSaid item_step stmt_step (Stmt-F.If e s None)
+
+pub said-if_else : (e : Expr) (s : Stmt) (o : Stmt) → statement (stmt.If e s (Some o)) ≡
+    stmt_step (Stmt-F.If e (statement s) (Some (statement o)))
+unfolding given_trees
+said-if_else e s o = fold-roll-Stmt (Judged TItem) StmtSaid item_step stmt_step (Stmt-F.If e s (Some o))
+
+pub said-while : (e : Expr) (s : Stmt) → statement (stmt.While e s) ≡ stmt_step (Stmt-F.While e (statement s))
+unfolding given_trees
+said-while e s = fold-roll-Stmt (Judged TItem) StmtSaid item_step stmt_step (Stmt-F.While e s)
+
+pub said-do : (s : Stmt) (e : Expr) → statement (stmt.DoWhile s e) ≡ stmt_step (Stmt-F.DoWhile (statement s) e)
+unfolding given_trees
+said-do s e = fold-roll-Stmt (Judged TItem) StmtSaid item_step stmt_step (Stmt-F.DoWhile s e)
+
+pub said-for : (ds : List Decl) (first : Option Expr) (c : Option Expr) (next : Option Expr) (s : Stmt) → statement
+    (stmt.For ds first c next s) ≡
+    stmt_step (Stmt-F.For ds first c next (statement s))
+unfolding given_trees
+said-for ds first c next s = fold-roll-Stmt (Judged TItem) StmtSaid item_step stmt_step (Stmt-F.For ds first c next s)
+
+pub said-return : (e : Option Expr) (span : Span) → statement (stmt.Return e span) ≡ stmt_step (Stmt-F.Return e span)
+unfolding given_trees
+said-return e span = fold-roll-Stmt (Judged TItem) StmtSaid item_step stmt_step (Stmt-F.Return e span)
+
+pub said-break : (span : Span) → statement (stmt.Break span) ≡ stmt_step (Stmt-F.Break span)
+unfolding given_trees
+said-break span = fold-roll-Stmt (Judged TItem) StmtSaid item_step stmt_step (Stmt-F.Break span)
+
+pub said-continue : (span : Span) → statement (stmt.Continue span) ≡ stmt_step (Stmt-F.Continue span)
+unfolding given_trees
+said-continue span = fold-roll-Stmt (Judged TItem) StmtSaid item_step stmt_step (Stmt-F.Continue span)
+
+pub judged-local : (ds : List Decl) → item_judged (item.Local ds) ≡ item_step (Item-F.Local ds)
+unfolding given_trees
+judged-local ds = fold-roll-Item (Judged TItem) StmtSaid item_step stmt_step (Item-F.Local ds)
+
+pub judged-statement : (s : Stmt) → item_judged (item.Stmt s) ≡ item_step (Item-F.Stmt (statement s))
+unfolding given_trees
+judged-statement s = fold-roll-Item (Judged TItem) StmtSaid item_step stmt_step (Item-F.Stmt s)

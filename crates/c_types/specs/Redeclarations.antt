@@ -1,0 +1,71 @@
+-- What may be declared again at file scope (ISO C11 6.2.7, 6.7 paragraph 4, 6.9 paragraph 5; that all or none are `static` is this
+-- project's own).
+use Rattle.std.specs.Prelude.{ℕ, Bool, true, false, ◌&&◌, List, [], ◌∷◌, Option, Some, if◌then◌else◌}
+use Rattle.std.specs.List.{list_all}
+use Rattle.std.specs.Str.{bytes_eq}
+use Rattle.c_ast.specs.declared.int_type.IntType.TheVariants as int
+use Rattle.c_types.specs.declared.ty.Ty.{Ty}
+use Rattle.c_types.specs.declared.ty.Ty.TheVariants as ty
+use Rattle.c_types.specs.Types.{same_type}
+use Rattle.c_types.specs.Environment.{Signature}
+use Rattle.c_types.specs.Declarations.{no, eof_name}
+use Rattle.c_types.specs.Files.{FileNames, putchar_name, getchar_name}
+
+-- what a declaration at file scope declares, and its type where that is known
+pub data Kind : Type 0 where
+  AnObject : Option Ty → Kind
+  AFunction : Option Signature → Kind
+
+pub record Declared : Type 0 where
+  pub name : List ℕ
+  pub kind : Kind
+  pub local : Bool
+  pub defined : Bool
+
+abbrev pub same_types : List Ty → List Ty → Bool
+same_types [] [] = true
+same_types (s ∷ ss) (t ∷ ts) = same_type s t && same_types ss ts
+same_types _ _ = false
+
+abbrev pub same_signature : Signature → Signature → Bool
+same_signature f g = same_type f.result g.result && same_types f.params g.params
+
+-- an unknown type is asked nothing
+abbrev pub same_kind : Kind → Kind → Bool
+same_kind (AnObject (Some s)) (AnObject (Some t)) = same_type s t
+same_kind (AnObject _) (AnObject _) = true
+same_kind (AFunction (Some f)) (AFunction (Some g)) = same_signature f g
+same_kind (AFunction _) (AFunction _) = true
+same_kind _ _ = false
+
+abbrev pub equal : Bool → Bool → Bool
+equal a b = (if a then b else no b)
+
+-- two declarations of one name agree: one type, all or none static, and at most one defines it
+abbrev pub agree : Declared → Declared → Bool
+agree new old = same_kind new.kind old.kind && equal new.local old.local && no (new.defined && old.defined)
+
+-- int putchar(int)
+abbrev pub putchar_type : Signature
+putchar_type = record { result = ty.Int int.Int; params = ty.Int int.Int ∷ [] }
+
+-- int getchar(void)
+abbrev pub getchar_type : Signature
+getchar_type = record { result = ty.Int int.Int; params = [] }
+
+-- what the include line declares; a body beside it is a second one
+abbrev pub library : List ℕ → Signature → Declared
+library name s = record { name = name; kind = AFunction (Some s); local = false; defined = true }
+
+-- a declaration of one of its names, in a file with the include line, is judged beside it wherever it stands
+abbrev pub agrees_with_library : FileNames → Declared → Bool
+agrees_with_library names d =
+    (if names.includes then
+    no (bytes_eq d.name eof_name)
+    && (if bytes_eq d.name putchar_name then agree d (library putchar_name putchar_type) else true)
+    && (if bytes_eq d.name getchar_name then agree d (library getchar_name getchar_type) else true)
+    else true)
+
+-- it agrees with the earlier declarations of its name
+abbrev pub may_stand : FileNames → List Declared → Declared → Bool
+may_stand names earlier d = agrees_with_library names d && list_all (λ e. (if bytes_eq e.name d.name then agree d e else true)) earlier
