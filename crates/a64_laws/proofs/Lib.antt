@@ -1,0 +1,6 @@
+mod Frame
+mod Caught
+mod Lists
+mod Touched
+mod Divides
+mod Global

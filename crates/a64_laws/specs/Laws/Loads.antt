@@ -1,0 +1,162 @@
+-- Loads at SP, which no tag judges, and through a pointer, which its tag does (this project's own).
+use Rattle.std.specs.Prelude.{◌≡◌, ◌≢◌, ℕ, ◌+◌, ◌*◌, ◌%◌, ◌^◌, ◌<◌, Bool, true, false, refl}
+use Rattle.std.proofs.Common.{arith, ◌∙◌, inl, inr}
+use Rattle.std.proofs.lemmas.Bool.{lt-ltb}
+use Rattle.mt_base.specs.Granules.{granule_of}
+use Rattle.mt_base.specs.Memory.{load}
+use Rattle.mt_base.specs.Pointers.{address_of}
+use Rattle.a64_code.specs.declared.instr.Reg.{Reg}
+use Rattle.a64_code.specs.declared.end.MachineEnd.TheVariants.{TagFault}
+use Rattle.a64_code.specs.State.{State}
+use Rattle.a64_code.specs.Stepped.{Stepped, Leads, Ends}
+use Rattle.a64_code.specs.Access.{single}
+use Rattle.a64_code.specs.Laws.Accesses.{IsSize, IsAdmitted, IsAllowed}
+use Rattle.a64_code.specs.Shape.{Loads, done}
+use Rattle.a64_code.specs.Results.{result_of}
+use Rattle.a64_code.specs.Laws.Open.{IsReadable, in_readable, allowed_unchecked, allowed_single, loads-done, loads-caught}
+use Rattle.a64_code.specs.Effect.{effect}
+use Rattle.a64_laws.specs.Forms.{Points, Load, Whole, Word, Half, Byte, SignedWord, SignedHalf, SignedByte, load_size, extended}
+use Rattle.a64_laws.specs.Forms.{load_instr}
+use Rattle.a64_laws.specs.Forms.{stack_pointer, puts_register}
+
+pub load_is_size : (l : Load) → IsSize (load_size l)
+load_is_size Whole = inr (inr (inr refl))
+load_is_size Word = inr (inr (inl refl))
+load_is_size Half = inr (inl refl)
+load_is_size Byte = inl refl
+load_is_size SignedWord = inr (inr (inl refl))
+load_is_size SignedHalf = inr (inl refl)
+load_is_size SignedByte = inl refl
+
+-- ---- what the loads have in common
+
+abbrev loaded : ℕ → (ℕ → ℕ) → ℕ → Bool → Reg → State → Stepped
+loaded n ext pointer checked rt s =
+    done (Loads (single n pointer false checked) (result_of false true rt (ext (load n s.byte (address_of pointer))))) s
+
+single_done : (n : ℕ) (ext : ℕ → ℕ) (pointer at : ℕ) (checked : Bool) (rt : Reg) (s : State)
+    → IsAllowed s (single n pointer false checked) →
+    rt.0 < 31 → address_of pointer ≡ at → loaded n ext pointer checked rt s ≡ Leads (puts_register rt (ext (load n s.byte at)) s)
+single_done n ext pointer at checked rt s allowed small same =
+    loads-done (single n pointer false checked) (result_of false true rt (ext (load n s.byte (address_of pointer)))) s allowed
+    ∙ rw (lt-ltb rt.0 31 small, same) refl
+
+admitted_at : (n pointer at : ℕ) (checked : Bool) (s : State) → address_of pointer ≡ at → at % n ≡ 0 → IsReadable s at n →
+    IsAdmitted s (single n pointer false checked)
+admitted_at n pointer at checked s same aligned memory =
+    in_readable s (single n pointer false checked) at n memory (record { from = omega (arith, same); to = omega (arith, same) }) refl
+    (rw same aligned)
+
+at_sp : (n : ℕ) (ext : ℕ → ℕ) (pointer at : ℕ) (rt : Reg) (s : State) → rt.0 < 31 → address_of pointer ≡ at → at % n ≡ 0 →
+    IsReadable s at n → loaded n ext pointer false rt s ≡ Leads (puts_register rt (ext (load n s.byte at)) s)
+at_sp n ext pointer at rt s small same aligned memory =
+    single_done n ext pointer at false rt s
+    (allowed_unchecked s (single n pointer false false) (admitted_at n pointer at false s same aligned memory) refl) small same
+
+through : (n : ℕ) (ext : ℕ → ℕ) (pointer at tag : ℕ) (rt : Reg) (s : State) → IsSize n → rt.0 < 31 → Points pointer at tag →
+    at % n ≡ 0 → IsReadable s at n → s.tag (granule_of at) ≡ tag →
+    loaded n ext pointer true rt s ≡ Leads (puts_register rt (ext (load n s.byte at)) s)
+through n ext pointer at tag rt s size small points aligned memory agrees =
+    single_done n ext pointer at true rt s
+    (allowed_single s n pointer false true size (admitted_at n pointer at true s points.is_at aligned memory)
+    (rw (points.is_at, points.has_tag) agrees))
+    small points.is_at
+
+caught : (n : ℕ) (ext : ℕ → ℕ) (pointer at tag : ℕ) (rt : Reg) (s : State) → Points pointer at tag → at % n ≡ 0 →
+    IsReadable s at n → s.tag (granule_of at) ≢ tag → loaded n ext pointer true rt s ≡ Ends (TagFault at tag (s.tag (granule_of at)))
+caught n ext pointer at tag rt s points aligned memory differs =
+    loads-caught n pointer (result_of false true rt (ext (load n s.byte (address_of pointer)))) s
+    (admitted_at n pointer at true s points.is_at aligned memory) (rw (points.is_at, points.has_tag) differs)
+    ∙ rw (points.is_at, points.has_tag) refl
+
+-- ---- at SP
+
+sp_address : (sp n imm12 at : ℕ) → at ≡ sp + imm12 * n → at < 2 ^ 56 → address_of ((sp + imm12 * n) % 2 ^ 64) ≡ at
+sp_address sp n imm12 at is below = omega (arith, is, below)
+
+pub load_at_sp : (l : Load) (imm12 at : ℕ) (rt : Reg) (s : State) → rt.0 < 31 → at ≡ s.sp + imm12 * load_size l → at < 2 ^ 56 →
+    at % load_size l ≡ 0 → IsReadable s at (load_size l) →
+    effect (load_instr l imm12 stack_pointer rt) s ≡ Leads (puts_register rt (extended l (load (load_size l) s.byte at)) s)
+load_at_sp Whole imm12 at rt s small is below aligned memory =
+    at_sp (load_size Whole) (extended Whole)
+    ((s.sp + imm12 * load_size Whole) % 2 ^ 64) at rt s small (sp_address s.sp (load_size Whole) imm12 at is below) aligned memory
+load_at_sp Word imm12 at rt s small is below aligned memory =
+    at_sp (load_size Word) (extended Word)
+    ((s.sp + imm12 * load_size Word) % 2 ^ 64) at rt s small (sp_address s.sp (load_size Word) imm12 at is below) aligned memory
+load_at_sp Half imm12 at rt s small is below aligned memory =
+    at_sp (load_size Half) (extended Half)
+    ((s.sp + imm12 * load_size Half) % 2 ^ 64) at rt s small (sp_address s.sp (load_size Half) imm12 at is below) aligned memory
+load_at_sp Byte imm12 at rt s small is below aligned memory =
+    at_sp (load_size Byte) (extended Byte)
+    ((s.sp + imm12 * load_size Byte) % 2 ^ 64) at rt s small (sp_address s.sp (load_size Byte) imm12 at is below) aligned memory
+load_at_sp SignedWord imm12 at rt s small is below aligned memory =
+    at_sp (load_size SignedWord) (extended SignedWord)
+    ((s.sp + imm12 * load_size SignedWord) % 2 ^ 64) at rt s small
+    (sp_address s.sp (load_size SignedWord) imm12 at is below) aligned memory
+load_at_sp SignedHalf imm12 at rt s small is below aligned memory =
+    at_sp (load_size SignedHalf) (extended SignedHalf)
+    ((s.sp + imm12 * load_size SignedHalf) % 2 ^ 64) at rt s small
+    (sp_address s.sp (load_size SignedHalf) imm12 at is below) aligned memory
+load_at_sp SignedByte imm12 at rt s small is below aligned memory =
+    at_sp (load_size SignedByte) (extended SignedByte)
+    ((s.sp + imm12 * load_size SignedByte) % 2 ^ 64) at rt s small
+    (sp_address s.sp (load_size SignedByte) imm12 at is below) aligned memory
+
+-- ---- through a pointer
+
+-- the tag of the granule is the pointer's
+pub load_through : (l : Load) (imm12 at tag : ℕ) (rn rt : Reg) (s : State) → rn.0 < 31 → rt.0 < 31 →
+    Points ((s.register rn.0 + imm12 * load_size l) % 2 ^ 64) at tag → at % load_size l ≡ 0 →
+    IsReadable s at (load_size l) → s.tag (granule_of at) ≡ tag →
+    effect (load_instr l imm12 rn rt) s ≡ Leads (puts_register rt (extended l (load (load_size l) s.byte at)) s)
+load_through Whole imm12 at tag rn rt s base small points aligned memory agrees =
+    rw (lt-ltb rn.0 31 base) (through (load_size Whole) (extended Whole)
+    ((s.register rn.0 + imm12 * load_size Whole) % 2 ^ 64) at tag rt s (load_is_size Whole) small points aligned memory agrees)
+load_through Word imm12 at tag rn rt s base small points aligned memory agrees =
+    rw (lt-ltb rn.0 31 base) (through (load_size Word) (extended Word)
+    ((s.register rn.0 + imm12 * load_size Word) % 2 ^ 64) at tag rt s (load_is_size Word) small points aligned memory agrees)
+load_through Half imm12 at tag rn rt s base small points aligned memory agrees =
+    rw (lt-ltb rn.0 31 base) (through (load_size Half) (extended Half)
+    ((s.register rn.0 + imm12 * load_size Half) % 2 ^ 64) at tag rt s (load_is_size Half) small points aligned memory agrees)
+load_through Byte imm12 at tag rn rt s base small points aligned memory agrees =
+    rw (lt-ltb rn.0 31 base) (through (load_size Byte) (extended Byte)
+    ((s.register rn.0 + imm12 * load_size Byte) % 2 ^ 64) at tag rt s (load_is_size Byte) small points aligned memory agrees)
+load_through SignedWord imm12 at tag rn rt s base small points aligned memory agrees =
+    rw (lt-ltb rn.0 31 base) (through (load_size SignedWord) (extended SignedWord)
+    ((s.register rn.0 + imm12 * load_size SignedWord) % 2 ^ 64) at tag rt s
+    (load_is_size SignedWord) small points aligned memory agrees)
+load_through SignedHalf imm12 at tag rn rt s base small points aligned memory agrees =
+    rw (lt-ltb rn.0 31 base) (through (load_size SignedHalf) (extended SignedHalf)
+    ((s.register rn.0 + imm12 * load_size SignedHalf) % 2 ^ 64) at tag rt s
+    (load_is_size SignedHalf) small points aligned memory agrees)
+load_through SignedByte imm12 at tag rn rt s base small points aligned memory agrees =
+    rw (lt-ltb rn.0 31 base) (through (load_size SignedByte) (extended SignedByte)
+    ((s.register rn.0 + imm12 * load_size SignedByte) % 2 ^ 64) at tag rt s
+    (load_is_size SignedByte) small points aligned memory agrees)
+
+-- it is another: the run ends with just these numbers, and nothing is changed
+pub load_caught : (l : Load) (imm12 at tag : ℕ) (rn rt : Reg) (s : State) → rn.0 < 31 →
+    Points ((s.register rn.0 + imm12 * load_size l) % 2 ^ 64) at tag → at % load_size l ≡ 0 →
+    IsReadable s at (load_size l) → s.tag (granule_of at) ≢ tag →
+    effect (load_instr l imm12 rn rt) s ≡ Ends (TagFault at tag (s.tag (granule_of at)))
+load_caught Whole imm12 at tag rn rt s base points aligned memory differs =
+    rw (lt-ltb rn.0 31 base) (caught (load_size Whole) (extended Whole)
+    ((s.register rn.0 + imm12 * load_size Whole) % 2 ^ 64) at tag rt s points aligned memory differs)
+load_caught Word imm12 at tag rn rt s base points aligned memory differs =
+    rw (lt-ltb rn.0 31 base) (caught (load_size Word) (extended Word)
+    ((s.register rn.0 + imm12 * load_size Word) % 2 ^ 64) at tag rt s points aligned memory differs)
+load_caught Half imm12 at tag rn rt s base points aligned memory differs =
+    rw (lt-ltb rn.0 31 base) (caught (load_size Half) (extended Half)
+    ((s.register rn.0 + imm12 * load_size Half) % 2 ^ 64) at tag rt s points aligned memory differs)
+load_caught Byte imm12 at tag rn rt s base points aligned memory differs =
+    rw (lt-ltb rn.0 31 base) (caught (load_size Byte) (extended Byte)
+    ((s.register rn.0 + imm12 * load_size Byte) % 2 ^ 64) at tag rt s points aligned memory differs)
+load_caught SignedWord imm12 at tag rn rt s base points aligned memory differs =
+    rw (lt-ltb rn.0 31 base) (caught (load_size SignedWord) (extended SignedWord)
+    ((s.register rn.0 + imm12 * load_size SignedWord) % 2 ^ 64) at tag rt s points aligned memory differs)
+load_caught SignedHalf imm12 at tag rn rt s base points aligned memory differs =
+    rw (lt-ltb rn.0 31 base) (caught (load_size SignedHalf) (extended SignedHalf)
+    ((s.register rn.0 + imm12 * load_size SignedHalf) % 2 ^ 64) at tag rt s points aligned memory differs)
+load_caught SignedByte imm12 at tag rn rt s base points aligned memory differs =
+    rw (lt-ltb rn.0 31 base) (caught (load_size SignedByte) (extended SignedByte)
+    ((s.register rn.0 + imm12 * load_size SignedByte) % 2 ^ 64) at tag rt s points aligned memory differs)

@@ -1,0 +1,10 @@
+pub mod Forms
+pub mod Branches
+pub mod Relations
+pub mod Runs
+pub mod Constants
+pub mod Tagging
+pub mod Sequences
+pub mod Frames
+pub mod Touches
+pub mod Laws

@@ -1,0 +1,5 @@
+mod Countdown
+mod CountdownSteps
+mod CountdownRuns
+mod Called
+mod Beside

@@ -1,0 +1,5 @@
+pub mod Outcome
+pub mod Within
+pub mod Bounded
+pub mod Items
+pub mod Laws
