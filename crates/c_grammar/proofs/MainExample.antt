@@ -20,8 +20,9 @@ use Rattle.c_grammar.specs.Types.{word, none, int, words, Stars}
 use Rattle.c_grammar.specs.Types as types
 use Rattle.c_grammar.specs.Expressions.{Expression, conditional, binary, tighter, operand, unary, postfix, primary, number, Primary}
 use Rattle.c_grammar.specs.Statements.{Block, Outside, no_item, more_item, statement, return_word, written, block}
-use Rattle.c_grammar.specs.Parameters.{void_word}
-use Rattle.c_grammar.specs.Externals.{FunctionHead, function_head, no_storage, plain, definition, no_external, more_external, TranslationUnit}
+use Rattle.c_grammar.specs.Laws.VoidLaws.{void_word}
+use Rattle.c_grammar.specs.Externals.{FunctionHead, function_head, no_storage, plain, definition, no_external, more_external}
+use Rattle.c_grammar.specs.Externals.{TranslationUnit}
 use Rattle.c_grammar.proofs.Examples.{key_at, mark_at, name_at, digit_at, span}
 
 abbrev pub head_tokens : List Token

@@ -7,8 +7,9 @@ use Rattle.c_ast.specs.Seen.{Seen as Token}
 use Rattle.c_ast.specs.declared.statement.Stmt.{Stmt, out-Stmt}
 use Rattle.c_ast.specs.declared.statement.Item.TheOpen.{Stmt-F}
 use Rattle.c_ast.specs.declared.declaration.Decl.{Decl}
-use Rattle.c_grammar.specs.Parameters.{OneVoid, Parameters, no_word, void_word, parameters}
-use Rattle.c_grammar.specs.Statements.{Place, Ending, Statement, Outside, Closed, compound, expression, empty, if_then, if_else, while_loop, do_loop, for_loop, return_word, break_word, continue_word, block}
+use Rattle.c_grammar.specs.Parameters.{OneVoid, Parameters, no_word, void, parameters}
+use Rattle.c_grammar.specs.Statements.{Place, Ending, Statement, Outside, Closed, compound, expression, empty, if_then, if_else}
+use Rattle.c_grammar.specs.Statements.{while_loop, do_loop, for_loop, return_word, break_word, continue_word, block}
 
 -- is this level a `break` or a `continue`?
 abbrev jumps : StmtLayer → Type 0
@@ -70,5 +71,5 @@ no_parameter h = elim h [ ]
 
 no_void_parameter : {n : ℕ} {ds : List Decl} {w : List Token} → Parameters n ds w → ¬ OneVoid ds
 no_void_parameter (no_word l r pl pr) h = no_parameter h
-no_void_parameter (void_word l t r pl kt pr) h = no_parameter h
+no_void_parameter (void l r pl v one pr) h = no_parameter h
 no_void_parameter (parameters l r pl ds apart pr) h = apart h

@@ -20,9 +20,11 @@ use Rattle.c_grammar.specs.Types as types
 use Rattle.c_grammar.specs.Expressions.{number, variable}
 use Rattle.c_grammar.specs.Declarators.{arrays, no_bracket, bracket, no_length, declarator}
 use Rattle.c_grammar.specs.Objects.{Local, local, value, object, initialised}
-use Rattle.c_grammar.specs.Statements.{Statement, Outside, Open, Closed, expression, empty, if_then, if_else, for_loop, break_word, left_out, first_local}
+use Rattle.c_grammar.specs.Statements.{Statement, Outside, Open, Closed, expression, empty, if_then, if_else, for_loop, break_word}
+use Rattle.c_grammar.specs.Statements.{left_out, first_local}
 use Rattle.c_grammar.specs.Parameters.{OneVoid, unnamed, named, parameter, one_parameter, more_parameter, Parameters, parameters}
-use Rattle.c_grammar.specs.Externals.{FunctionHead, function_head, static_word, plain, declaration, no_external, more_external, TranslationUnit}
+use Rattle.c_grammar.specs.Externals.{FunctionHead, function_head, static_word, plain, declaration, no_external, more_external}
+use Rattle.c_grammar.specs.Externals.{TranslationUnit}
 use Rattle.c_grammar.proofs.Examples.{key_at, mark_at, name_at, digit_at, span}
 use Rattle.c_grammar.proofs.MainExample.{expression_of}
 

@@ -1,2 +1,2 @@
 -- Laws for later proofs.
-pub mod EndingLaws
+pub mod VoidLaws

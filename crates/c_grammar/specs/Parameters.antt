@@ -1,14 +1,12 @@
 -- How parameters are spelled (ISO C11 6.7.6.3).
-use Rattle.std.specs.Prelude.{◌≢◌, ℕ, suc, max, List, [], ◌∷◌, ◌++◌, Option, None, All}
-use Rattle.c_ast.specs.declared.token.Span.{Span}
+use Rattle.std.specs.Prelude.{◌≡◌, ◌≢◌, ℕ, suc, max, List, [], ◌∷◌, ◌++◌, Option, None, All}
 use Rattle.c_ast.specs.Seen.{Seen as Token}
 use Rattle.c_ast.specs.declared.expr.CType.{CType}
 use Rattle.c_ast.specs.declared.expr.CType.TheVariants as type
 use Rattle.c_ast.specs.declared.expr.Expr.{Expr}
 use Rattle.c_ast.specs.declared.declaration.Decl.{Decl}
-use Rattle.c_ast.specs.declared.keyword.Keyword.TheVariants as key
 use Rattle.c_ast.specs.declared.punctuator.Punctuator.TheVariants as mark
-use Rattle.c_grammar.specs.Words.{IsKeyword, IsPunct, IsName, span_of}
+use Rattle.c_grammar.specs.Words.{IsPunct, IsName, span_of}
 use Rattle.c_grammar.specs.Types.{Base, Stars}
 use Rattle.c_grammar.specs.Declarators.{arrays, Brackets}
 
@@ -31,15 +29,17 @@ pub data ParameterList : ℕ → List Decl → List Token → Type 0 where
       Parameter k d v →
       ParameterList (max h k) (ds ++ d ∷ []) (u ++ c ∷ v)
 
--- one parameter without a name whose type is void: the word `void` alone, which is no parameter (6.7.6.3 paragraph 10)
+-- one parameter alone, of type void and without a name: the word `void`, as a name has a byte at least (6.7.6.3 paragraph 10)
 pub data OneVoid : List Decl → Type 0 where
-  one_void : (s : Span) → OneVoid (record { name = []; ty = type.Void; init = None; span = s } ∷ [])
+  one_void : (d : Decl) → d.name ≡ [] → d.ty ≡ type.Void → OneVoid (d ∷ [])
 
--- params = "(" [ "void" ] ")" | "(" param { "," param } ")": how many levels the parameters have, none where there are none (6.7.6.3)
+-- params = "(" [ "void" ] ")" | "(" param { "," param } ")": how many levels the parameters have, none where there are none. A list
+-- of one `void` says that there are none (6.7.6.3 paragraph 10).
 pub data Parameters : ℕ → List Decl → List Token → Type 0 where
   no_word : (l r : Token) → IsPunct mark.LeftParen l → IsPunct mark.RightParen r → Parameters 0 [] (l ∷ r ∷ [])
-  void_word : (l t r : Token) → IsPunct mark.LeftParen l → IsKeyword key.Void t → IsPunct mark.RightParen r →
-      Parameters 0 [] (l ∷ t ∷ r ∷ [])
+  void : {h : ℕ} {ds : List Decl} {v : List Token} (l r : Token) →
+      IsPunct mark.LeftParen l → ParameterList h ds v → OneVoid ds → IsPunct mark.RightParen r →
+      Parameters 0 [] (l ∷ v ++ r ∷ [])
   parameters : {h : ℕ} {ds : List Decl} {v : List Token} (l r : Token) →
       IsPunct mark.LeftParen l → ParameterList h ds v → ¬ OneVoid ds → IsPunct mark.RightParen r →
       Parameters (suc h) ds (l ∷ v ++ r ∷ [])

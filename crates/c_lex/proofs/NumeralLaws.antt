@@ -50,7 +50,8 @@ pub number-from_parts : (text bytes behind suffix : List ℕ) (radix prefix digi
     result ≡ typed_number (value_of radix (take digits behind)) (first_type (value_of radix (take digits behind)) types) (length bytes) →
     result ≡ read_number text
 unfolding read_number
-number-from_parts text bytes behind suffix radix prefix digits marks types result bytes_is radix_is prefix_is behind_is digits_is some suffix_is marks_is fits types_is result_is =
+number-from_parts text bytes behind suffix radix prefix digits marks types result bytes_is radix_is prefix_is behind_is digits_is some
+    suffix_is marks_is fits types_is result_is =
     let counted : digits ≡ digit_count bytes = rw (digits_is, behind_is, prefix_is, radix_is) refl in
     let ended : prefix + digits ≡ digits_end bytes = rw (counted, prefix_is, radix_is) refl in
     let left : suffix ≡ drop (digits_end bytes) bytes = suffix_is ∙ ap (drop digits) behind_is ∙ drop-drop digits prefix bytes

@@ -21,6 +21,9 @@ pub mod DigitValues
 pub mod Escapes
 pub mod Items
 pub mod Literals
+pub mod Suffixes
+pub mod Constants
+pub mod ConstantNumbers
 pub mod Scanned
 pub mod ScannedFaults
 pub mod FaultForms

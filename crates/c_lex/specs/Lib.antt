@@ -1,6 +1,7 @@
 pub mod Bytes
 pub mod Digits
 pub mod Numeral
+pub mod Constant
 pub mod Escape
 pub mod Written
 pub mod Directive

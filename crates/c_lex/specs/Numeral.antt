@@ -1,4 +1,4 @@
--- Integer constants: digits and a suffix (C11 6.4.4.1, without the suffix `ll`, and without floating constants).
+-- The types of integer constants, and how far a number at the front goes: what faults of numbers are stated by (C11 6.4.4.1).
 use Rattle.std.specs.Prelude.{ℕ, ◌+◌, Bool, true, false, ◌||◌, ◌&&◌, if◌then◌else◌, ◌==◌, nat_le, nat_lt, List, [], ◌∷◌, length, take}
 use Rattle.std.specs.Prelude.{drop, slice_index, Option, find}
 use Rattle.std.specs.List.{prefix_len, list_any}

@@ -24,6 +24,16 @@ number_of (refusal.BadDirective at) = 5
 number_of refusal.TextTooLong = 6
 number_of refusal.NoMemory = 0
 
+-- the byte that each refusal names; a text that is too long names none, nor does want of memory, which is 0
+abbrev pub place_of : LexRefusal → ℕ
+place_of (refusal.BadByte at) = at
+place_of (refusal.UnclosedText at) = at
+place_of (refusal.UnclosedComment at) = at
+place_of (refusal.NumberTooLarge at) = at
+place_of (refusal.BadDirective at) = at
+place_of refusal.TextTooLong = 0
+place_of refusal.NoMemory = 0
+
 -- the greatest number of bytes of a text
 abbrev pub text_limit : ℕ
 text_limit = 65536

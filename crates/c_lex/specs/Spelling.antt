@@ -6,7 +6,7 @@ use Rattle.c_ast.specs.declared.token.Lexeme.{Lexeme}
 use Rattle.c_ast.specs.declared.token.Lexeme.TheVariants.{Include, Name, Number, Character, Text, Keyword, Punct}
 use Rattle.c_ast.specs.Words.{keyword_of, punctuator_of}
 use Rattle.c_lex.specs.Bytes.{is_letter, is_word, is_numeral_byte}
-use Rattle.c_lex.specs.Numeral.{is_numeral, numeral_value, numeral_type}
+use Rattle.c_lex.specs.Constant.{IsConstant}
 use Rattle.c_lex.specs.Written.{IsCharacter, IsText}
 use Rattle.c_lex.specs.Directive.{is_include}
 
@@ -21,13 +21,12 @@ is_preprocessing_number [] = false
 is_preprocessing_number (b ∷ rest) = is_ascii_digit b && list_all is_numeral_byte rest
 
 -- These bytes alone are this token. A name is its own spelling and no keyword; keywords and punctuators are spelled
--- by their lists; a number has the value of its digits and the first type of its list that holds the value; a character
--- and a string have the values of their bytes as they are written.
+-- by their lists; a number is an integer constant of its value and type; a character and a string have the values of
+-- their bytes as they are written.
 unfoldable pub Spells : Lexeme → List ℕ → Type 0
 Spells Include bytes = IsTrue (is_include bytes)
 Spells (Name name) bytes = IsTrue (is_identifier bytes) × (keyword_of bytes ≡ None) × (name ≡ bytes)
-Spells (Number value ty) bytes = IsTrue (is_preprocessing_number bytes) × IsTrue (is_numeral bytes) × (value ≡ numeral_value bytes)
-    × (numeral_type bytes ≡ Some ty)
+Spells (Number value ty) bytes = IsConstant value ty bytes
 Spells (Character value) bytes = IsCharacter value bytes
 Spells (Text values) bytes = IsText values bytes
 Spells (Keyword number) bytes = keyword_of bytes ≡ Some number

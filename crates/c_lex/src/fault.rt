@@ -41,7 +41,7 @@ pub enum LexRefusal {
 
 impl LexRefusal {
     ghost use Rattle.std.specs.Prelude.{◌≡◌};
-    ghost use Rattle.c_lex.specs.Refusal.{number_of};
+    ghost use Rattle.c_lex.specs.Refusal.{number_of, place_of};
 
     /// The refusal's number, 1 to 6 in the order above, and 0 for want of memory.
     pub fn number(&self) -> u8
@@ -55,6 +55,20 @@ impl LexRefusal {
             LexRefusal::BadDirective { .. } => 5,
             LexRefusal::TextTooLong => 6,
             LexRefusal::NoMemory => 0,
+        }
+    }
+
+    /// The byte that the refusal names, and 0 where it names none.
+    pub fn place(&self) -> u32
+        ensures { result ≡ place_of self.now }
+    {
+        match self {
+            LexRefusal::BadByte { at }
+            | LexRefusal::UnclosedText { at }
+            | LexRefusal::UnclosedComment { at }
+            | LexRefusal::NumberTooLarge { at }
+            | LexRefusal::BadDirective { at } => *at,
+            LexRefusal::TextTooLong | LexRefusal::NoMemory => 0,
         }
     }
 }

@@ -1,3 +1,4 @@
 pub mod Parsed
+pub mod Refusal
 pub mod Reading
 pub mod Laws

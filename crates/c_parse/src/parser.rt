@@ -1,6 +1,6 @@
 //! External declarations.
 
-ghost use Rattle.std.specs.Prelude.{◌≡◌, ◌<◌, ◌≤◌, ◌+◌, ◌^◌, ◌&&◌, suc, IfOk};
+ghost use Rattle.std.specs.Prelude.{◌≡◌, ◌<◌, ◌≤◌, ◌+◌, ◌^◌, ◌&&◌, IfOk};
 ghost use Rattle.c_grammar.specs.Words.{punctuator};
 ghost use Rattle.c_parse_base.specs.Reading.Answer.{sees, word};
 ghost use Rattle.c_parse_base.specs.Reading.Answers.{Answers};
@@ -29,11 +29,11 @@ fn plain_head(alloc: Global, cursor: &mut Cursor<'_, '_>) -> Result<Head, Stop>
     Ok(Head::plain(alloc, start, read)?)
 }
 
-/// A type, and perhaps a struct's body, with this many levels below the declaration (C11 6.7.2).
+/// A type, and perhaps a struct's body, with this many levels below a member (C11 6.7.2).
 fn head(alloc: Global, cursor: &mut Cursor<'_, '_>, depth: u32) -> Result<Head, Stop>
-    requires { depth + 1 < 2 ^ 32 }
+    requires { depth + 2 < 2 ^ 32 }
     ensures answers { Answers (spec.head depth cursor.old) result cursor.new }
-    ensures low { IfOk result (λ read. read.height ≤ suc depth) }
+    ensures low { IfOk result (λ read. read.height ≤ depth + 2) }
 {
     let head = plain_head(alloc, cursor)?;
     if !cursor.sees(Punctuator::LeftBrace) {
@@ -42,18 +42,15 @@ fn head(alloc: Global, cursor: &mut Cursor<'_, '_>, depth: u32) -> Result<Head, 
     if head.tag.is_none() {
         return Err(Stop::Fault(Fault::Unexpected));
     }
-    if depth == 0 {
-        return Err(Stop::Fault(Fault::TooDeep));
-    }
-    let read = body(alloc, cursor, depth - 1)?;
+    let read = body(alloc, cursor, depth)?;
     Ok(head.with_body(read))
 }
 
 /// A type that stands behind its storage class, if it has one (C11 6.7).
 fn specifiers(alloc: Global, cursor: &mut Cursor<'_, '_>, depth: u32) -> Result<Specifiers, Stop>
-    requires { depth + 1 < 2 ^ 32 }
+    requires { depth + 2 < 2 ^ 32 }
     ensures answers { Answers (spec.specifiers depth cursor.old) result cursor.new }
-    ensures low { IfOk result (λ read. read.head.height ≤ suc depth) }
+    ensures low { IfOk result (λ read. read.head.height ≤ depth + 2) }
 {
     let start = cursor.start();
     let Some(storage) = next_storage(cursor) else {
@@ -88,11 +85,12 @@ fn ending(
     params: &ParametersRead,
     depth: u32,
 ) -> Result<Ending, Stop>
+    requires { depth + 2 < 2 ^ 32 }
     ensures answers { Answers (spec.ending depth params.now cursor.old) result cursor.new }
-    ensures low { IfOk result (λ read. read.height ≤ depth) }
+    ensures low { IfOk result (λ read. read.height ≤ depth + 1) }
 {
     if sees_block(cursor, params) {
-        let read = block(alloc, cursor, depth)?;
+        let read = block(alloc, cursor, depth + 1)?;
         return Ok(Ending::block(read));
     }
     let place = cursor.expect(Punctuator::Semicolon)?;
@@ -110,9 +108,10 @@ fn function(
     first: Declared,
     depth: u32,
 ) -> Result<Behind, Stop>
-    requires { first.height ≤ depth }
+    requires first { first.height ≤ depth + 1 }
+    requires depth { depth + 2 < 2 ^ 32 }
     ensures answers { Answers (spec.function depth first cursor.old) result cursor.new }
-    ensures low { IfOk result (λ read. height_behind read ≤ depth) }
+    ensures low { IfOk result (λ read. height_behind read ≤ depth + 1) }
 {
     let params = parameters(alloc, cursor, depth)?;
     let ending = ending(alloc, cursor, &params, depth)?;
@@ -127,14 +126,15 @@ fn after_name(
     first: Declared,
     depth: u32,
 ) -> Result<Behind, Stop>
-    requires { first.height ≤ depth }
+    requires first { first.height ≤ depth + 1 }
+    requires depth { depth + 2 < 2 ^ 32 }
     ensures answers { Answers (spec.after_name depth base.now first cursor.old) result cursor.new }
-    ensures low { IfOk result (λ read. height_behind read ≤ depth) }
+    ensures low { IfOk result (λ read. height_behind read ≤ depth + 1) }
 {
     if cursor.sees(Punctuator::LeftParen) {
         return function(alloc, cursor, first, depth);
     }
-    let read = rest(alloc, cursor, base, first, depth)?;
+    let read = rest(alloc, cursor, base, first, depth + 1)?;
     Ok(Behind::Objects(read))
 }
 
@@ -145,10 +145,11 @@ fn named(
     base: &CType,
     depth: u32,
 ) -> Result<Behind, Stop>
+    requires { depth + 2 < 2 ^ 32 }
     ensures answers { Answers (spec.named depth base.now cursor.old) result cursor.new }
-    ensures low { IfOk result (λ read. height_behind read ≤ depth) }
+    ensures low { IfOk result (λ read. height_behind read ≤ depth + 1) }
 {
-    let first = starred(alloc, cursor, base, depth)?;
+    let first = starred(alloc, cursor, base, depth + 1)?;
     after_name(alloc, cursor, base, first, depth)
 }
 
@@ -167,8 +168,9 @@ fn tail(
     specifiers: &Specifiers,
     depth: u32,
 ) -> Result<Behind, Stop>
+    requires { depth + 2 < 2 ^ 32 }
     ensures answers { Answers (spec.tail depth specifiers.now cursor.old) result cursor.new }
-    ensures low { IfOk result (λ read. height_behind read ≤ depth) }
+    ensures low { IfOk result (λ read. height_behind read ≤ depth + 1) }
 {
     if sees_lone(cursor, specifiers) {
         cursor.skip();
@@ -177,11 +179,11 @@ fn tail(
     named(alloc, cursor, &specifiers.head.base, depth)
 }
 
-/// A declaration or a definition with this many levels below its own (C11 6.7, 6.9.1).
+/// A declaration or a definition with this many levels below its own and that of what it holds (C11 6.7, 6.9.1).
 fn declaration(alloc: Global, cursor: &mut Cursor<'_, '_>, depth: u32) -> Result<Externals, Stop>
-    requires { depth + 1 < 2 ^ 32 }
+    requires { depth + 2 < 2 ^ 32 }
     ensures answers { Answers (spec.declaration depth cursor.old) result cursor.new }
-    ensures low { IfOk result (λ read. read.height ≤ suc depth) }
+    ensures low { IfOk result (λ read. read.height ≤ depth + 2) }
 {
     let specifiers = specifiers(alloc, cursor, depth)?;
     let behind = tail(alloc, cursor, &specifiers, depth)?;
@@ -200,24 +202,23 @@ fn include(alloc: Global, cursor: &mut Cursor<'_, '_>) -> Result<Externals, Stop
     Ok(Externals::include(alloc)?)
 }
 
-/// An external declaration with at most this many levels (C11 6.9).
+/// An external declaration, with this many levels below its own and that of what it holds (C11 6.9).
 fn external(alloc: Global, cursor: &mut Cursor<'_, '_>, depth: u32) -> Result<Externals, Stop>
+    requires { depth + 2 < 2 ^ 32 }
     ensures answers { Answers (spec.external depth cursor.old) result cursor.new }
-    ensures low { IfOk result (λ read. read.height ≤ depth) }
+    ensures low { IfOk result (λ read. read.height ≤ depth + 2) }
 {
     if !begins_declaration(cursor) {
         return include(alloc, cursor);
     }
-    if depth == 0 {
-        return Err(Stop::Fault(Fault::TooDeep));
-    }
-    declaration(alloc, cursor, depth - 1)
+    declaration(alloc, cursor, depth)
 }
 
-/// One external declaration or more (C11 6.9).
+/// One external declaration or more, with this many levels below their own and those of what they hold (C11 6.9).
 pub fn unit(alloc: Global, cursor: &mut Cursor<'_, '_>, depth: u32) -> Result<Externals, Stop>
+    requires { depth + 2 < 2 ^ 32 }
     ensures answers { Answers (spec.unit depth cursor.old) result cursor.new }
-    ensures low { IfOk result (λ read. read.height ≤ depth) }
+    ensures low { IfOk result (λ read. read.height ≤ depth + 2) }
 {
     let mut read = external(alloc, cursor, depth)?;
     while begins_external(cursor) {

@@ -15,3 +15,29 @@ pub enum ParseRefusal {
     #[error("NoMemory")]
     NoMemory,
 }
+
+impl ParseRefusal {
+    ghost use Rattle.std.specs.Prelude.{◌≡◌};
+    ghost use Rattle.c_parse.specs.Refusal.{number_of, place_of};
+
+    /// The refusal's number, 7 or 8, and 0 for want of memory.
+    pub fn number(&self) -> u8
+        ensures { result ≡ number_of self.now }
+    {
+        match self {
+            ParseRefusal::Unexpected { .. } => 7,
+            ParseRefusal::TooDeep { .. } => 8,
+            ParseRefusal::NoMemory => 0,
+        }
+    }
+
+    /// How many tokens stand before the one that the refusal names, and 0 where it names none.
+    pub fn place(&self) -> u32
+        ensures { result ≡ place_of self.now }
+    {
+        match self {
+            ParseRefusal::Unexpected { place } | ParseRefusal::TooDeep { place } => *place,
+            ParseRefusal::NoMemory => 0,
+        }
+    }
+}

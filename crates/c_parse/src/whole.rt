@@ -1,6 +1,6 @@
 //! A whole list of tokens as a program.
 
-ghost use Rattle.std.specs.Prelude.{◌≡◌, ◌<◌, ◌≤◌, ◌^◌, ℕ, length, MatchResult};
+ghost use Rattle.std.specs.Prelude.{◌≡◌, ◌<◌, ◌≤◌, ◌+◌, ◌^◌, ℕ, length, MatchResult};
 ghost use Rattle.c_ast.specs.declared.program.Program.{Program};
 ghost use Rattle.c_grammar.specs.Spells.{Spells};
 ghost use Rattle.c_parse_base.specs.Reading.Exact.{ended};
@@ -22,6 +22,7 @@ const LIMIT: u32 = 200;
 
 /// One external declaration or more, and nothing behind them.
 fn all(alloc: Global, cursor: &mut Cursor<'_, '_>, depth: u32) -> Result<Externals, Stop>
+    requires { depth + 2 < 2 ^ 32 }
     ensures { Answers (ended (spec.unit depth) cursor.old) result cursor.new }
 {
     let read = unit(alloc, cursor, depth)?;
@@ -60,7 +61,7 @@ pub fn parse(alloc: Global, tokens: &[Token<'_>]) -> Result<Program, ParseRefusa
         });
     }
     let mut cursor = Cursor::new(tokens);
-    match all(alloc, &mut cursor, LIMIT) {
+    match all(alloc, &mut cursor, LIMIT - 2) {
         Ok(read) => Ok(read.program()),
         Err(stop) => {
             let place = tokens.len().saturating_sub(cursor.left());

@@ -21,5 +21,4 @@ pub mod WordLaws
 pub mod WordGood
 pub mod SpanLaws
 pub mod StartingLaws
-pub mod GuardedLaws
 pub mod WordListLaws

@@ -12,7 +12,8 @@ use Rattle.c_print.specs.Words.{with_commas}
 use Rattle.c_print.specs.Laws.SeenTokens.{tokens_of}
 use Rattle.c_print.specs.Expressions.{lexemes_of}
 use Rattle.c_print.specs.Spans.{bare}
-use Rattle.c_print.proofs.Lists.{tokens-append, tokens-inside, tokens-inside_two, tokens-behind, tokens-step_before, tokens-step_behind, NonEmpty, nonempty-append, with_commas-append}
+use Rattle.c_print.proofs.Lists.{tokens-append, tokens-inside, tokens-inside_two, tokens-behind, tokens-step_before, tokens-step_behind}
+use Rattle.c_print.proofs.Lists.{NonEmpty, nonempty-append, with_commas-append}
 use Rattle.c_print.proofs.Made.{expr_made}
 use Rattle.c_print.proofs.TypeSpelled.{type_name_spelled}
 

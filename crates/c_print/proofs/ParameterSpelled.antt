@@ -6,6 +6,7 @@ use Rattle.c_ast.specs.declared.declaration.Decl.{Decl}
 use Rattle.c_ast.specs.declared.punctuator.Punctuator.TheVariants as mark
 use Rattle.c_grammar.specs.Parameters.{ParameterName, unnamed, named, Parameter, ParameterList, Parameters}
 use Rattle.c_grammar.specs.Parameters as grammar
+use Rattle.c_grammar.specs.Laws.VoidLaws.{void_word}
 use Rattle.c_grammar.specs.Declarators.{arrays}
 use Rattle.c_print.specs.Words.{punct, with_commas}
 use Rattle.c_print.specs.Laws.SeenTokens.{token_of, tokens_of}
@@ -13,7 +14,7 @@ use Rattle.c_print.specs.Expressions.{parts_of}
 use Rattle.c_print.specs.Declarations.{parameter_name, parameter_of, parameter_words, parameters_of}
 use Rattle.c_print.specs.Spans.{bare_type, bare_decl}
 use Rattle.c_print.specs.Laws.BareLaws.{bare_length, arrays_bare}
-use Rattle.c_print.specs.Laws.ParametersAgain.{one_void_is, is_one_void}
+use Rattle.c_print.specs.Laws.ParametersAgain.{void_back}
 use Rattle.c_print.proofs.Lists.{tokens-append, tokens-four, NonEmpty, nonempty-append, with_commas-append, placed}
 use Rattle.c_print.proofs.TypeSpelled.{base_plain, base_spelled, stars_spelled, stars_base, stars_brackets}
 use Rattle.c_print.proofs.DeclaratorSpelled.{arrays_base, arrays_stars, arrays_brackets, brackets_of, brackets_spelled}
@@ -53,9 +54,9 @@ some_words ds some = rw some.is refl
 
 pub parameters_spelled : {h : ℕ} {ds : List Decl} {w : List Token} → Parameters h ds w →
     Parameters h (map bare_decl ds) (tokens_of (parameters_of ds))
-parameters_spelled (grammar.no_word l r pl pr) = grammar.void_word _ _ _ refl refl refl
-parameters_spelled (grammar.void_word l t r pl k pr) = grammar.void_word _ _ _ refl refl refl
+parameters_spelled (grammar.no_word l r pl pr) = void_word _ _ _ refl refl refl
+parameters_spelled (grammar.void l r pl ps one pr) = void_word _ _ _ refl refl refl
 parameters_spelled (grammar.parameters {ds} l r pl ps more pr) =
     rw (some_words ds (some_parameter ps), tokens-append (with_commas (map parameter_of ds)) (punct mark.RightParen ∷ []))
     (grammar.parameters (token_of (punct mark.LeftParen)) (token_of (punct mark.RightParen)) refl (list_spelled ps)
-    (λ void. more (is_one_void ds (one_void_is void))) refl)
+    (λ one. more (void_back ds one)) refl)

@@ -1,5 +1,6 @@
 -- The lexemes of a program spell it.
-use Rattle.std.proofs.Common.{◌≡◌, ◌≢◌, refl, ℕ, suc, max, List, [], ◌∷◌, ◌++◌, map, flat_map, Some, None, ap, sym, ◌∙◌, subst, append_assoc, arith}
+use Rattle.std.proofs.Common.{◌≡◌, ◌≢◌, refl, ℕ, suc, max, List, [], ◌∷◌, ◌++◌, map, flat_map, Some, None, ap, sym, ◌∙◌, subst}
+use Rattle.std.proofs.Common.{append_assoc, arith}
 use Rattle.std.proofs.lemmas.List.{append-nil, map-append}
 use Rattle.std.proofs.lemmas.List.Elements.{All-map}
 use Rattle.std.proofs.lemmas.Grind.{flat_map-append}
@@ -18,7 +19,8 @@ use Rattle.c_ast.specs.declared.program.External.TheVariants as external
 use Rattle.c_ast.specs.declared.punctuator.Punctuator.TheVariants as mark
 use Rattle.c_grammar.specs.Types.{Base, Stars}
 use Rattle.c_grammar.specs.Types as types
-use Rattle.c_grammar.specs.Externals.{StorageClass, Head, FunctionHead, function_head, ExternalDeclaration, TranslationUnit, no_external, more_external}
+use Rattle.c_grammar.specs.Externals.{StorageClass, Head, FunctionHead, function_head, ExternalDeclaration, TranslationUnit, no_external}
+use Rattle.c_grammar.specs.Externals.{more_external}
 use Rattle.c_grammar.specs.Externals as grammar
 use Rattle.c_grammar.specs.Parameters.{Parameters, AllNamed}
 use Rattle.c_grammar.specs.Objects.{Objects}

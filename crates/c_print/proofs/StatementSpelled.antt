@@ -17,7 +17,8 @@ use Rattle.c_ast.specs.declared.keyword.Keyword.TheVariants as key
 use Rattle.c_ast.specs.declared.punctuator.Punctuator.TheVariants as mark
 use Rattle.c_grammar.specs.Objects as objects
 use Rattle.c_grammar.specs.Objects.{Local}
-use Rattle.c_grammar.specs.Statements.{Place, Ending, MaybeExpression, left_out, written, First, first_local, first_expression, Statement, Block, BlockItems, BlockItem}
+use Rattle.c_grammar.specs.Statements.{Place, Ending, MaybeExpression, left_out, written, First, first_local, first_expression, Statement}
+use Rattle.c_grammar.specs.Statements.{Block, BlockItems, BlockItem}
 use Rattle.c_grammar.specs.Statements as grammar
 use Rattle.c_print.specs.Words.{word, punct}
 use Rattle.c_print.specs.Laws.SeenTokens.{token_of, tokens_of}

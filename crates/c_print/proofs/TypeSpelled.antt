@@ -7,7 +7,8 @@ use Rattle.c_ast.specs.declared.int_type.IntType.TheVariants as integer
 use Rattle.c_ast.specs.declared.expr.CType.{CType}
 use Rattle.c_ast.specs.declared.expr.CType.TheVariants as type
 use Rattle.c_ast.specs.declared.expr.CType.TheOpen.{CType-F}
-use Rattle.c_grammar.specs.Types.{Keywords, Base, TypeName, Stars, char, signed_char, unsigned_char, short, unsigned_short, int, unsigned, long, unsigned_long, words, word, type_name, star}
+use Rattle.c_grammar.specs.Types.{Keywords, Base, TypeName, Stars, char, signed_char, unsigned_char, short, unsigned_short, int, unsigned}
+use Rattle.c_grammar.specs.Types.{long, unsigned_long, words, word, type_name, star}
 use Rattle.c_grammar.specs.Types as types
 use Rattle.c_print.specs.Laws.SeenTokens.{tokens_of}
 use Rattle.c_print.specs.Expressions.{int_words, type_name_of, parts_of}

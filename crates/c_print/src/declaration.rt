@@ -3,7 +3,8 @@
 ghost use Rattle.std.specs.Prelude.{◌≡◌, ◌++◌, ◌∷◌, [], OnOk, map, flat_map};
 ghost use Rattle.c_print.specs.Words.{with_commas};
 ghost use Rattle.c_print.specs.Expressions.{parts_of};
-ghost use Rattle.c_print.specs.Declarations.{init_of, equal_init, declarator_of, object_of, base_of, objects_of, member_of, body_of, struct_of, storage_of};
+ghost use Rattle.c_print.specs.Declarations.{init_of, equal_init, declarator_of, object_of, base_of, objects_of, member_of, body_of};
+ghost use Rattle.c_print.specs.Declarations.{struct_of, storage_of};
 
 use crate::expr::{print_between, print_expr};
 use crate::types::{print_base, print_stars};

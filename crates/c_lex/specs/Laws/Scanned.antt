@@ -8,6 +8,8 @@ use Rattle.c_lex.specs.Scan.Quoted.{character_of, text_of}
 use Rattle.c_lex.specs.Directive.{is_include}
 use Rattle.c_lex.specs.Spelling.{is_identifier, is_preprocessing_number, Spells}
 use Rattle.c_lex.specs.Laws.Literals.{character-spelled, spelled-character, text-spelled, spelled-text}
+use Rattle.c_lex.specs.Laws.Constants.{numeral-constant, constant-numeral}
+use Rattle.c_lex.specs.Laws.ConstantNumbers.{constant-number}
 
 unfoldable pub Scans : Lexeme → List ℕ → Type 0
 Scans Include bytes = IsTrue (is_include bytes)
@@ -23,7 +25,9 @@ pub spells-scans : (kind : Lexeme) (bytes : List ℕ) → Spells kind bytes → 
 unfolding Spells Scans
 spells-scans Include bytes spells = spells
 spells-scans (Name name) bytes spells = spells
-spells-scans (Number value ty) bytes spells = spells
+spells-scans (Number value ty) bytes spells =
+    let found = constant-numeral value ty bytes spells in
+    (constant-number value ty bytes spells, found.0, found.1, found.2)
 spells-scans (Character value) bytes spells = spelled-character value bytes spells
 spells-scans (Text values) bytes spells = spelled-text values bytes spells
 spells-scans (Keyword number) bytes spells = spells
@@ -33,7 +37,7 @@ pub scans-spells : (kind : Lexeme) (bytes : List ℕ) → Scans kind bytes → S
 unfolding Spells Scans
 scans-spells Include bytes scans = scans
 scans-spells (Name name) bytes scans = scans
-scans-spells (Number value ty) bytes scans = scans
+scans-spells (Number value ty) bytes scans = numeral-constant value ty bytes scans.1 scans.2 scans.3
 scans-spells (Character value) bytes scans = character-spelled value bytes scans
 scans-spells (Text values) bytes scans = text-spelled values bytes scans
 scans-spells (Keyword number) bytes scans = scans

@@ -103,7 +103,11 @@ module _ (text : List ℕ) (tokens : List Seen) (place bytes : ℕ) (is : gap_by
 
   -- and nothing else on the line changes it
   first-before : get_or text place 0 ≢ 10 → IsFirstOnLine text tokens (place + bytes) → IsFirstOnLine text tokens place
-  first-before other is_first = record { from = is_first.from; starts = is_first.starts; before = starts-before is_first.from other is_first.starts is_first.before }
+  first-before other is_first = record {
+    from = is_first.from;
+    starts = is_first.starts;
+    before = starts-before is_first.from other is_first.starts is_first.before;
+  }
 
   blanks-before : get_or text place 0 ≢ 10 → IsBehindBlanks text tokens (place + bytes) → IsBehindBlanks text tokens place
   blanks-before other clear = record {

@@ -164,7 +164,14 @@ goes_on text fuel place line tokens reached standing inside limit (reading.Fault
     inr (
       what,
       place + offset,
-      record { place = place; tokens = tokens; offset = offset; reached = reached; faulty = faulty_read text tokens place line standing what offset some is; there = refl },
+      record {
+        place = place;
+        tokens = tokens;
+        offset = offset;
+        reached = reached;
+        faulty = faulty_read text tokens place line standing what offset some is;
+        there = refl;
+      },
     )
 
 outcome-from : (text : List ℕ) (fuel place : ℕ) (line : Line) (tokens : List Seen) → Reaches text place tokens

@@ -60,12 +60,6 @@ word-tells b rest letter =
 
 -- ---- numbers
 
-mark_len : (first second : Bool) (limit : ℕ) → (first ≡ true → 1 ≤ limit) → (second ≡ true → 2 ≤ limit)
-    → cond first (cond second 2 1) 0 ≤ limit
-mark_len true true limit one two = two refl
-mark_len true false limit one two = one refl
-mark_len false second limit one two = omega arith
-
 -- the marks of a suffix stand in the bytes
 suffix-bound : (bytes : List ℕ) → suffix_bytes bytes ≤ length bytes
 suffix-bound [] = omega arith

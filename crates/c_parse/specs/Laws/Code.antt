@@ -1,7 +1,7 @@
 -- What the code of the parser needs of the parser.
-use Rattle.std.specs.Prelude.{◌≡◌, ℕ, ◌-◌, ◌<◌, ◌≤◌, Bool, true, false, ◌&&◌, if◌then◌else◌, List, [], ◌∷◌, Option, Some, None, is_some, length, refl}
+use Rattle.std.specs.Prelude.{◌≡◌, ℕ, ◌+◌, ◌-◌, ◌<◌, ◌≤◌, Bool, true, false, ◌&&◌, if◌then◌else◌, List, [], ◌∷◌, Option, Some, None}
+use Rattle.std.specs.Prelude.{is_some, length, refl}
 use Rattle.std.proofs.Common.{sym, ◌∙◌, ap, arith}
-use Rattle.std.proofs.lemmas.Bool.Decides.{nat_tests}
 use Rattle.c_ast.specs.Seen.{Seen as Token}
 use Rattle.c_ast.specs.declared.expr.CType.{CType}
 use Rattle.c_ast.specs.declared.declaration.Storage.{Storage}
@@ -9,12 +9,14 @@ use Rattle.c_ast.specs.declared.declaration.Storage.TheVariants as storage
 use Rattle.c_ast.specs.declared.keyword.Keyword.TheVariants as key
 use Rattle.c_ast.specs.declared.punctuator.Punctuator.TheVariants as mark
 use Rattle.c_grammar.specs.Words.{word_of, keyword, punctuator}
-use Rattle.c_parse_base.specs.declared.fault.Fault.TheVariants.{Unexpected, TooDeep}
-use Rattle.c_parse_base.specs.Reading.Answer.{Answer, Read, Stuck, Parser, and_then, word, word_or, makes, thens, sees, follows, turns, repeats}
-use Rattle.c_parse_base.specs.Laws.OptionalLaws.{follows_stop, follows_wrong, follows_deep, follows_part}
-use Rattle.c_parse_base.specs.Laws.LoopLaws.{turns_stop, turns_turn, turns_read, takes_some}
+use Rattle.c_parse_base.specs.declared.fault.Fault.TheVariants.{Unexpected}
+use Rattle.c_parse_base.specs.Reading.Answer.{Answer, Read, Stuck, Parser, and_then, word, word_or, makes, thens, sees, follows, turns}
+use Rattle.c_parse_base.specs.Reading.Answer.{repeats}
+use Rattle.c_parse_base.specs.Laws.OptionalLaws.{follows_stop, follows_wrong, follows_part}
+use Rattle.c_parse_base.specs.Laws.ChainLaws.{MayTurn}
+use Rattle.c_parse_base.specs.Laws.LoopLaws.{Loop, left}
 use Rattle.c_parse_base.specs.Reading.Answers.{rest_of, next_value}
-use Rattle.c_parse_base.specs.Laws.AnswerLaws.{either_one, either_deep, either_other}
+use Rattle.c_parse_base.specs.Laws.AnswerLaws.{either_one, either_other}
 use Rattle.c_parse_base.specs.Reading.Spans.{start_of}
 use Rattle.c_parse_base.specs.Reading.Words.{is, place_of, punct}
 use Rattle.c_parse_base.specs.Laws.WordLaws.{sees_value}
@@ -31,13 +33,12 @@ use Rattle.c_parse.specs.declared.head.Head.{Head}
 use Rattle.c_parse.specs.declared.head.Specifiers.{Specifiers}
 use Rattle.c_parse.specs.declared.behind.Behind.TheVariants as behind
 use Rattle.c_parse.specs.declared.externals.Externals.{Externals}
-use Rattle.c_parse.specs.Reading.Values.{plain_head, with_body, is_struct, stored, unstored, is_lone, no_body, body_of, function_of, external_of, include_line, more_externals}
-use Rattle.c_parse.specs.Reading.Externals.{room, storage_at, from_start, pick_storage, is_storage, plain, body_behind, head, stored_head, specifiers, ending, function, after_name, named, tail, declaration, included_at, pick_include, begins_declaration, begins_external, external, next_external, unit}
-use Rattle.c_parse.specs.Laws.HeadLaws.{is_room}
-use Rattle.c_parse.specs.Laws.UnitLaws.{NextExternal, include_picked, external_good, next_good}
-
-not_room : (d : ℕ) → d ≡ 0 → room d ≡ false
-not_room d h = grind (arith, nat_tests)
+use Rattle.c_parse.specs.Reading.Values.{plain_head, with_body, is_struct, stored, unstored, is_lone, no_body, body_of, function_of}
+use Rattle.c_parse.specs.Reading.Values.{external_of, include_line, more_externals}
+use Rattle.c_parse.specs.Reading.Externals.{storage_at, from_start, pick_storage, is_storage, plain, body_behind, head, stored_head}
+use Rattle.c_parse.specs.Reading.Externals.{specifiers, ending, function, after_name, named, tail, declaration, included_at, pick_include}
+use Rattle.c_parse.specs.Reading.Externals.{begins_declaration, begins_external, external, next_external, unit}
+use Rattle.c_parse.specs.Laws.UnitLaws.{Low, include_picked}
 
 -- a token is seen by a test with a condition where both are true
 pub sees_both : (b : Bool) (test : Token → Bool) (ts : List Token) → sees (λ t. b && test t) ts ≡ (b && sees test ts)
@@ -83,7 +84,7 @@ plain_is ts = go (base ts)
 
 -- a body that may follow
 abbrev pub body_follows : ℕ → Head → Parser Token Head
-body_follows d = follows (is (punctuator mark.LeftBrace)) is_struct (λ _. room d) (body_behind d)
+body_follows d = follows (is (punctuator mark.LeftBrace)) is_struct (λ _. true) (body_behind d)
 
 pub head_is : (d : ℕ) (ts : List Token) → head d ts ≡ and_then (plain ts) (body_follows d)
 unfolding head
@@ -91,20 +92,16 @@ head_is d ts = refl
 
 pub no_body_follows : (d : ℕ) (a : Head) (ts : List Token) → sees (is (punctuator mark.LeftBrace)) ts ≡ false →
     body_follows d a ts ≡ Read a ts
-no_body_follows d a ts e = follows_stop (is (punctuator mark.LeftBrace)) is_struct (λ _. room d) (body_behind d) a ts e
+no_body_follows d a ts e = follows_stop (is (punctuator mark.LeftBrace)) is_struct (λ _. true) (body_behind d) a ts e
 
 pub body_wrong : (d : ℕ) (a : Head) (ts : List Token) → sees (is (punctuator mark.LeftBrace)) ts ≡ true → is_struct a ≡ false →
     body_follows d a ts ≡ Stuck Unexpected ts
-body_wrong d a ts e n = follows_wrong (is (punctuator mark.LeftBrace)) is_struct (λ _. room d) (body_behind d) a ts e n
+body_wrong d a ts e n = follows_wrong (is (punctuator mark.LeftBrace)) is_struct (λ _. true) (body_behind d) a ts e n
 
-pub body_deep : (d : ℕ) (a : Head) (ts : List Token) → sees (is (punctuator mark.LeftBrace)) ts ≡ true → is_struct a ≡ true → d ≡ 0 →
-    body_follows d a ts ≡ Stuck TooDeep ts
-body_deep d a ts e y z = follows_deep (is (punctuator mark.LeftBrace)) is_struct (λ _. room d) (body_behind d) a ts e y (not_room d z)
-
-pub body_taken : (d : ℕ) (a : Head) (ts : List Token) → sees (is (punctuator mark.LeftBrace)) ts ≡ true → is_struct a ≡ true → 0 < d →
-    body_follows d a ts ≡ makes (with_body a) (body (d - 1)) ts
+pub body_taken : (d : ℕ) (a : Head) (ts : List Token) → sees (is (punctuator mark.LeftBrace)) ts ≡ true → is_struct a ≡ true →
+    body_follows d a ts ≡ makes (with_body a) (body d) ts
 unfolding body_behind
-body_taken d a ts e y h = follows_part (is (punctuator mark.LeftBrace)) is_struct (λ _. room d) (body_behind d) a ts e y (is_room d h)
+body_taken d a ts e y = follows_part (is (punctuator mark.LeftBrace)) is_struct (λ _. true) (body_behind d) a ts e y refl
 
 -- ---- storage classes and types
 
@@ -142,15 +139,15 @@ seen_allowed true test ts e = refl
 seen_allowed false test [] e = cc
 seen_allowed false test (x ∷ ts) e = cc
 
-pub ending_block : (d : ℕ) (p : ParametersRead) (ts : List Token) → sees_block p ts ≡ true → ending d p ts ≡ makes body_of (block d) ts
+pub ending_block : (d : ℕ) (p : ParametersRead) (ts : List Token) → sees_block p ts ≡ true → ending d p ts ≡ makes body_of (block (d + 1)) ts
 unfolding ending
-ending_block d p ts e = either_one _ p.all_named (makes body_of (block d)) (makes no_body (punct mark.Semicolon)) ts e
+ending_block d p ts e = either_one _ p.all_named (makes body_of (block (d + 1))) (makes no_body (punct mark.Semicolon)) ts e
     (seen_allowed p.all_named (is (punctuator mark.LeftBrace)) ts e)
 
 pub ending_bare : (d : ℕ) (p : ParametersRead) (ts : List Token) → sees_block p ts ≡ false →
     ending d p ts ≡ makes no_body (punct mark.Semicolon) ts
 unfolding ending
-ending_bare d p ts e = either_other _ p.all_named (makes body_of (block d)) (makes no_body (punct mark.Semicolon)) ts e
+ending_bare d p ts e = either_other _ p.all_named (makes body_of (block (d + 1))) (makes no_body (punct mark.Semicolon)) ts e
 
 pub function_is : (d : ℕ) (a : Declared) (ts : List Token) → function d a ts ≡ makes (function_of a) (thens (parameters d) (ending d)) ts
 unfolding function
@@ -159,14 +156,14 @@ function_is d a ts = refl
 pub after_function : (d : ℕ) (of : CType) (a : Declared) (ts : List Token) → sees (is (punctuator mark.LeftParen)) ts ≡ true →
     after_name d of a ts ≡ function d a ts
 unfolding after_name
-after_function d of a ts e = either_one (is (punctuator mark.LeftParen)) true (function d a) (makes behind.Objects (rest d of a)) ts e refl
+after_function d of a ts e = either_one (is (punctuator mark.LeftParen)) true (function d a) (makes behind.Objects (rest (d + 1) of a)) ts e refl
 
 pub after_objects : (d : ℕ) (of : CType) (a : Declared) (ts : List Token) → sees (is (punctuator mark.LeftParen)) ts ≡ false →
-    after_name d of a ts ≡ makes behind.Objects (rest d of a) ts
+    after_name d of a ts ≡ makes behind.Objects (rest (d + 1) of a) ts
 unfolding after_name
-after_objects d of a ts e = either_other (is (punctuator mark.LeftParen)) true (function d a) (makes behind.Objects (rest d of a)) ts e
+after_objects d of a ts e = either_other (is (punctuator mark.LeftParen)) true (function d a) (makes behind.Objects (rest (d + 1) of a)) ts e
 
-pub named_is : (d : ℕ) (of : CType) (ts : List Token) → named d of ts ≡ makes (λ c. c.1) (thens (starred d of) (after_name d of)) ts
+pub named_is : (d : ℕ) (of : CType) (ts : List Token) → named d of ts ≡ makes (λ c. c.1) (thens (starred (d + 1) of) (after_name d of)) ts
 unfolding named
 named_is d of ts = refl
 
@@ -202,55 +199,30 @@ included : (o : Option Externals) → is_some o ≡ true → (t : Token) → inc
 included None e t h = cc
 included (Some v) e t h = ap Some (sym (include_picked t.kind v h).1)
 
-not_included : (o : Option Externals) → is_some o ≡ false → o ≡ None
-not_included None e = refl
-not_included (Some v) e = cc
-
 pub external_include : (d : ℕ) (ts : List Token) → sees begins_declaration ts ≡ false → external d ts ≡ word pick_include ts
 unfolding external
-external_include d ts e = either_other begins_declaration (room d) (declaration (d - 1)) (word pick_include) ts e
+external_include d ts e = either_other begins_declaration true (declaration d) (word pick_include) ts e
 
-pub external_deep : (d : ℕ) (ts : List Token) → sees begins_declaration ts ≡ true → d ≡ 0 → external d ts ≡ Stuck TooDeep ts
+pub external_declared : (d : ℕ) (ts : List Token) → sees begins_declaration ts ≡ true → external d ts ≡ declaration d ts
 unfolding external
-external_deep d ts e z = either_deep begins_declaration (room d) (declaration (d - 1)) (word pick_include) ts e (not_room d z)
-
-pub external_declared : (d : ℕ) (ts : List Token) → sees begins_declaration ts ≡ true → 0 < d → external d ts ≡ declaration (d - 1) ts
-unfolding external
-external_declared d ts e h = either_one begins_declaration (room d) (declaration (d - 1)) (word pick_include) ts e (is_room d h)
+external_declared d ts e = either_one begins_declaration true (declaration d) (word pick_include) ts e refl
 
 -- ---- the loop over external declarations
 
--- the external declarations that are left, behind those that were read
-unfoldable pub more_units : ℕ → Externals → Parser Token Externals
-more_units d = repeats begins_external (λ _. true) (next_external d)
+-- a further external declaration
+abbrev pub further_external : ℕ → Loop Token Externals
+further_external d = record { test = λ _. begins_external; room = λ _. true; step = next_external d }
 
-pub unit_is : (d : ℕ) (ts : List Token) → unit d ts ≡ and_then (external d ts) (more_units d)
-unfolding unit more_units
+pub unit_is : (d : ℕ) (ts : List Token) → unit d ts ≡ and_then (external d ts) (left (further_external d))
+unfolding unit left
 unit_is d ts = refl
 
-pub unit_first : (d : ℕ) (ts us : List Token) (a : Externals) → external d ts ≡ Read a us → unit d ts ≡ more_units d a us
-unit_first d ts us a e = unit_is d ts ∙ ap (λ o. and_then o (more_units d)) e
-
-pub units_end : (d : ℕ) (a : Externals) (ts : List Token) → sees begins_external ts ≡ false → more_units d a ts ≡ Read a ts
-unfolding more_units
-units_end d a ts e = turns_stop begins_external (λ _. true) (next_external d) a ts e
-
-pub units_turn : (d : ℕ) (a : Externals) (ts : List Token) → sees begins_external ts ≡ true →
-    more_units d a ts ≡ and_then (and_then (external d ts) (λ b us. Read (more_externals a b) us))
-    (turns begins_external (λ _. true) (next_external d) (length ts - 1))
-unfolding more_units next_external
-units_turn d a ts e = turns_turn begins_external (λ _. true) (next_external d) a ts e refl
-
-next_read : (d : ℕ) (a b : Externals) (ts us : List Token) → external d ts ≡ Read b us → next_external d a ts ≡ Read (more_externals a b) us
+pub next_is : (d : ℕ) (a : Externals) (ts : List Token) → next_external d a ts ≡ makes (more_externals a) (external d) ts
 unfolding next_external
-next_read d a b ts us e = ap (λ o. and_then o (λ b us. Read (more_externals a b) us)) e
+next_is d a ts = refl
 
-pub units_read : (d : ℕ) (a b : Externals) (ts us : List Token) → a.height ≤ d → sees begins_external ts ≡ true →
-    external d ts ≡ Read b us → more_units d a ts ≡ more_units d (more_externals a b) us
-unfolding more_units
-units_read d a b ts us low e h =
-    turns_read begins_external (λ _. true) (next_external d) NextExternal (next_good d) a (more_externals a b) ts us
-    (record { fits = low; has_room = refl }) e (next_read d a b ts us h)
+pub next_read : (d : ℕ) (a b : Externals) (ts us : List Token) → external d ts ≡ Read b us → next_external d a ts ≡ Read (more_externals a b) us
+next_read d a b ts us e = next_is d a ts ∙ ap (λ o. and_then o (λ b us. Read (more_externals a b) us)) e
 
-pub unit_takes : (d : ℕ) (b : Externals) (ts us : List Token) → external d ts ≡ Read b us → length us < length ts
-unit_takes d b ts us e = takes_some (external_good d) ts us b e
+pub may_follow : (d : ℕ) (a : Externals) → a.height ≤ d + 2 → MayTurn (Low d) (λ _. true) a
+may_follow d a low = record { fits = omega arith; has_room = refl }

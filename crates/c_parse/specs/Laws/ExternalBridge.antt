@@ -31,7 +31,8 @@ use Rattle.c_parse_decl.specs.Laws.Objects.RestParts.{rest_into}
 use Rattle.c_parse.specs.declared.head.Specifiers.{Specifiers}
 use Rattle.c_parse.specs.declared.behind.Ending.{Ending}
 use Rattle.c_parse.specs.declared.behind.Behind.{Behind}
-use Rattle.c_parse.specs.Reading.Values.{is_struct, struct_at, before_of, no_storage, is_lone, function_of, height_behind, items_of, external_of}
+use Rattle.c_parse.specs.Reading.Values.{is_struct, struct_at, before_of, no_storage, is_lone, function_of, height_behind, items_of}
+use Rattle.c_parse.specs.Reading.Values.{external_of}
 use Rattle.c_parse.specs.Laws.WordTests.{both_so}
 use Rattle.c_parse.specs.Laws.HeadLaws.{SpecifiersWord, specifiers_good}
 use Rattle.c_parse.specs.Laws.TailLaws.{EndingWord, AfterName, TailWord, ending_words, ending_starts}

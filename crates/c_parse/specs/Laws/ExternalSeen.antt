@@ -39,7 +39,8 @@ use Rattle.c_parse.specs.Reading.Values.{is_struct, struct_at, before_of, unstor
 use Rattle.c_parse.specs.Reading.Externals.{included_at, pick_include, begins_declaration}
 use Rattle.c_parse.specs.Laws.HeadLaws.{HeadWord, SpecifiersWord, specifiers_good}
 use Rattle.c_parse.specs.Laws.TailLaws.{EndingWord, TailWord, ending_words, ending_starts}
-use Rattle.c_parse.specs.Laws.HeadBridge.{reach, tag_struct, tag_is, tag_head, tag_read, body_head, body_read, body_declares, SpecifiersSeen, specifiers_seen}
+use Rattle.c_parse.specs.Laws.HeadBridge.{reach, tag_struct, tag_is, tag_head, tag_read, body_head, body_read, body_declares}
+use Rattle.c_parse.specs.Laws.HeadBridge.{SpecifiersSeen, specifiers_seen}
 use Rattle.c_parse.specs.Laws.ExternalBridge.{is_all_named, whole_function, span_parts, head_parts, ending_end}
 
 abbrev pub DeclarationWord : Language Token Externals

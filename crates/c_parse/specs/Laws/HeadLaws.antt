@@ -1,7 +1,7 @@
 -- Types at file scope are read.
-use Rattle.std.specs.Prelude.{◌≡◌, ◌≢◌, ℕ, suc, ◌-◌, ◌<◌, ◌≤◌, ◌==◌, max, Bool, true, false, ◌||◌, if◌then◌else◌, List, [], ◌∷◌, ◌++◌, Option, Some, None, is_some, refl}
+use Rattle.std.specs.Prelude.{◌≡◌, ◌≢◌, ℕ, suc, ◌+◌, ◌≤◌, ◌==◌, max, Bool, true, false, ◌||◌, if◌then◌else◌, List, [], ◌∷◌, ◌++◌, Option}
+use Rattle.std.specs.Prelude.{Some, None, is_some, refl}
 use Rattle.std.proofs.Common.{sym, ◌∙◌, ap, arith, inl, inr}
-use Rattle.std.proofs.lemmas.Bool.Decides.{nat_tests}
 use Rattle.c_ast.specs.Seen.{Seen as Token}
 use Rattle.c_ast.specs.declared.token.Lexeme.TheVariants as lexeme
 use Rattle.c_ast.specs.declared.declaration.Storage.{Storage}
@@ -31,7 +31,8 @@ use Rattle.c_parse_decl.specs.Laws.Members.MemberLaws.{body_good, body_begins_at
 use Rattle.c_parse.specs.declared.head.Head.{Head}
 use Rattle.c_parse.specs.declared.head.Specifiers.{Specifiers}
 use Rattle.c_parse.specs.Reading.Values.{plain_head, with_body, is_struct, stored, unstored}
-use Rattle.c_parse.specs.Reading.Externals.{room, storage_at, from_start, pick_storage, is_storage, plain, body_behind, head, stored_head, specifiers, begins_declaration}
+use Rattle.c_parse.specs.Reading.Externals.{storage_at, from_start, pick_storage, is_storage, plain, body_behind, head, stored_head}
+use Rattle.c_parse.specs.Reading.Externals.{specifiers, begins_declaration}
 use Rattle.c_parse.specs.Laws.WordTests.{not_so}
 
 -- ---- the languages
@@ -57,20 +58,14 @@ SpecifiersWord = Either StoredHead (Made unstored HeadWord)
 -- ---- levels and tests
 
 abbrev pub HeadLow : ℕ → Head → Type 0
-HeadLow d a = a.height ≤ suc d
+HeadLow d a = a.height ≤ d + 2
 
 abbrev pub SpecifiersLow : ℕ → Specifiers → Type 0
-SpecifiersLow d s = s.head.height ≤ suc d
+SpecifiersLow d s = s.head.height ≤ d + 2
 
 -- the words that go on behind a type, whether or not they may stand there
 abbrev pub goes_on_head : Token → Bool
 goes_on_head t = more_words t || is (punctuator mark.LeftBrace) t
-
-pub some_room : (d : ℕ) → room d ≡ true → 0 < d
-some_room d e = grind (arith, nat_tests)
-
-pub is_room : (d : ℕ) → 0 < d → room d ≡ true
-is_room d h = grind (arith, nat_tests)
 
 brace_no_word : (is_some (size_at (punctuator mark.LeftBrace)) || (punctuator mark.LeftBrace == keyword key.Int)) ≡ false
 unfolding size_at
@@ -84,12 +79,11 @@ plain_good d = makes_good plain_head PlainHead (HeadLow d) (λ a. more_words) (s
     (λ c w m. record { source = c; is = refl; word = m }) (λ a w m. m) (λ c w m low. omega arith)
     (λ c w m low. omega (arith, m.word.height)) (λ c x e. e)
 
-body_behind_good : (d : ℕ) (a : Head) → MayFollow (HeadLow d) is_struct (λ _. room d) a →
+body_behind_good : (d : ℕ) (a : Head) → MayFollow (HeadLow d) is_struct (λ _. true) a →
     Good (body_behind d a) (BodyBehind a) (HeadLow d) (is (punctuator mark.LeftBrace)) nothing
 unfolding body_behind
 body_behind_good d a may =
-    let below : 0 < d = some_room d may.has_room in
-    makes_good (with_body a) (BodyBehind a) (HeadLow d) nothing (body_good (d - 1))
+    makes_good (with_body a) (BodyBehind a) (HeadLow d) nothing (body_good d)
     (λ b w m. record { allowed = may.is_allowed; made = record { source = b; is = refl; word = m } }) (λ v w m. m.made)
     (λ b w m low. omega (arith, may.fits)) (λ b w m low. omega arith) (λ b x e. refl)
 
@@ -103,14 +97,14 @@ body_behind_begins a t may e =
           record { allowed = may; made = record { source = b.value; is = refl; word = b.whole } };
     }
 
-may_have_body : (d : ℕ) (a b : Head) (u : List Token) → BodyBehind a b u → HeadLow d b → MayFollow (HeadLow d) is_struct (λ _. room d) a
+may_have_body : (d : ℕ) (a b : Head) (u : List Token) → BodyBehind a b u → HeadLow d b → MayFollow (HeadLow d) is_struct (λ _. true) a
 may_have_body d a b u m low =
     let high : max a.height (suc (suc m.made.source.height)) ≡ b.height = ap (λ (v : Head). v.height) m.made.is in
-    record { fits = omega arith; is_allowed = m.allowed; has_room = is_room d (omega arith) }
+    record { fits = omega arith; is_allowed = m.allowed; has_room = refl }
 
 pub head_good : (d : ℕ) → Good (head d) HeadWord (HeadLow d) begins_type (λ a. goes_on_head)
 unfolding head
-head_good d = optional_good (is (punctuator mark.LeftBrace)) is_struct (λ _. room d) (body_behind d) BodyBehind (λ a. goes_on_head)
+head_good d = optional_good (is (punctuator mark.LeftBrace)) is_struct (λ _. true) (body_behind d) BodyBehind (λ a. goes_on_head)
     (plain_good d) (body_behind_good d)
     body_behind_begins (may_have_body d)
     (λ a x e. no_word (λ w. is_some (size_at w) || (w == keyword key.Int)) (punctuator mark.LeftBrace) (word_of x) brace_no_word e)

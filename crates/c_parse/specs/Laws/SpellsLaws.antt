@@ -13,7 +13,7 @@ use Rattle.c_parse_base.specs.Laws.ExactLaws.{one_word}
 use Rattle.c_parse.specs.declared.externals.Externals.{Externals}
 use Rattle.c_parse.specs.Reading.Values.{program_of}
 use Rattle.c_parse.specs.Reading.Externals.{unit}
-use Rattle.c_parse.specs.Laws.UnitLaws.{NextExternal, UnitWord, height_of, unit_good}
+use Rattle.c_parse.specs.Laws.UnitLaws.{NextExternal, UnitWord, levels_below, unit_good}
 use Rattle.c_parse.specs.Laws.Growth.{unit_grows}
 
 abbrev read_as : ℕ → List External → Externals
@@ -82,9 +82,9 @@ spells_one ts p q d e (inl h) m =
 spells_one ts p q d e (inr l) m =
     let s = (unit_good d).starts (read_as d p.items) ts l in
     let n = some_seen q e ts (λ none. let k = sym none ∙ s.parts in absurd (cc)) m in
-    let o : read_as d p.items ≡ read_as e q.items = one_word unit UnitWord height_of unit_good unit_grows (read_as d p.items)
+    let o : read_as d p.items ≡ read_as e q.items = one_word unit UnitWord levels_below unit_good unit_grows (read_as d p.items)
     (read_as e q.items) ts l n in
-    (ap (λ (v : Externals). program_of v.items) o, ap height_of o)
+    (ap (λ (v : Externals). program_of v.items) o, ap (λ (v : Externals). v.height) o)
 
 -- a list of tokens spells at most one program, at one depth
 pub spells_at_most_one : (ts : List given.Token) (p q : Program) (d e : ℕ) → Spells ts p d → Spells ts q e → (p ≡ q) × (d ≡ e)

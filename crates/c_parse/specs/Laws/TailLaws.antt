@@ -1,5 +1,5 @@
 -- What stands behind a type at file scope is read.
-use Rattle.std.specs.Prelude.{◌≡◌, ℕ, ◌≤◌, Bool, true, ◌&&◌, List, [], ◌∷◌, ◌++◌, refl}
+use Rattle.std.specs.Prelude.{◌≡◌, ℕ, ◌+◌, ◌≤◌, Bool, true, ◌&&◌, List, [], ◌∷◌, ◌++◌, refl}
 use Rattle.std.proofs.Common.{◌∙◌, ap, arith, inl, inr}
 use Rattle.c_ast.specs.Seen.{Seen as Token}
 use Rattle.c_ast.specs.declared.expr.CType.{CType}
@@ -62,10 +62,10 @@ TailWord s = Either (LoneWord s) (NamedWord s.head.base)
 -- ---- levels and tests
 
 abbrev EndingLow : ℕ → Ending → Type 0
-EndingLow d v = v.height ≤ d
+EndingLow d v = v.height ≤ d + 1
 
 abbrev pub TailLow : ℕ → Behind → Type 0
-TailLow d v = height_behind v ≤ d
+TailLow d v = height_behind v ≤ d + 1
 
 abbrev pub ending_words : List ℕ
 ending_words = punctuator mark.LeftBrace ∷ punctuator mark.Semicolon ∷ []
@@ -97,8 +97,8 @@ no_body_good d = makes_good no_body (Made no_body (Spot (punctuator mark.Semicol
     (λ p w m. record { source = p; is = refl; word = m }) (λ v w m. m) (λ p w m low. omega arith) (λ p w m low. tt) (λ p x e. refl)
 
 with_block_good : (d : ℕ) (p : ParametersRead) → p.all_named ≡ true →
-    Good (makes body_of (block d)) (WithBlock p) (EndingLow d) (is (punctuator mark.LeftBrace)) nothing
-with_block_good d p may = makes_good body_of (WithBlock p) (EndingLow d) nothing (block_good d)
+    Good (makes body_of (block (d + 1))) (WithBlock p) (EndingLow d) (is (punctuator mark.LeftBrace)) nothing
+with_block_good d p may = makes_good body_of (WithBlock p) (EndingLow d) nothing (block_good (d + 1))
     (λ b w m. record { allowed = may; made = record { source = b; is = refl; word = m } }) (λ v w m. m.made) (λ b w m low. low)
     (λ b w m low. low) (λ b x e. refl)
 
@@ -142,7 +142,7 @@ ending_starts p = (ending_good 0 p).starts
 
 -- ---- functions
 
-pub function_good : (d : ℕ) (a : Declared) → a.height ≤ d → Good (function d a) (FunctionWord a) (TailLow d)
+pub function_good : (d : ℕ) (a : Declared) → a.height ≤ d + 1 → Good (function d a) (FunctionWord a) (TailLow d)
     (is (punctuator mark.LeftParen)) nothing
 unfolding function
 function_good d a low = makes_good (function_of a) (FunctionWord a) (TailLow d) nothing
@@ -161,12 +161,12 @@ function_begins a t e =
       whole = record { source = (p.value, b.value); is = refl; word = join p.whole b.whole };
     }
 
-objects_good : (d : ℕ) (of : CType) (a : Declared) → a.height ≤ d →
-    Good (makes behind.Objects (rest d of a)) (Made behind.Objects (RestWord of a)) (TailLow d) begins_rest nothing
-objects_good d of a low = makes_good behind.Objects (Made behind.Objects (RestWord of a)) (TailLow d) nothing (rest_good d of a low)
+objects_good : (d : ℕ) (of : CType) (a : Declared) → a.height ≤ d + 1 →
+    Good (makes behind.Objects (rest (d + 1) of a)) (Made behind.Objects (RestWord of a)) (TailLow d) begins_rest nothing
+objects_good d of a low = makes_good behind.Objects (Made behind.Objects (RestWord of a)) (TailLow d) nothing (rest_good (d + 1) of a low)
     (λ o w m. record { source = o; is = refl; word = m }) (λ v w m. m) (λ o w m low. low) (λ o w m low. low) (λ o x e. refl)
 
-after_name_good : (d : ℕ) (of : CType) (a : Declared) → a.height ≤ d →
+after_name_good : (d : ℕ) (of : CType) (a : Declared) → a.height ≤ d + 1 →
     Good (after_name d of a) (AfterName of a) (TailLow d) (among behind_words) nothing
 unfolding after_name
 after_name_good d of a low = either_good (is (punctuator mark.LeftParen)) true (among behind_words) (λ _. function_good d a low)
@@ -198,7 +198,7 @@ name_height of c w (join {a = a} {b = b} {v = v} l m) = after_name_height of a b
 named_good : (d : ℕ) (of : CType) → Good (named d of) (NamedWord of) (TailLow d) begins_declarator nothing
 unfolding named
 named_good d of = makes_good (λ c. c.1) (NamedWord of) (TailLow d) nothing
-    (thens_good (after_name d of) (AfterName of) (λ _. TailLow d) (among behind_words) (λ _. nothing) (starred_good d of)
+    (thens_good (after_name d of) (AfterName of) (λ _. TailLow d) (among behind_words) (λ _. nothing) (starred_good (d + 1) of)
     (after_name_good d of) (after_name_begins of) (λ a x e. refl))
     (λ c w m. record { source = c; is = refl; word = m }) (λ v w m. m) (λ c w m fits. fits.1)
     (λ c w m low. (omega (arith, name_height of c w m), low)) (λ c x e. refl)

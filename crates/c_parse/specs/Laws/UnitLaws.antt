@@ -1,5 +1,5 @@
 -- The parser of translation units reads their language.
-use Rattle.std.specs.Prelude.{◌≡◌, ℕ, suc, ◌-◌, ◌<◌, ◌≤◌, ◌==◌, max, Bool, true, false, ◌||◌, List, [], ◌∷◌, ◌++◌, Option, Some, None, is_some, refl}
+use Rattle.std.specs.Prelude.{◌≡◌, ℕ, ◌-◌, ◌≤◌, ◌==◌, max, Bool, true, false, ◌||◌, List, [], ◌∷◌, ◌++◌, Option, Some, None, is_some, refl}
 use Rattle.std.proofs.Common.{ap, subst, arith, inl, inr}
 use Rattle.c_ast.specs.Seen.{Seen as Token}
 use Rattle.c_ast.specs.declared.token.Lexeme.{Lexeme}
@@ -19,9 +19,10 @@ use Rattle.c_parse_base.specs.Laws.WordGood.{good_as}
 use Rattle.c_parse_base.specs.Reading.TypeWords.{first_at, size_at}
 use Rattle.c_parse_base.specs.Laws.WordListLaws.{or_left, or_right, fails_test}
 use Rattle.c_parse.specs.declared.externals.Externals.{Externals}
-use Rattle.c_parse.specs.Reading.Values.{external_of, include_line, more_externals, height_behind}
-use Rattle.c_parse.specs.Reading.Externals.{room, storage_at, tail, declaration, included_at, pick_include, is_include, begins_declaration, begins_external, external, next_external, unit}
-use Rattle.c_parse.specs.Laws.HeadLaws.{goes_on_head, some_room, is_room, specifiers_good, specifiers_begin_at}
+use Rattle.c_parse.specs.Reading.Values.{external_of, include_line, more_externals}
+use Rattle.c_parse.specs.Reading.Externals.{storage_at, tail, declaration, included_at, pick_include, is_include, begins_declaration}
+use Rattle.c_parse.specs.Reading.Externals.{begins_external, external, next_external, unit}
+use Rattle.c_parse.specs.Laws.HeadLaws.{goes_on_head, specifiers_good, specifiers_begin_at}
 use Rattle.c_parse.specs.Laws.TailLaws.{TailWord, TailLow, tail_words, begins_tail, tail_good, tail_begins}
 use Rattle.c_parse.specs.Laws.ExternalBridge.{declaration_into}
 use Rattle.c_parse.specs.Laws.ExternalSeen.{DeclarationWord, AnyExternal, external_seen}
@@ -38,11 +39,12 @@ NextExternal a = Made (more_externals a) ExternalWord
 abbrev pub UnitWord : Language Token Externals
 UnitWord = Chain ExternalWord NextExternal
 
-abbrev pub Low : ℕ → Externals → Type 0
-Low d v = v.height ≤ d
+-- how many levels there are below those of a declaration and of what it holds
+abbrev pub levels_below : Externals → ℕ
+levels_below v = v.height - 2
 
-abbrev pub height_of : Externals → ℕ
-height_of v = v.height
+abbrev pub Low : ℕ → Externals → Type 0
+Low d v = levels_below v ≤ d
 
 -- ---- declarations
 
@@ -53,11 +55,11 @@ tail_apart : (x : Token) → begins_tail x ≡ true → goes_on_head x ≡ false
 unfolding size_at
 tail_apart x e = fails_test goes_on_word tail_words refl (word_of x) e
 
-pub declaration_good : (d : ℕ) → 0 < d → Good (declaration (d - 1)) DeclarationWord (Low d) begins_declaration nothing
+pub declaration_good : (d : ℕ) → Good (declaration d) DeclarationWord (Low d) begins_declaration nothing
 unfolding declaration
-declaration_good d h = makes_good external_of DeclarationWord (Low d) nothing
-    (thens_good (tail (d - 1)) TailWord (λ _. TailLow (d - 1)) begins_tail (λ _. nothing) (specifiers_good (d - 1))
-    (λ s _. tail_good (d - 1) s) tail_begins (λ s x e. tail_apart x e))
+declaration_good d = makes_good external_of DeclarationWord (Low d) nothing
+    (thens_good (tail d) TailWord (λ _. TailLow d) begins_tail (λ _. nothing) (specifiers_good d)
+    (λ s _. tail_good d s) tail_begins (λ s x e. tail_apart x e))
     (λ c w m. record { source = c; is = refl; word = m }) (λ v w m. m) (λ c w m fits. omega (arith, fits.0, fits.1))
     (λ c w m low. (omega arith, omega arith)) (λ c x e. refl)
 
@@ -71,11 +73,6 @@ declaration_begins t e =
       whole = record { source = (s.value, b.value); is = refl; word = join s.whole b.whole };
     }
 
--- a declaration is a level of its own
-declaration_high : (d : ℕ) (v : Externals) (w : List Token) → DeclarationWord v w → Low d v → 0 < d
-declaration_high d v w m low =
-    let high : max m.source.0.head.height (suc (height_behind m.source.1)) ≡ v.height = ap height_of m.is in omega arith
-
 -- ---- the line of a header
 
 pub include_picked : (o : Lexeme) (v : Externals) → included_at o ≡ Some v → (o ≡ lexeme.Include) × (include_line ≡ v)
@@ -88,7 +85,7 @@ include_picked (lexeme.Keyword k) v e = cc
 include_picked (lexeme.Punct p) v e = cc
 
 include_low : (d : ℕ) (v : Externals) (w : List Token) → Word pick_include v w → Low d v
-include_low d v w (one_word_of {x = t} e) = let h : 0 ≡ v.height = ap height_of (include_picked t.kind v e).1 in omega arith
+include_low d v w (one_word_of {x = t} e) = let h : 0 ≡ v.height = ap (λ (v : Externals). v.height) (include_picked t.kind v e).1 in omega arith
 
 include_good : (d : ℕ) → Good (word pick_include) (Word pick_include) (Low d) is_include nothing
 include_good d = good_as (Word pick_include) (Low d) is_include
@@ -107,8 +104,8 @@ include_apart t (Some v) e h = ap (λ k. declaration_word (lexeme_word k)) (incl
 
 either_good_external : (d : ℕ) → Good (external d) AnyExternal (Low d) begins_external nothing
 unfolding external
-either_good_external d = either_good begins_declaration (room d) begins_external (λ r. declaration_good d (some_room d r)) (include_good d)
-    declaration_begins (λ v w m low. is_room d (declaration_high d v w m low)) (declaration_good 1 (omega arith)).starts
+either_good_external d = either_good begins_declaration true begins_external (λ r. declaration_good d) (include_good d)
+    declaration_begins (λ v w m low. refl) (declaration_good 0).starts
     (λ x e. include_apart x (included_at x.kind) refl e) (λ x e. or_left (begins_declaration x) (is_include x) e)
     (λ x e. or_right (begins_declaration x) (is_include x) e)
 
@@ -156,7 +153,7 @@ next_begins a t e = let b = external_begins t e in record {
 
 may_go_on : (d : ℕ) (a b : Externals) (u : List Token) → NextExternal a b u → Low d b → MayTurn (Low d) (λ _. true) a
 may_go_on d a b u m low =
-    let high : max a.height m.source.height ≡ b.height = ap height_of m.is in record { fits = omega arith; has_room = refl }
+    let high : max a.height m.source.height ≡ b.height = ap (λ (v : Externals). v.height) m.is in record { fits = omega arith; has_room = refl }
 
 abbrev pub goes_on_unit : Externals → Token → Bool
 goes_on_unit a t = begins_external t

@@ -1,5 +1,5 @@
 -- The parser of translation units (ISO C11 6.7, 6.9), by the number of levels.
-use Rattle.std.specs.Prelude.{ℕ, ◌-◌, Bool, true, ◌&&◌, ◌||◌, ◌==◌, nat_lt, if◌then◌else◌, Option, Some, None, is_some}
+use Rattle.std.specs.Prelude.{ℕ, ◌+◌, Bool, true, ◌&&◌, ◌||◌, ◌==◌, if◌then◌else◌, Option, Some, None, is_some}
 use Rattle.c_ast.specs.Seen.{Seen as Token}
 use Rattle.c_ast.specs.declared.token.Lexeme.{Lexeme}
 use Rattle.c_ast.specs.declared.token.Lexeme.TheVariants as lexeme
@@ -26,17 +26,17 @@ use Rattle.c_parse.specs.declared.behind.Ending.{Ending}
 use Rattle.c_parse.specs.declared.behind.Behind.{Behind}
 use Rattle.c_parse.specs.declared.behind.Behind.TheVariants as behind
 use Rattle.c_parse.specs.declared.externals.Externals.{Externals}
-use Rattle.c_parse.specs.Reading.Values.{plain_head, with_body, is_struct, stored, unstored, is_lone, no_body, body_of, function_of, external_of, include_line, more_externals}
-
--- there is a level left
-abbrev pub room : ℕ → Bool
-room d = nat_lt 0 d
+use Rattle.c_parse.specs.Reading.Values.{plain_head, with_body, is_struct, stored, unstored, is_lone, no_body, body_of, function_of}
+use Rattle.c_parse.specs.Reading.Values.{external_of, include_line, more_externals}
 
 -- the first parser where it is allowed and the next token is one of its own, and else the second
 abbrev pub allowed : {A : Type 0} → Bool → (Token → Bool) → Parser Token A → Parser Token A → Parser Token A
 allowed may test p q = either (λ t. may && test t) may p q
 
--- ---- types at file scope, with so many levels below the declaration
+-- So many levels may stand below those of a declaration and of what it holds: below a member, below a parameter. Those two levels are
+-- within any limit of two at least.
+
+-- ---- types at file scope
 
 -- the storage class that a word is (6.7.1)
 unfoldable pub storage_at : ℕ → Option Storage
@@ -59,11 +59,11 @@ plain = makes plain_head (starting base)
 
 -- the body of a struct: its members are level 2
 unfoldable pub body_behind : ℕ → Head → Parser Token Head
-body_behind d a = makes (with_body a) (body (d - 1))
+body_behind d a = makes (with_body a) (body d)
 
 -- base | "struct" NAME body
 unfoldable pub head : ℕ → Parser Token Head
-head d = optional (is (punctuator mark.LeftBrace)) is_struct (λ _. room d) plain (body_behind d)
+head d = optional (is (punctuator mark.LeftBrace)) is_struct (λ _. true) plain (body_behind d)
 
 -- storage head
 unfoldable pub stored_head : ℕ → Parser Token Specifiers
@@ -77,7 +77,7 @@ specifiers d = either is_storage true (stored_head d) (makes unstored (head d))
 
 -- ";", or a block where all parameters have names
 unfoldable pub ending : ℕ → ParametersRead → Parser Token Ending
-ending d p = allowed p.all_named (is (punctuator mark.LeftBrace)) (makes body_of (block d)) (makes no_body (punct mark.Semicolon))
+ending d p = allowed p.all_named (is (punctuator mark.LeftBrace)) (makes body_of (block (d + 1))) (makes no_body (punct mark.Semicolon))
 
 -- params ( ";" | block )
 unfoldable pub function : ℕ → Declared → Parser Token Behind
@@ -85,11 +85,11 @@ function d a = makes (function_of a) (thens (parameters d) (ending d))
 
 -- what is left behind the first name
 unfoldable pub after_name : ℕ → CType → Declared → Parser Token Behind
-after_name d of a = either (is (punctuator mark.LeftParen)) true (function d a) (makes behind.Objects (rest d of a))
+after_name d of a = either (is (punctuator mark.LeftParen)) true (function d a) (makes behind.Objects (rest (d + 1) of a))
 
 -- stars NAME, and what is left
 unfoldable pub named : ℕ → CType → Parser Token Behind
-named d of = makes (λ c. c.1) (thens (starred d of) (after_name d of))
+named d of = makes (λ c. c.1) (thens (starred (d + 1) of) (after_name d of))
 
 -- ";" alone, or a name and what is left
 unfoldable pub tail : ℕ → Specifiers → Parser Token Behind
@@ -97,7 +97,7 @@ tail d s = allowed (is_lone s) (is (punctuator mark.Semicolon)) (makes (λ _. be
 
 -- ---- external declarations
 
--- an external declaration with so many levels below its own
+-- a declaration or a definition
 unfoldable pub declaration : ℕ → Parser Token Externals
 declaration d = makes external_of (thens (specifiers d) (tail d))
 
@@ -119,9 +119,9 @@ begins_declaration t = is_storage t || begins_type t
 abbrev pub begins_external : Token → Bool
 begins_external t = begins_declaration t || is_include t
 
--- an external declaration of at most so many levels
+-- an external declaration
 unfoldable pub external : ℕ → Parser Token Externals
-external d = either begins_declaration (room d) (declaration (d - 1)) (word pick_include)
+external d = either begins_declaration true (declaration d) (word pick_include)
 
 -- one more external declaration
 unfoldable pub next_external : ℕ → Externals → Parser Token Externals

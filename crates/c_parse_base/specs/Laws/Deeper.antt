@@ -2,7 +2,8 @@
 use Rattle.std.specs.Prelude.{◌≡◌, ℕ, zero, suc, ◌+◌, ◌⊎◌, Bool, true, false, List, [], ◌∷◌, length, if◌then◌else◌, refl}
 use Rattle.std.proofs.Common.{sym, subst, arith, inl, inr}
 use Rattle.c_parse_base.specs.declared.fault.Fault.TheVariants.{Unexpected, TooDeep}
-use Rattle.c_parse_base.specs.Reading.Answer.{Answer, Read, Stuck, Parser, and_then, thens, makes, either, turns_by, repeats_by, chain_by, chain, sees, follows, optional}
+use Rattle.c_parse_base.specs.Reading.Answer.{Answer, Read, Stuck, Parser, and_then, thens, makes, either, turns_by, repeats_by, chain_by}
+use Rattle.c_parse_base.specs.Reading.Answer.{chain, sees, follows, optional}
 
 -- the answers are one, or the first is that it is too deep
 pub data Agrees {T A : Type 0} : Answer T A → Answer T A → Type 0 where

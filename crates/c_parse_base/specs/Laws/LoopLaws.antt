@@ -4,6 +4,9 @@ use Rattle.std.proofs.Common.{◌∙◌, ap, subst, arith, length-append}
 use Rattle.c_parse_base.specs.declared.fault.Fault.TheVariants.{TooDeep}
 use Rattle.c_parse_base.specs.Reading.Answer.{Read, Stuck, Parser, and_then, sees, turns_by, repeats_by, turns, repeats}
 use Rattle.c_parse_base.specs.Reading.Good.{Language, Reads, Tells, Good}
+use Rattle.c_parse_base.specs.declared.fault.Stop.{Stop}
+use Rattle.c_parse_base.specs.Reading.Answers.{Answers, error}
+use Rattle.c_parse_base.specs.Laws.AnswerLaws.{answers_by, answers_stop}
 use Rattle.c_parse_base.specs.Laws.ChainLaws.{MayTurn, repeats_stop, repeats_deep, repeats_turn, repeats_end, repeats_read}
 
 -- what is read is a word
@@ -73,3 +76,41 @@ module _ {T A : Type 0} (test : T → Bool) (room : A → Bool) (step : A → Pa
     pub turns_read : (a b : A) (ts us : List T) → MayTurn F room a → sees test ts ≡ true → step a ts ≡ Read b us →
         repeats test room step a ts ≡ repeats test room step b us
     turns_read = by_read (λ _. test) room step S gs
+
+-- ---- a loop as a value
+
+-- with which tokens a turn begins behind a value, where there is room for it, and what it reads
+pub record Loop (T A : Type 0) : Type 0 where
+  pub test : A → T → Bool
+  pub room : A → Bool
+  pub step : A → Parser T A
+
+-- the turns that are left, behind what was read so far
+unfoldable pub left : {T A : Type 0} → Loop T A → A → Parser T A
+left l = repeats_by l.test l.room l.step
+
+module _ {T A : Type 0} (l : Loop T A) (a : A) (ts : List T) where
+  pub loop_end : sees (l.test a) ts ≡ false → left l a ts ≡ Read a ts
+  unfolding left
+  loop_end = by_stop l.test l.room l.step a ts
+
+  pub loop_deep : sees (l.test a) ts ≡ true → l.room a ≡ false → left l a ts ≡ Stuck TooDeep ts
+  unfolding left
+  loop_deep = by_deep l.test l.room l.step a ts
+
+  -- a turn that stops stops the loop
+  pub loop_stops : sees (l.test a) ts ≡ true → l.room a ≡ true → {e : Stop} {us : List T} → Answers (l.step a ts) (error {A = A} e) us →
+      Answers (left l a ts) (error {A = A} e) us
+  unfolding left
+  loop_stops seen room h = answers_by (by_turn l.test l.room l.step a ts seen room) (answers_stop _ h)
+
+  -- a turn that is made takes a token, and leaves the turns behind its value
+  module _ {F : A → Type 0} {more : A → T → Bool} {S : A → Language T A}
+      (gs : (a : A) → MayTurn F l.room a → Good (l.step a) (S a) F (l.test a) more) (may : MayTurn F l.room a)
+      (b : A) (us : List T) (made : l.step a ts ≡ Read b us) where
+    pub loop_takes : length us < length ts
+    loop_takes = takes_some (gs a may) ts us b made
+
+    pub loop_read : sees (l.test a) ts ≡ true → left l a ts ≡ left l b us
+    unfolding left
+    loop_read seen = by_read l.test l.room l.step S gs a b ts us may seen made

@@ -1,15 +1,16 @@
 -- Names are read.
-use Rattle.std.specs.Prelude.{◌≡◌, List, [], ◌∷◌, Some, refl}
-use Rattle.std.proofs.Common.{ap, subst}
+use Rattle.std.specs.Prelude.{◌≡◌, true, List, [], ◌∷◌, Some, is_some, refl}
+use Rattle.std.proofs.Common.{ap, subst, arith}
 use Rattle.c_ast.specs.Seen.{Seen as Token}
 use Rattle.c_ast.specs.declared.token.Lexeme.{Lexeme}
 use Rattle.c_ast.specs.declared.token.Lexeme.TheVariants as lexeme
+use Rattle.c_grammar.specs.Words.{word_of, lexeme_word, a_name}
 use Rattle.c_parse_base.specs.declared.words.Named.{Named}
 use Rattle.c_parse_base.specs.Reading.Good.{Begins, Good}
 use Rattle.c_parse_base.specs.Reading.Languages.{Word, word_of as one_word, Always, nothing}
 use Rattle.c_parse_base.specs.Laws.Parts.{picks, word_good}
-use Rattle.c_parse_base.specs.Reading.Words.{place_of, named_at, pick_name, name, token_of, Naming, naming}
-use Rattle.c_parse_base.specs.Laws.WordGood.{good_as}
+use Rattle.c_parse_base.specs.Reading.Words.{is, place_of, named_at, pick_name, name, token_of, Naming, naming}
+use Rattle.c_parse_base.specs.Laws.WordGood.{good_as, equal_is}
 
 name_found : (t : Token) (kind : Lexeme) (n : Named) → t.kind ≡ kind → named_at (place_of t) kind ≡ Some n → Naming n (t ∷ [])
 name_found t (lexeme.Name b) n e h = let same : record { name = b; place = place_of t } ≡ n = cc in
@@ -37,6 +38,32 @@ name_good = good_as Naming Always (picks pick_name)
     (word_good pick_name (record { token = some_name; value = record { name = []; place = place_of some_name }; is = refl }))
     name_into name_out (λ a w l h. h) (λ a w l h. h) (λ x h. h)
 
+-- the token is a name
+pub name_word : (t : Token) → picks pick_name t ≡ true → word_of t ≡ a_name
+name_word t h = go t.kind h
+  where
+    go : (kind : Lexeme) → is_some (named_at (place_of t) kind) ≡ true → lexeme_word kind ≡ a_name
+    go (lexeme.Name n) h = refl
+    go lexeme.Include h = cc
+    go (lexeme.Number v ty) h = cc
+    go (lexeme.Character c) h = cc
+    go (lexeme.Text b) h = cc
+    go (lexeme.Keyword k) h = cc
+    go (lexeme.Punct p) h = cc
+
 -- some word is a name
 pub name_begins : Begins Naming []
 name_begins = record { value = record { name = []; place = place_of some_name }; more = some_name ∷ []; whole = naming some_name refl }
+
+-- a token with the word of names is one
+pub name_begins_at : (t : Token) → is a_name t ≡ true → Begins Naming (t ∷ [])
+name_begins_at t e = go t.kind refl (equal_is (word_of t) a_name e)
+  where
+    go : (kind : Lexeme) → t.kind ≡ kind → lexeme_word kind ≡ a_name → Begins Naming (t ∷ [])
+    go (lexeme.Name n) e h = record { value = record { name = n; place = place_of t }; more = []; whole = naming t e }
+    go lexeme.Include e h = cc
+    go (lexeme.Number v ty) e h = cc
+    go (lexeme.Character c) e h = cc
+    go (lexeme.Text b) e h = cc
+    go (lexeme.Keyword k) e h = absurd (omega arith)
+    go (lexeme.Punct p) e h = absurd (omega arith)

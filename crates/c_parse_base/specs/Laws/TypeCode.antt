@@ -1,5 +1,6 @@
 -- What the code of the parser needs of the parser.
-use Rattle.std.specs.Prelude.{◌≡◌, ℕ, ◌<◌, ◌≤◌, Bool, true, false, ◌||◌, if◌then◌else◌, List, [], ◌∷◌, Option, Some, None, is_some, Ok, refl}
+use Rattle.std.specs.Prelude.{◌≡◌, ℕ, ◌<◌, ◌≤◌, Bool, true, false, ◌||◌, if◌then◌else◌, List, [], ◌∷◌, Option, Some, None, is_some, Ok}
+use Rattle.std.specs.Prelude.{refl}
 use Rattle.std.proofs.Common.{sym, ◌∙◌, ap, arith}
 use Rattle.c_ast.specs.declared.token.Span.{Span}
 use Rattle.c_ast.specs.Seen.{Seen as Token}
@@ -23,8 +24,11 @@ use Rattle.c_parse_base.specs.Laws.Depths.{is_below, not_below}
 use Rattle.c_parse_base.specs.declared.type_words.SizeWord.{SizeWord}
 use Rattle.c_parse_base.specs.declared.type_words.TypeWords.{TypeWords}
 use Rattle.c_parse_base.specs.declared.type_read.TypeRead.{TypeRead}
-use Rattle.c_parse_base.specs.Reading.TypeWords.{among, first_at, size_at, ending, pick_first, pick_size, is_size, first_of, sized_of, int_of}
-use Rattle.c_parse_base.specs.Reading.TypeNames.{Reader, WordReader, free, takes_size, takes_int, first_word, size_word, int_word, sized, type_words, integer_of, integer, struct_of, void_of, struct_type, void_type, void_or_integer, base, begins_type, has_room, pick_star, star_of, star, stars, type_name}
+use Rattle.c_parse_base.specs.Reading.TypeWords.{among, first_at, size_at, ending, pick_first, pick_size, is_size, first_of, sized_of}
+use Rattle.c_parse_base.specs.Reading.TypeWords.{int_of}
+use Rattle.c_parse_base.specs.Reading.TypeNames.{Reader, WordReader, free, takes_size, takes_int, first_word, size_word, int_word, sized}
+use Rattle.c_parse_base.specs.Reading.TypeNames.{type_words, integer_of, integer, struct_of, void_of, struct_type, void_type}
+use Rattle.c_parse_base.specs.Reading.TypeNames.{void_or_integer, base, begins_type, has_room, pick_star, star_of, star, stars, type_name}
 use Rattle.c_parse_base.specs.Laws.TypeNameLaws.{Low, StarBehind, star_good}
 
 -- ---- which word comes next
@@ -152,11 +156,6 @@ pub base_integer : (ts : List Token) → sees (is (keyword key.Struct)) ts ≡ f
 unfolding base void_or_integer
 base_integer ts e h = either_other (is (keyword key.Struct)) true struct_type void_or_integer ts e
     ∙ either_other (is (keyword key.Void)) true void_type integer ts h
-
-pub type_begins : (ts : List Token) → sees begins_type ts ≡ (sees
-    (is (keyword key.Struct)) ts || (sees (is (keyword key.Void)) ts || is_some (next_value (λ t. first_at (word_of t)) ts)))
-type_begins [] = refl
-type_begins (x ∷ ts) = refl
 
 -- ---- whether a star comes next
 

@@ -23,7 +23,8 @@ use Rattle.c_parse_base.specs.Laws.Depths.{below_is, is_below}
 use Rattle.c_parse_base.specs.Laws.WordListLaws.{or_left, or_right, both_false}
 use Rattle.c_parse_base.specs.declared.type_read.TypeRead.{TypeRead}
 use Rattle.c_parse_base.specs.Reading.TypeWords.{first_at, size_at}
-use Rattle.c_parse_base.specs.Reading.TypeNames.{struct_of, void_of, integer_of, void_type, struct_type, void_or_integer, base, begins_type, begins_integer, has_room, star_of, star, type_name}
+use Rattle.c_parse_base.specs.Reading.TypeNames.{struct_of, void_of, integer_of, void_type, struct_type, void_or_integer, base}
+use Rattle.c_parse_base.specs.Reading.TypeNames.{begins_type, begins_integer, has_room, star_of, star, type_name}
 use Rattle.c_parse_base.specs.Laws.NameLaws.{name_good, name_begins}
 use Rattle.c_parse_base.specs.Laws.TypeWordLaws.{Words, more_words, is_first_word, other_word, no_word, integer_good}
 use Rattle.c_parse_base.specs.Laws.TypeOrders.{BaseWord, integer_into, Spelled, words_out}

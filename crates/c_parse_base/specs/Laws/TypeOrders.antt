@@ -18,7 +18,8 @@ use Rattle.c_parse_base.specs.declared.type_words.SizeWord.{SizeWord}
 use Rattle.c_parse_base.specs.declared.type_words.SizeWord.TheVariants as size
 use Rattle.c_parse_base.specs.declared.type_words.TypeWords.{TypeWords}
 use Rattle.c_parse_base.specs.declared.type_read.TypeRead.{TypeRead}
-use Rattle.c_parse_base.specs.Reading.TypeWords.{first_keyword, size_keyword, first_at, size_at, pick_first, pick_size, first_of, first_words, sized_of, sized_words, int_of}
+use Rattle.c_parse_base.specs.Reading.TypeWords.{first_keyword, size_keyword, first_at, size_at, pick_first, pick_size, first_of}
+use Rattle.c_parse_base.specs.Reading.TypeWords.{first_words, sized_of, sized_words, int_of}
 use Rattle.c_parse_base.specs.Reading.TypeNames.{takes_size, takes_int, integer_of}
 use Rattle.c_parse_base.specs.Laws.TypeWordLaws.{first_is, size_is, ended_some, First, Size, Int, Sized, Words, picked_first, picked_size}
 

@@ -19,8 +19,10 @@ use Rattle.c_parse_base.specs.declared.type_words.FirstWord.TheVariants as first
 use Rattle.c_parse_base.specs.declared.type_words.SizeWord.{SizeWord}
 use Rattle.c_parse_base.specs.declared.type_words.SizeWord.TheVariants as size
 use Rattle.c_parse_base.specs.declared.type_words.TypeWords.{TypeWords}
-use Rattle.c_parse_base.specs.Reading.TypeWords.{first_keyword, size_keyword, among, first_at, size_at, ending, pick_first, pick_size, is_size, first_of, sized_of, int_of}
-use Rattle.c_parse_base.specs.Reading.TypeNames.{free, takes_size, takes_int, first_word, size_word, int_word, sized, type_words, integer_of, integer, begins_integer}
+use Rattle.c_parse_base.specs.Reading.TypeWords.{first_keyword, size_keyword, among, first_at, size_at, ending, pick_first, pick_size}
+use Rattle.c_parse_base.specs.Reading.TypeWords.{is_size, first_of, sized_of, int_of}
+use Rattle.c_parse_base.specs.Reading.TypeNames.{free, takes_size, takes_int, first_word, size_word, int_word, sized, type_words}
+use Rattle.c_parse_base.specs.Reading.TypeNames.{integer_of, integer, begins_integer}
 
 -- ---- which keyword a word is
 

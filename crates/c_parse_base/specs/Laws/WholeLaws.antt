@@ -1,5 +1,5 @@
 -- From the answer of a parser's code on a whole list to what it says of the list.
-use Rattle.std.specs.Prelude.{◌≡◌, ℕ, suc, ◌≤◌, Bool, List, [], ◌∷◌, Result, Ok, Err, refl}
+use Rattle.std.specs.Prelude.{◌≡◌, ℕ, suc, ◌≤◌, Bool, List, [], ◌∷◌, Ok, refl}
 use Rattle.std.proofs.Common.{sym, ◌∙◌, subst}
 use Rattle.c_parse_base.specs.declared.fault.Fault.{Fault}
 use Rattle.c_parse_base.specs.declared.fault.Fault.TheVariants.{Unexpected}
@@ -8,18 +8,9 @@ use Rattle.c_parse_base.specs.declared.fault.Stop.TheVariants as stop
 use Rattle.c_parse_base.specs.Reading.Answer.{Answer, Parser, Stuck}
 use Rattle.c_parse_base.specs.Reading.Good.{Language, Good}
 use Rattle.c_parse_base.specs.Laws.Deeper.{Grows}
-use Rattle.c_parse_base.specs.Reading.Exact.{finish, ended, Exact, place_in}
+use Rattle.c_parse_base.specs.Reading.Exact.{finish, ended, Exact}
 use Rattle.c_parse_base.specs.Laws.ExactLaws.{exact, read_whole}
 use Rattle.c_parse_base.specs.Reading.Answers.{Answers, error}
-
--- nothing is left behind what was read
-pub finish_end : {T A : Type 0} (a : A) (ts : List T) → ts ≡ [] → Answers (finish a ts) (Ok a) ts
-finish_end a ts e = subst (λ ts. Answers (finish a ts) (Ok a) ts) (sym e) (record { is = refl })
-
--- something is left
-pub finish_more : {T A : Type 0} (a : A) (ts : List T) → ¬ (ts ≡ []) → Answers (finish a ts) (error {A = A} (stop.Fault Unexpected)) ts
-finish_more a [] h = absurd (h refl)
-finish_more a (x ∷ ts) h = record { is = refl }
 
 module _ {T A : Type 0} (p : ℕ → Parser T A) (L : Language T A) (height : A → ℕ) {first : T → Bool} {goes_on : A → T → Bool}
     (good : (d : ℕ) → Good (p d) L (λ a. height a ≤ d) first goes_on) (grows : (d : ℕ) → Grows (p d) (p (suc d))) where

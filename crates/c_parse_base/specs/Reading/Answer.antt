@@ -76,7 +76,3 @@ follows test allowed room q a ts =
 -- the one, and perhaps the other behind it
 abbrev pub optional : {T A : Type 0} → (T → Bool) → (A → Bool) → (A → Bool) → Parser T A → (A → Parser T A) → Parser T A
 optional test allowed room p q = λ ts. and_then (p ts) (follows test allowed room q)
-
--- what only some tokens may begin
-abbrev pub guarded : {T A : Type 0} → (T → Bool) → Parser T A → Parser T A
-guarded test p ts = if sees test ts then p ts else Stuck Unexpected ts

@@ -4,7 +4,6 @@ use Rattle.c_parse_base.specs.declared.fault.Stop.{Stop}
 use Rattle.c_parse_base.specs.declared.fault.Stop.TheVariants as stop
 use Rattle.c_parse_base.specs.Reading.Answer.{Answer, Read, Stuck}
 use Rattle.c_ast.specs.Seen.{Seen as Token}
-use Rattle.c_parse_base.specs.Reading.Words.{is}
 
 -- the answer of a parser as the code gives it, with the tokens that its cursor leaves
 abbrev pub AnswersAs : {T A : Type 0} → Answer T A → Result A Stop → List T → Type 0

@@ -1,7 +1,6 @@
 -- The languages that others are made of.
 use Rattle.std.specs.Prelude.{◌≡◌, List, [], ◌∷◌, ◌++◌, Option, Some, ◌⊎◌, Bool, false}
 use Rattle.c_parse_base.specs.Reading.Good.{Language, StartsIn}
-use Rattle.c_parse_base.specs.Reading.Answer.{word}
 
 -- one token that has a value
 pub data Word {T A : Type 0} (pick : T → Option A) : A → List T → Type 0 where
@@ -38,8 +37,3 @@ pub record Made {T A B : Type 0} (f : A → B) (L : Language T A) (b : B) (w : L
   pub source : A
   pub is : f source ≡ b
   pub word : L source w
-
--- a word whose first token passes the test
-pub record Guarded {T A : Type 0} (test : T → Bool) (L : Language T A) (a : A) (w : List T) : Type 0 where
-  pub word : L a w
-  pub begins : StartsIn test w

@@ -1,8 +1,3 @@
-pub mod ParameterWords
-pub mod VoidWords
-pub mod ListWords
-pub mod ListOut
-pub mod Beginnings
 pub mod ParameterLaws
 pub mod ListLaws
 pub mod ParametersLaws

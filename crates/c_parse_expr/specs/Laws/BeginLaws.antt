@@ -22,7 +22,8 @@ use Rattle.c_parse_base.specs.Reading.Good.{Begins}
 use Rattle.c_parse_base.specs.Reading.Words.{is, token_of, one_word}
 use Rattle.c_parse_base.specs.Laws.WordGood.{equal_is}
 use Rattle.c_parse_expr.specs.Reading.Expressions.{plain_words, begins_bare}
-use Rattle.c_parse_expr.specs.Reading.Levels.{PrimaryWord, UnaryWords, ConditionalWord, ExpressionWord, begins, measured, example, example_token}
+use Rattle.c_parse_expr.specs.Reading.Levels.{PrimaryWord, UnaryWords, ConditionalWord, ExpressionWord, begins, measured, example}
+use Rattle.c_parse_expr.specs.Reading.Levels.{example_token}
 use Rattle.c_parse_expr.specs.Laws.LevelLaws.{unary_tier, example_unary, example_expression}
 
 keyword_not_plain : (k : ℕ) → one_word plain_words (a_keyword k) ≡ true → ⊥

@@ -31,9 +31,14 @@ use Rattle.c_parse_expr.specs.Reading.Nodes.{choice_of, assign_of, assignable}
 use Rattle.c_parse_expr.specs.Reading.Operators.{operator_word}
 use Rattle.c_parse_base.specs.Laws.WordListLaws.{both_false}
 use Rattle.c_parse_base.specs.Laws.Depths.{below_is, is_below}
-use Rattle.c_parse_expr.specs.Reading.Expressions.{Expressions, has_room, tier, chosen, conditional, assigned, assignment, assign_word, has_word}
-use Rattle.c_parse_expr.specs.Reading.Levels.{Low, BinaryWords, UnaryWords, ConditionalWord, ExpressionWord, begins, goes_on, conditional_on, conditional_word, expression_on, assign_words, GoodExpressions, measured, example, example_token}
-use Rattle.c_parse_expr.specs.Laws.LevelLaws.{closes, closes_all, reach, unary_tier, starts_unary, starts_binary, starts_conditional, starts_expression, unary_span, binary_span, conditional_span, expression_span, expression_begins, conditional_begins, example_conditional, example_expression}
+use Rattle.c_parse_expr.specs.Reading.Expressions.{Expressions, has_room, tier, chosen, conditional, assigned, assignment, assign_word}
+use Rattle.c_parse_expr.specs.Reading.Expressions.{has_word}
+use Rattle.c_parse_expr.specs.Reading.Levels.{Low, BinaryWords, UnaryWords, ConditionalWord, ExpressionWord, begins, goes_on}
+use Rattle.c_parse_expr.specs.Reading.Levels.{conditional_on, conditional_word, expression_on, assign_words, GoodExpressions, measured}
+use Rattle.c_parse_expr.specs.Reading.Levels.{example, example_token}
+use Rattle.c_parse_expr.specs.Laws.LevelLaws.{closes, closes_all, reach, unary_tier, starts_unary, starts_binary, starts_conditional}
+use Rattle.c_parse_expr.specs.Laws.LevelLaws.{starts_expression, unary_span, binary_span, conditional_span, expression_span}
+use Rattle.c_parse_expr.specs.Laws.LevelLaws.{expression_begins, conditional_begins, example_conditional, example_expression}
 use Rattle.c_parse_expr.specs.Laws.UnaryLaws.{chosen as one_chosen, chosen_is}
 
 -- ---- choices

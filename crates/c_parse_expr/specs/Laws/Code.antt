@@ -12,11 +12,12 @@ use Rattle.c_grammar.specs.Words.{word_of, punctuator}
 use Rattle.c_parse_base.specs.Reading.Words.{punct, any, is}
 use Rattle.c_parse_base.specs.Laws.WordLaws.{punct_seen, value_passed, sees_value}
 use Rattle.c_parse_expr.specs.Laws.WordCode.{next_word, sees_word, paired, marked_is, marked_makes}
-use Rattle.c_parse_expr.specs.Reading.Nodes.{choice_of, assign_of, assignable, more_arguments, one_argument, no_arguments, applied, binary_of}
+use Rattle.c_parse_expr.specs.Reading.Nodes.{choice_of, assign_of, assignable, more_arguments, one_argument, no_arguments, applied}
+use Rattle.c_parse_expr.specs.Reading.Nodes.{binary_of}
 use Rattle.c_parse_base.specs.Reading.Answer.{follows, Parser, Read, Stuck, and_then, repeats, turns, sees, makes, thens, either, word}
 use Rattle.c_parse_base.specs.Reading.Good.{Good}
 use Rattle.c_parse_base.specs.Laws.ChainLaws.{MayTurn}
-use Rattle.c_parse_base.specs.Laws.LoopLaws.{takes_some, turns_stop, turns_deep, turns_turn, turns_read}
+use Rattle.c_parse_base.specs.Laws.LoopLaws.{Loop, left}
 use Rattle.c_parse_base.specs.Reading.Answers.{rest_of, next_value}
 use Rattle.c_parse_base.specs.Laws.AnswerLaws.{either_one, either_other}
 use Rattle.c_parse_base.specs.Laws.Depths.{is_below, not_below}
@@ -25,7 +26,9 @@ use Rattle.c_parse_expr.specs.Reading.Operators.{pick_binary}
 use Rattle.c_parse_expr.specs.declared.suffix.Arguments.{Arguments}
 use Rattle.c_parse_expr.specs.declared.suffix.Suffix.{Suffix}
 use Rattle.c_parse_expr.specs.declared.suffix.Suffix.TheVariants as suffix
-use Rattle.c_parse_expr.specs.Reading.Expressions.{chosen, conditional, assigned, assignment, assign_word, has_word, operand, Reader, under, at, has_room, further, arguments, called, indexed, behind, apply, begins_suffix, sees_suffix, short_suffix, tier, operation}
+use Rattle.c_parse_expr.specs.Reading.Expressions.{chosen, conditional, assigned, assignment, assign_word, has_word, operand, Reader}
+use Rattle.c_parse_expr.specs.Reading.Expressions.{under, at, has_room, further, arguments, called, indexed, behind, apply, begins_suffix}
+use Rattle.c_parse_expr.specs.Reading.Expressions.{sees_suffix, short_suffix, tier, operation}
 use Rattle.c_parse_expr.specs.Reading.Levels.{Low, goes_on, expression_on, example}
 use Rattle.c_parse_expr.specs.Laws.PrimaryLaws.{text_behind}
 use Rattle.c_parse_expr.specs.Laws.SuffixLaws.{Applied, apply_good, further_good}
@@ -43,87 +46,45 @@ under_is (suc d) h = let same : d ≡ suc d - 1 = omega arith in ap at same
 abbrev pub picked : ℕ → Token → Bool
 picked n t = is_some (pick_binary (suc n) t)
 
--- the operators of a tier that are left, behind what was read so far
-unfoldable pub more_operations : ℕ → ℕ → Measured → Reader
-more_operations d n = repeats (picked n) (has_room d) (operation d (under d) n)
+-- a further operator of a tier and its right operand
+abbrev pub further_operation : ℕ → ℕ → Loop Token Measured
+further_operation d n = record { test = λ _. picked n; room = has_room d; step = operation d (under d) n }
 
 pub tier_zero : (d : ℕ) (ts : List Token) → tier d (under d) 0 ts ≡ operand d (under d) ts
 unfolding tier
 tier_zero d ts = refl
 
-pub tier_first : (d n : ℕ) (ts us : List Token) (a : Measured) → tier d (under d) n ts ≡ Read a us →
-    tier d (under d) (suc n) ts ≡ more_operations d n a us
-unfolding tier more_operations
-tier_first d n ts us a e = ap (λ o. and_then o (repeats (picked n) (has_room d) (operation d (under d) n))) e
-
-pub tier_chain : (d n : ℕ) (ts : List Token) → tier d (under d) (suc n) ts ≡ and_then (tier d (under d) n ts) (more_operations d n)
-unfolding tier more_operations
+pub tier_chain : (d n : ℕ) (ts : List Token) → tier d (under d) (suc n) ts ≡ and_then (tier d (under d) n ts) (left (further_operation d n))
+unfolding tier left
 tier_chain d n ts = refl
 
-seen_some : (n : ℕ) (ts : List Token) (o : BinaryOperator) → next_value (pick_binary (suc n)) ts ≡ Some o → sees (picked n) ts ≡ true
+pub seen_some : (n : ℕ) (ts : List Token) (o : BinaryOperator) → next_value (pick_binary (suc n)) ts ≡ Some o → sees (picked n) ts ≡ true
 seen_some n ts o e = sees_value (pick_binary (suc n)) ts ∙ ap is_some e
 
-seen_none : (n : ℕ) (ts : List Token) → next_value (pick_binary (suc n)) ts ≡ None → sees (picked n) ts ≡ false
+pub seen_none : (n : ℕ) (ts : List Token) → next_value (pick_binary (suc n)) ts ≡ None → sees (picked n) ts ≡ false
 seen_none n ts e = sees_value (pick_binary (suc n)) ts ∙ ap is_some e
 
-good_operation : (d n : ℕ) → n < 10 → (a : Measured) → MayTurn (Low d) (has_room d) a →
+pub good_operation : (d n : ℕ) → n < 10 → (a : Measured) → MayTurn (Low d) (has_room d) a →
     Good (operation d (under d) n a) (Operation n a) (Low d) (picked n) (goes_on n)
 good_operation d n small = operation_good d (under d) (under_good d) n small
 
-pub operations_end : (d n : ℕ) (a : Measured) (ts : List Token) → next_value (pick_binary (suc n)) ts ≡ None →
-    more_operations d n a ts ≡ Read a ts
-unfolding more_operations
-operations_end d n a ts e = turns_stop (picked n) (has_room d) (operation d (under d) n) a ts (seen_none n ts e)
-
-pub operations_deep : (d n : ℕ) (a : Measured) (ts : List Token) (o : BinaryOperator) → next_value (pick_binary (suc n)) ts ≡ Some o →
-    d ≤ a.height →
-    more_operations d n a ts ≡ Stuck TooDeep ts
-unfolding more_operations
-operations_deep d n a ts o e high = turns_deep (picked n) (has_room d) (operation d (under d) n) a ts (seen_some n ts o e)
-    (not_below a.height d high)
-
-pub operations_turn : (d n : ℕ) (a : Measured) (ts : List Token) (o : BinaryOperator) → next_value (pick_binary (suc n)) ts ≡ Some o →
-    a.height < d →
-    more_operations d n a ts ≡ and_then (operation d (under d) n a ts)
-    (turns (picked n) (has_room d) (operation d (under d) n) (length ts - 1))
-unfolding more_operations
-operations_turn d n a ts o e low = turns_turn (picked n) (has_room d) (operation d (under d) n) a ts (seen_some n ts o e)
-    (is_below a.height d low)
-
-pub operations_read : (d n : ℕ) (a b : Measured) (ts us : List Token) (o : BinaryOperator) → n < 10 →
-    next_value (pick_binary (suc n)) ts ≡ Some o → a.height < d →
-    operation d (under d) n a ts ≡ Read b us → more_operations d n a ts ≡ more_operations d n b us
-unfolding more_operations
-operations_read d n a b ts us o small e low h =
-    let below : a.height ≤ d = omega arith in
-    turns_read (picked n) (has_room d) (operation d (under d) n) (Operation n) (good_operation d n small) a b ts us
-    (record { fits = below; has_room = is_below a.height d low }) (seen_some n ts o e) h
-
-pub operation_takes : (d n : ℕ) (a b : Measured) (ts us : List Token) → n < 10 → a.height < d →
-    operation d (under d) n a ts ≡ Read b us → length us < length ts
-operation_takes d n a b ts us small low h =
-    let below : a.height ≤ d = omega arith in
-    takes_some (good_operation d n small a (record { fits = below; has_room = is_below a.height d low })) ts us b h
+pub may_go_on : (d : ℕ) (a : Measured) → a.height < d → MayTurn (Low d) (has_room d) a
+may_go_on d a low = record { fits = omega arith; has_room = is_below a.height d low }
 
 -- ---- arguments
 
 abbrev comma : Token → Bool
 comma = is (punctuator mark.Comma)
 
--- the arguments that are left, behind what was read so far
-unfoldable pub rest_arguments : ℕ → Arguments → Parser Token Arguments
-rest_arguments d a = repeats comma (λ _. true) (further d (under d)) a
+-- a further argument
+abbrev pub further_argument : ℕ → Loop Token Arguments
+further_argument d = record { test = λ _. comma; room = λ _. true; step = further d (under d) }
 
 pub arguments_is : (d : ℕ) (ts : List Token) → 0 < d → arguments d (under d) ts ≡ and_then
-    (makes one_argument (assignment (d - 1) (under (d - 1))) ts) (rest_arguments d)
-unfolding arguments rest_arguments
+    (makes one_argument (assignment (d - 1) (under (d - 1))) ts) (left (further_argument d))
+unfolding arguments left
 arguments_is d ts h = ap (λ e. and_then (makes one_argument e.expression ts) (repeats comma (λ _. true) (further d (under d))))
     (under_is d h)
-
-pub arguments_first : (d : ℕ) (ts us : List Token) (a : Measured) → 0 < d → assignment (d - 1) (under (d - 1)) ts ≡ Read a us →
-    arguments d (under d) ts ≡ rest_arguments d (one_argument a) us
-arguments_first d ts us a h e = arguments_is d ts h ∙ ap (λ o. and_then (and_then o (λ a us. Read (one_argument a) us))
-    (rest_arguments d)) e
 
 pub further_is : (d : ℕ) (a : Arguments) (ts : List Token) → 0 < d → sees comma ts ≡ true →
     further d (under d) a ts ≡ makes (more_arguments a) (assignment (d - 1) (under (d - 1))) (rest_of ts)
@@ -131,37 +92,14 @@ unfolding further
 further_is d a ts h e = ap (λ x. makes (λ c. more_arguments a c.1) (thens (punct mark.Comma) (λ _. x.expression)) ts) (under_is d h)
     ∙ marked_makes mark.Comma (assignment (d - 1) (under (d - 1))) (more_arguments a) ts e
 
-pub arguments_end : (d : ℕ) (a : Arguments) (ts : List Token) → sees comma ts ≡ false → rest_arguments d a ts ≡ Read a ts
-unfolding rest_arguments
-arguments_end d a ts e = turns_stop comma (λ _. true) (further d (under d)) a ts e
-
-pub arguments_turn : (d : ℕ) (a : Arguments) (ts : List Token) → 0 < d → sees comma ts ≡ true →
-    rest_arguments d a ts ≡ and_then (makes (more_arguments a) (assignment (d - 1) (under (d - 1))) (rest_of ts))
-    (turns comma (λ _. true) (further d (under d)) (length ts - 1))
-unfolding rest_arguments
-arguments_turn d a ts h e = turns_turn comma (λ _. true) (further d (under d)) a ts e refl
-    ∙ ap (λ o. and_then o (turns comma (λ _. true) (further d (under d)) (length ts - 1))) (further_is d a ts h e)
-
-good_further : (d : ℕ) → 0 < d → (a : Arguments) → MayTurn (LowArguments (d - 1)) (λ _. true) a →
+pub good_further : (d : ℕ) → 0 < d → (a : Arguments) → MayTurn (LowArguments (d - 1)) (λ _. true) a →
     Good (further d (under d) a) (Further a) (LowArguments (d - 1)) comma (λ _ t. expression_on example t)
 good_further d h a may = further_good d (under d) (under_good d) h a may.fits
 
-further_read : (d : ℕ) (a : Arguments) (b : Measured) (ts us : List Token) → 0 < d → sees comma ts ≡ true →
+pub further_read : (d : ℕ) (a : Arguments) (b : Measured) (ts us : List Token) → 0 < d → sees comma ts ≡ true →
     assignment (d - 1) (under (d - 1)) (rest_of ts) ≡ Read b us →
     further d (under d) a ts ≡ Read (more_arguments a b) us
 further_read d a b ts us h e r = further_is d a ts h e ∙ ap (λ o. and_then o (λ b us. Read (more_arguments a b) us)) r
-
-pub arguments_read : (d : ℕ) (a : Arguments) (b : Measured) (ts us : List Token) → 0 < d → a.height ≤ d - 1 → sees comma ts ≡ true →
-    assignment (d - 1) (under (d - 1)) (rest_of ts) ≡ Read b us → rest_arguments d a ts ≡ rest_arguments d (more_arguments a b) us
-unfolding rest_arguments
-arguments_read d a b ts us h low e r =
-    turns_read comma (λ _. true) (further d (under d)) Further (good_further d h) a (more_arguments a b) ts us
-    (record { fits = low; has_room = refl }) e (further_read d a b ts us h e r)
-
-pub argument_takes : (d : ℕ) (a : Arguments) (b : Measured) (ts us : List Token) → 0 < d → a.height ≤ d - 1 → sees comma ts ≡ true →
-    assignment (d - 1) (under (d - 1)) (rest_of ts) ≡ Read b us → length us < length ts
-argument_takes d a b ts us h low e r = takes_some (good_further d h a (record { fits = low; has_room = refl })) ts us
-    (more_arguments a b) (further_read d a b ts us h e r)
 
 -- ---- calls, indices and shorter suffixes
 
@@ -215,47 +153,27 @@ behind_short d ts n m = either_other (is (punctuator mark.LeftBracket)) true (br
 -- ---- the loop of suffixes
 
 -- the suffixes that are left, behind what was read so far
-unfoldable pub more_suffixes : ℕ → Measured → Reader
-more_suffixes d = repeats begins_suffix (has_room d) (apply d (under d))
+abbrev pub further_suffix : ℕ → Loop Token Measured
+further_suffix d = record { test = λ _. begins_suffix; room = has_room d; step = apply d (under d) }
 
-good_apply : (d : ℕ) → (a : Measured) → MayTurn (Low d) (has_room d) a →
+abbrev pub more_suffixes : ℕ → Measured → Reader
+more_suffixes d = left (further_suffix d)
+
+pub good_apply : (d : ℕ) → (a : Measured) → MayTurn (Low d) (has_room d) a →
     Good (apply d (under d) a) (Applied a) (Low d) begins_suffix text_behind
 good_apply d = apply_good d (under d) (under_good d)
 
-pub suffixes_end : (d : ℕ) (a : Measured) (ts : List Token) → sees_suffix ts ≡ false → more_suffixes d a ts ≡ Read a ts
-unfolding more_suffixes sees_suffix
-suffixes_end d a ts e = turns_stop begins_suffix (has_room d) (apply d (under d)) a ts e
+pub suffix_seen : (ts : List Token) (b : Bool) → sees_suffix ts ≡ b → sees begins_suffix ts ≡ b
+unfolding sees_suffix
+suffix_seen ts b e = e
 
-pub suffixes_deep : (d : ℕ) (a : Measured) (ts : List Token) → sees_suffix ts ≡ true → d ≤ a.height →
-    more_suffixes d a ts ≡ Stuck TooDeep ts
-unfolding more_suffixes sees_suffix
-suffixes_deep d a ts e high = turns_deep begins_suffix (has_room d) (apply d (under d)) a ts e (not_below a.height d high)
-
-pub suffixes_turn : (d : ℕ) (a : Measured) (ts : List Token) → sees_suffix ts ≡ true → a.height < d →
-    more_suffixes d a ts ≡ and_then (makes (applied a) (behind d (under d)) ts)
-    (turns begins_suffix (has_room d) (apply d (under d)) (length ts - 1))
-unfolding more_suffixes sees_suffix apply
-suffixes_turn d a ts e low = turns_turn begins_suffix (has_room d) (apply d (under d)) a ts e (is_below a.height d low)
-
-applied_read : (d : ℕ) (a : Measured) (s : Suffix) (ts us : List Token) → behind d (under d) ts ≡ Read s us →
-    apply d (under d) a ts ≡ Read (applied a s) us
+pub apply_is : (d : ℕ) (a : Measured) (ts : List Token) → apply d (under d) a ts ≡ makes (applied a) (behind d (under d)) ts
 unfolding apply
-applied_read d a s ts us e = ap (λ o. and_then o (λ s us. Read (applied a s) us)) e
+apply_is d a ts = refl
 
-pub suffixes_read : (d : ℕ) (a : Measured) (s : Suffix) (ts us : List Token) → sees_suffix ts ≡ true → a.height < d →
-    behind d (under d) ts ≡ Read s us → more_suffixes d a ts ≡ more_suffixes d (applied a s) us
-unfolding more_suffixes sees_suffix
-suffixes_read d a s ts us e low h =
-    let below : a.height ≤ d = omega arith in
-    turns_read begins_suffix (has_room d) (apply d (under d)) Applied (good_apply d) a (applied a s) ts us
-    (record { fits = below; has_room = is_below a.height d low }) e (applied_read d a s ts us h)
-
-pub suffix_takes : (d : ℕ) (a : Measured) (s : Suffix) (ts us : List Token) → a.height < d → behind d (under d) ts ≡ Read s us →
-    length us < length ts
-suffix_takes d a s ts us low h =
-    let below : a.height ≤ d = omega arith in
-    takes_some (good_apply d a (record { fits = below; has_room = is_below a.height d low })) ts us (applied a s)
-    (applied_read d a s ts us h)
+pub applied_read : (d : ℕ) (a : Measured) (s : Suffix) (ts us : List Token) → behind d (under d) ts ≡ Read s us →
+    apply d (under d) a ts ≡ Read (applied a s) us
+applied_read d a s ts us e = apply_is d a ts ∙ ap (λ o. and_then o (λ s us. Read (applied a s) us)) e
 
 -- ---- choices and assignments
 

@@ -30,7 +30,8 @@ use Rattle.c_parse_base.specs.Laws.WordListLaws.{both_false, or_false}
 use Rattle.c_parse_base.specs.Laws.Depths.{below_is, is_below}
 use Rattle.c_parse_expr.specs.Reading.Expressions as parser
 use Rattle.c_parse_expr.specs.Reading.Expressions.{Expressions, has_room, operation, tier}
-use Rattle.c_parse_expr.specs.Reading.Levels.{ConditionalWord, conditional_on, Low, BinaryWords, begins, goes_on, goes_on_word, operand_words, GoodExpressions, measured, example, example_token}
+use Rattle.c_parse_expr.specs.Reading.Levels.{ConditionalWord, conditional_on, Low, BinaryWords, begins, goes_on, goes_on_word}
+use Rattle.c_parse_expr.specs.Reading.Levels.{operand_words, GoodExpressions, measured, example, example_token}
 use Rattle.c_parse_expr.specs.Laws.LevelLaws.{starts_binary, binary_span, example_binary, binary_begins}
 use Rattle.c_parse_expr.specs.Laws.ChoiceLaws.{conditional_good, assignment_good}
 use Rattle.c_parse_expr.specs.Laws.SizeofLaws.{GoodOperands}

@@ -15,10 +15,15 @@ use Rattle.c_parse_base.specs.Laws.TypeGrowth.{type_grows}
 use Rattle.c_parse_expr.specs.declared.measured.Measured.{Measured}
 use Rattle.c_parse_expr.specs.declared.suffix.Arguments.{Arguments}
 use Rattle.c_parse_expr.specs.declared.suffix.Suffix.TheVariants as suffix
-use Rattle.c_parse_expr.specs.Reading.Nodes.{choice_of, assign_of, assignable, step_of, unary_of, size_of, size_name_of, cast_of, paren_of, more_arguments, one_argument, no_arguments, applied, binary_of}
+use Rattle.c_parse_expr.specs.Reading.Nodes.{choice_of, assign_of, assignable, step_of, unary_of, size_of, size_name_of, cast_of}
+use Rattle.c_parse_expr.specs.Reading.Nodes.{paren_of, more_arguments, one_argument, no_arguments, applied, binary_of}
 use Rattle.c_parse_expr.specs.Reading.Operators.{pick_binary}
 use Rattle.c_parse_base.specs.Laws.Depths.{more_room, some_room}
-use Rattle.c_parse_expr.specs.Reading.Expressions.{chosen, conditional, assigned, assignment, assign_word, step_word, unary_word, pick_placed, has_word, stepped, operated, size_name, size_opened, size_rest, sized, bare, unary, casted, cast_or_group, operand, Expressions, plain, short_suffix, begins_suffix, first_words, begins_bare, room, has_room, opened, further, arguments, called, indexed, behind, apply, worded, grouped, operation, tier, layer, under, at}
+use Rattle.c_parse_expr.specs.Reading.Expressions.{chosen, conditional, assigned, assignment, assign_word, step_word, unary_word}
+use Rattle.c_parse_expr.specs.Reading.Expressions.{pick_placed, has_word, stepped, operated, size_name, size_opened, size_rest, sized}
+use Rattle.c_parse_expr.specs.Reading.Expressions.{bare, unary, casted, cast_or_group, operand, Expressions, plain, short_suffix}
+use Rattle.c_parse_expr.specs.Reading.Expressions.{begins_suffix, first_words, begins_bare, room, has_room, opened, further, arguments}
+use Rattle.c_parse_expr.specs.Reading.Expressions.{called, indexed, behind, apply, worded, grouped, operation, tier, layer, under, at}
 
 pub record GrowsTo (e f : Expressions) : Type 0 where
   pub expression : Grows e.expression f.expression

@@ -21,7 +21,9 @@ use Rattle.c_parse_expr.specs.declared.measured.Measured.{Measured}
 use Rattle.c_parse_expr.specs.Reading.Operators.{operator_word, up_to}
 use Rattle.c_parse_base.specs.Laws.WordListLaws.{is_at, or_false, within_words}
 use Rattle.c_parse_expr.specs.Reading.Expressions.{bare_words, begins_bare}
-use Rattle.c_parse_expr.specs.Reading.Levels.{BinaryWords, ExpressionWord, ConditionalWord, primary_words, opens, begin_words, begins, operand_words, goes_on_word, goes_on, conditional_on, assign_words, expression_on, example_token, example}
+use Rattle.c_parse_expr.specs.Reading.Levels.{BinaryWords, ExpressionWord, ConditionalWord, primary_words, opens, begin_words, begins}
+use Rattle.c_parse_expr.specs.Reading.Levels.{operand_words, goes_on_word, goes_on, conditional_on, assign_words, expression_on}
+use Rattle.c_parse_expr.specs.Reading.Levels.{example_token, example}
 
 -- ---- tests
 

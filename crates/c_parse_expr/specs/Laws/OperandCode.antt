@@ -13,10 +13,13 @@ use Rattle.c_parse_base.specs.Reading.Answer.{Read, Stuck, and_then, sees, makes
 use Rattle.c_parse_base.specs.Laws.AnswerLaws.{either_one, either_deep, either_other}
 use Rattle.c_parse_base.specs.Reading.Words as read
 use Rattle.c_parse_base.specs.Reading.Words.{punct, is}
+use Rattle.c_parse_base.specs.Laws.LoopLaws.{left}
 use Rattle.c_parse_base.specs.Laws.Depths.{is_below, not_below}
 use Rattle.c_parse_base.specs.Reading.TypeNames.{begins_type, type_name}
 use Rattle.c_parse_expr.specs.Reading.Nodes.{paren_of, step_of, unary_of, size_of, size_name_of, cast_of}
-use Rattle.c_parse_expr.specs.Reading.Expressions.{Reader, under, assignment, step_word, unary_word, pick_placed, has_word, begins_bare, plain, opened, worded, grouped, stepped, operated, size_name, size_opened, size_rest, sized, bare, unary, casted, cast_or_group, operand, tier}
+use Rattle.c_parse_expr.specs.Reading.Expressions.{Reader, under, assignment, step_word, unary_word, pick_placed, has_word, begins_bare}
+use Rattle.c_parse_expr.specs.Reading.Expressions.{plain, opened, worded, grouped, stepped, operated, size_name, size_opened, size_rest}
+use Rattle.c_parse_expr.specs.Reading.Expressions.{sized, bare, unary, casted, cast_or_group, operand, tier}
 use Rattle.c_parse_expr.specs.Reading.Levels.{begins}
 use Rattle.c_parse_expr.specs.Laws.WordCode.{next_word, sees_word, paired}
 use Rattle.c_parse_expr.specs.Laws.Code.{under_is, more_suffixes}
@@ -26,12 +29,12 @@ use Rattle.c_parse_expr.specs.Laws.Code.{under_is, more_suffixes}
 pub grouped_is : (d : ℕ) (l : Span) (ts : List Token) → 0 < d →
     grouped d (under d) l ts ≡ and_then (makes (paren_of l) (thens (assignment (d - 1) (under (d - 1))) (λ _. punct mark.RightParen)) ts)
     (more_suffixes d)
-unfolding grouped opened more_suffixes
+unfolding grouped opened left
 grouped_is d l ts h = ap (λ e. and_then (makes (paren_of l) (thens e.expression (λ _. punct mark.RightParen)) ts) (more_suffixes d))
     (under_is d h)
 
 pub worded_is : (d : ℕ) (ts : List Token) → worded d (under d) ts ≡ and_then (plain ts) (more_suffixes d)
-unfolding worded more_suffixes
+unfolding worded left
 worded_is d ts = refl
 
 -- ---- what stands before an operand

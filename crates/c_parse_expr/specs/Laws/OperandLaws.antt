@@ -28,15 +28,22 @@ use Rattle.c_parse_expr.specs.Reading.Nodes.{step_of, unary_of, cast_of}
 use Rattle.c_parse_base.specs.Laws.WordListLaws.{is_at, is_not_first, or_left, or_right, apart_words, within_words}
 use Rattle.c_parse_base.specs.Laws.Depths.{below_is, is_below}
 use Rattle.c_parse_expr.specs.Reading.Expressions as parser
-use Rattle.c_parse_expr.specs.Reading.Expressions.{Expressions, room, has_word, step_word, unary_word, step_words, unary_words, plain_words, bare_words, begins_bare, bare, unary, grouped, casted, cast_or_group, operand}
+use Rattle.c_parse_expr.specs.Reading.Expressions.{Expressions, room, has_word, step_word, unary_word, step_words, unary_words}
+use Rattle.c_parse_expr.specs.Reading.Expressions.{plain_words, bare_words, begins_bare, bare, unary, grouped, casted, cast_or_group}
+use Rattle.c_parse_expr.specs.Reading.Expressions.{operand}
 use Rattle.c_parse_expr.specs.Laws.StartLaws.{one_head}
 use Rattle.c_parse_expr.specs.Laws.AfterLaws.{After, AfterParts, after_into, after_parts, after_starts, after_begins, after_good}
-use Rattle.c_parse_expr.specs.Reading.Levels.{Low, UnaryWords, BinaryWords, begin_words, operand_words, opens, begins, GoodExpressions, measured}
+use Rattle.c_parse_expr.specs.Reading.Levels.{Low, UnaryWords, BinaryWords, begin_words, operand_words, opens, begins, GoodExpressions}
+use Rattle.c_parse_expr.specs.Reading.Levels.{measured}
 use Rattle.c_parse_expr.specs.Laws.LevelLaws.{starts_postfix, starts_cast, cast_span, span_before, reach, binary_begins}
-use Rattle.c_parse_expr.specs.Laws.PostfixLaws.{Worded, Grouped, worded_into, worded_out, worded_good, grouped_into, grouped_begins, grouped_high, grouped_good}
+use Rattle.c_parse_expr.specs.Laws.PostfixLaws.{Worded, Grouped, worded_into, worded_out, worded_good, grouped_into, grouped_begins}
+use Rattle.c_parse_expr.specs.Laws.PostfixLaws.{grouped_high, grouped_good}
 use Rattle.c_parse_expr.specs.Laws.TypeBegins.{no_type, close_type, type_begins_at}
-use Rattle.c_parse_expr.specs.Laws.UnaryLaws.{Stepped, Operated, stepped_made, operated_made, stepped_out, operated_out, before_span, cast_of_operand, step_listed, unary_listed, apart_if, unary_begin, begins_with, starts_with, stepped_good, operated_good, low_stepped, low_operated}
-use Rattle.c_parse_expr.specs.Laws.SizeofLaws.{BareWords, GoodOperands, Split, split_unary, split_into, plain_word, Sized, sized_into, sized_out, size_name_out, sized_begins, sized_good}
+use Rattle.c_parse_expr.specs.Laws.UnaryLaws.{Stepped, Operated, stepped_made, operated_made, stepped_out, operated_out, before_span}
+use Rattle.c_parse_expr.specs.Laws.UnaryLaws.{cast_of_operand, step_listed, unary_listed, apart_if, unary_begin, begins_with, starts_with}
+use Rattle.c_parse_expr.specs.Laws.UnaryLaws.{stepped_good, operated_good, low_stepped, low_operated}
+use Rattle.c_parse_expr.specs.Laws.SizeofLaws.{BareWords, GoodOperands, Split, split_unary, split_into, plain_word, Sized, sized_into}
+use Rattle.c_parse_expr.specs.Laws.SizeofLaws.{sized_out, size_name_out, sized_begins, sized_good}
 
 -- ---- operands that are no cast and do not begin with "("
 

@@ -25,8 +25,10 @@ use Rattle.c_parse_expr.specs.Reading.Expressions.{Expressions, has_room, plain_
 use Rattle.c_parse_expr.specs.Laws.StartLaws.{chain_starts, chain_as, chain_where, chain_before, chain_behind}
 use Rattle.c_parse_expr.specs.Reading.Levels.{Low, PrimaryWord, PostfixWord, opens, begins, operand_words, GoodExpressions, measured}
 use Rattle.c_parse_expr.specs.Laws.LevelLaws.{reach, starts_primary}
-use Rattle.c_parse_expr.specs.Laws.PrimaryLaws.{PlainWord, Opened, plain_into, primary_plain, opened_into, primary_opened, opened_begins, opened_begins_at, opened_starts, opened_high, plain_good, opened_good}
-use Rattle.c_parse_expr.specs.Laws.SuffixLaws.{CalledWord, IndexedWord, Applied, suffix_made, call_out, applied_span, same_height, suffix_begins, apply_good}
+use Rattle.c_parse_expr.specs.Laws.PrimaryLaws.{PlainWord, Opened, plain_into, primary_plain, opened_into, primary_opened, opened_begins}
+use Rattle.c_parse_expr.specs.Laws.PrimaryLaws.{opened_begins_at, opened_starts, opened_high, plain_good, opened_good}
+use Rattle.c_parse_expr.specs.Laws.SuffixLaws.{CalledWord, IndexedWord, Applied, suffix_made, call_out, applied_span, same_height}
+use Rattle.c_parse_expr.specs.Laws.SuffixLaws.{suffix_begins, apply_good}
 use Rattle.c_parse_expr.specs.Laws.MarkedLaws.{marked_into}
 use Rattle.c_parse_expr.specs.Laws.ArgumentLaws.{listed}
 use Rattle.c_parse_expr.specs.Laws.StepLaws.{step_picked}

@@ -16,7 +16,8 @@ use Rattle.c_grammar.specs.Expressions as spells
 use Rattle.c_grammar.specs.Expressions.{Primary, spelled, Texts, one_text, more_text}
 use Rattle.c_parse_base.specs.Reading.Answer.{word}
 use Rattle.c_parse_base.specs.Reading.Good.{Language, Begins, StartsIn, Good}
-use Rattle.c_parse_base.specs.Reading.Languages.{Word, word_of as one_word_of, Then, join, Either, Chain, once, again, Always, nothing, Made}
+use Rattle.c_parse_base.specs.Reading.Languages.{Word, word_of as one_word_of, Then, join, Either, Chain, once, again, Always, nothing}
+use Rattle.c_parse_base.specs.Reading.Languages.{Made}
 use Rattle.c_parse_base.specs.Laws.Parts.{word_good, thens_good, makes_good, either_good}
 use Rattle.c_parse_base.specs.Laws.ChainLaws.{chain_good}
 use Rattle.c_parse_base.specs.Reading.Words.{is, punct, place_of, token_of, Spot, spot, one_word, among}
@@ -28,11 +29,13 @@ use Rattle.c_parse_expr.specs.declared.measured.Measured.{Measured}
 use Rattle.c_parse_expr.specs.Reading.Nodes.{Quoted, text_of, joined, paren_of}
 use Rattle.c_parse_expr.specs.Reading.Operators.{operator_word}
 use Rattle.c_parse_base.specs.Laws.WordListLaws.{is_not_first, apart_words, within_words}
-use Rattle.c_parse_expr.specs.Reading.Expressions.{Expressions, constant_node, measured_at, pick_constant, constant, quoted_at, pick_text, is_text, more_texts, texts, plain_words, plain, opened}
+use Rattle.c_parse_expr.specs.Reading.Expressions.{Expressions, constant_node, measured_at, pick_constant, constant, quoted_at, pick_text}
+use Rattle.c_parse_expr.specs.Reading.Expressions.{is_text, more_texts, texts, plain_words, plain, opened}
 use Rattle.c_parse_expr.specs.Laws.StartLaws.{apart_starts}
 use Rattle.c_parse_expr.specs.Laws.AfterLaws.{After, AfterParts, after_into, after_parts, after_starts}
 use Rattle.c_parse_expr.specs.Laws.BeginLaws.{expression_begins_at}
-use Rattle.c_parse_expr.specs.Reading.Levels.{Low, PrimaryWord, ExpressionWord, opens, begins, GoodExpressions, measured, example, example_token}
+use Rattle.c_parse_expr.specs.Reading.Levels.{Low, PrimaryWord, ExpressionWord, opens, begins, GoodExpressions, measured, example}
+use Rattle.c_parse_expr.specs.Reading.Levels.{example_token}
 use Rattle.c_parse_expr.specs.Laws.LevelLaws.{closes_all, starts_expression, starts_texts, span_behind, example_expression}
 
 -- a text goes on behind a primary expression

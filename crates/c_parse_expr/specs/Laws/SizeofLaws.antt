@@ -27,12 +27,15 @@ use Rattle.c_parse_expr.specs.declared.measured.Measured.{Measured}
 use Rattle.c_parse_expr.specs.Reading.Nodes.{size_of, size_name_of}
 use Rattle.c_parse_base.specs.Laws.WordListLaws.{is_at, or_left, or_right, within_words}
 use Rattle.c_parse_base.specs.Laws.Depths.{below_is, is_below}
-use Rattle.c_parse_expr.specs.Reading.Expressions.{Expressions, room, bare_words, begins_bare, plain_words, size_name, size_opened, size_rest, sized}
+use Rattle.c_parse_expr.specs.Reading.Expressions.{Expressions, room, bare_words, begins_bare, plain_words, size_name, size_opened}
+use Rattle.c_parse_expr.specs.Reading.Expressions.{size_rest, sized}
 use Rattle.c_parse_expr.specs.Laws.AfterLaws.{After, AfterParts, after_into, after_parts, after_begins, after_good}
 use Rattle.c_parse_expr.specs.Laws.BeginLaws.{bare_begins_at}
-use Rattle.c_parse_expr.specs.Reading.Levels.{Low, UnaryWords, primary_words, begin_words, operand_words, opens, begins, measured, example, example_token}
+use Rattle.c_parse_expr.specs.Reading.Levels.{Low, UnaryWords, primary_words, begin_words, operand_words, opens, begins, measured}
+use Rattle.c_parse_expr.specs.Reading.Levels.{example, example_token}
 use Rattle.c_parse_expr.specs.Laws.LevelLaws.{step_bare, operator_bare, starts_postfix, example_unary}
-use Rattle.c_parse_expr.specs.Laws.PostfixLaws.{Grouped, grouped_into, grouped_out, grouped_begins, grouped_begins_at, grouped_starts, grouped_high}
+use Rattle.c_parse_expr.specs.Laws.PostfixLaws.{Grouped, grouped_into, grouped_out, grouped_begins, grouped_begins_at, grouped_starts}
+use Rattle.c_parse_expr.specs.Laws.PostfixLaws.{grouped_high}
 use Rattle.c_parse_expr.specs.Laws.TypeBegins.{no_expression, close_type}
 use Rattle.c_parse_expr.specs.Laws.UnaryLaws.{before_span}
 

@@ -1,5 +1,6 @@
 -- What follows an operand is read.
-use Rattle.std.specs.Prelude.{◌≡◌, ℕ, suc, ◌-◌, ◌<◌, ◌==◌, max, Bool, true, false, ◌||◌, if◌then◌else◌, List, [], ◌∷◌, ◌++◌, Option, Some, None, is_some, refl}
+use Rattle.std.specs.Prelude.{◌≡◌, ℕ, suc, ◌-◌, ◌<◌, ◌==◌, max, Bool, true, false, ◌||◌, if◌then◌else◌, List, [], ◌∷◌, ◌++◌, Option, Some}
+use Rattle.std.specs.Prelude.{None, is_some, refl}
 use Rattle.std.proofs.Common.{sym, ◌∙◌, ap, subst, arith, inl, inr}
 use Rattle.c_ast.specs.declared.token.Span.{Span}
 use Rattle.c_ast.specs.Seen.{Seen as Token}
@@ -28,13 +29,18 @@ use Rattle.c_parse_expr.specs.declared.suffix.Suffix.TheVariants as suffix
 use Rattle.c_parse_expr.specs.Reading.Nodes.{one_argument, more_arguments, no_arguments, applied}
 use Rattle.c_parse_base.specs.Laws.WordListLaws.{is_at, is_not_first, apart_words, within_words, both_false, or_false}
 use Rattle.c_parse_base.specs.Laws.Depths.{below_is}
-use Rattle.c_parse_expr.specs.Reading.Expressions.{Expressions, has_room, further, arguments, called, indexed, behind, apply, pick_step, suffix_words, begins_suffix}
-use Rattle.c_parse_expr.specs.Reading.Levels.{Low, PostfixWord, ExpressionWord, begin_words, opens, begins, expression_on, GoodExpressions, example, example_token}
-use Rattle.c_parse_expr.specs.Laws.LevelLaws.{closes_all, starts_postfix, postfix_span, span_behind, reach, example_expression, expression_begins}
+use Rattle.c_parse_expr.specs.Reading.Expressions.{Expressions, has_room, further, arguments, called, indexed, behind, apply, pick_step}
+use Rattle.c_parse_expr.specs.Reading.Expressions.{suffix_words, begins_suffix}
+use Rattle.c_parse_expr.specs.Reading.Levels.{Low, PostfixWord, ExpressionWord, begin_words, opens, begins, expression_on}
+use Rattle.c_parse_expr.specs.Reading.Levels.{GoodExpressions, example, example_token}
+use Rattle.c_parse_expr.specs.Laws.LevelLaws.{closes_all, starts_postfix, postfix_span, span_behind, reach, example_expression}
+use Rattle.c_parse_expr.specs.Laws.LevelLaws.{expression_begins}
 use Rattle.c_parse_expr.specs.Laws.PrimaryLaws.{text_behind}
 use Rattle.c_parse_expr.specs.Laws.MarkedLaws.{Marked, Parts, marked_parts, marked_starts, marked_begins, marked_good}
-use Rattle.c_parse_expr.specs.Laws.ArgumentLaws.{ArgumentsWord, LowArguments, comma, One, Further, arguments_into, listed, arguments_out, argument_on, comma_none, close_none, bracket_none}
-use Rattle.c_parse_expr.specs.Laws.StepLaws.{named_kind, ShortWord, IsStep, step_is, LowSuffix, steps_list, arrows_list, short_list, named_begins, short_good}
+use Rattle.c_parse_expr.specs.Laws.ArgumentLaws.{ArgumentsWord, LowArguments, comma, One, Further, arguments_into, listed, arguments_out}
+use Rattle.c_parse_expr.specs.Laws.ArgumentLaws.{argument_on, comma_none, close_none, bracket_none}
+use Rattle.c_parse_expr.specs.Laws.StepLaws.{named_kind, ShortWord, IsStep, step_is, LowSuffix, steps_list, arrows_list, short_list}
+use Rattle.c_parse_expr.specs.Laws.StepLaws.{named_begins, short_good}
 
 -- ---- calls and indices
 

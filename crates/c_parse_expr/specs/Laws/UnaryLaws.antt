@@ -1,5 +1,6 @@
 -- What stands before an operand is read.
-use Rattle.std.specs.Prelude.{◌≡◌, ℕ, suc, ◌-◌, ◌<◌, ◌==◌, Bool, true, false, ◌||◌, if◌then◌else◌, List, [], ◌∷◌, Option, Some, None, is_some, refl}
+use Rattle.std.specs.Prelude.{◌≡◌, ℕ, suc, ◌-◌, ◌<◌, ◌==◌, Bool, true, false, ◌||◌, if◌then◌else◌, List, [], ◌∷◌, Option, Some, None}
+use Rattle.std.specs.Prelude.{is_some, refl}
 use Rattle.std.proofs.Common.{sym, ◌∙◌, ap, subst, arith}
 use Rattle.c_ast.specs.declared.token.Span.{Span}
 use Rattle.c_ast.specs.Seen.{Seen as Token}
@@ -28,9 +29,12 @@ use Rattle.c_parse_expr.specs.declared.measured.Measured.{Measured}
 use Rattle.c_parse_expr.specs.Reading.Nodes.{step_of, unary_of}
 use Rattle.c_parse_base.specs.Laws.WordListLaws.{apart_words}
 use Rattle.c_parse_base.specs.Laws.Depths.{below_is, is_below}
-use Rattle.c_parse_expr.specs.Reading.Expressions.{Expressions, room, placed, step_word, unary_word, pick_placed, has_word, step_words, unary_words, stepped, operated}
-use Rattle.c_parse_expr.specs.Reading.Levels.{Low, UnaryWords, BinaryWords, operand_words, begins, GoodExpressions, measured, example, example_token}
-use Rattle.c_parse_expr.specs.Laws.LevelLaws.{starts_unary, starts_cast, unary_span, cast_span, span_before, reach, example_unary, binary_begins}
+use Rattle.c_parse_expr.specs.Reading.Expressions.{Expressions, room, placed, step_word, unary_word, pick_placed, has_word, step_words}
+use Rattle.c_parse_expr.specs.Reading.Expressions.{unary_words, stepped, operated}
+use Rattle.c_parse_expr.specs.Reading.Levels.{Low, UnaryWords, BinaryWords, operand_words, begins, GoodExpressions, measured, example}
+use Rattle.c_parse_expr.specs.Reading.Levels.{example_token}
+use Rattle.c_parse_expr.specs.Laws.LevelLaws.{starts_unary, starts_cast, unary_span, cast_span, span_before, reach, example_unary}
+use Rattle.c_parse_expr.specs.Laws.LevelLaws.{binary_begins}
 
 -- ---- which words they are
 

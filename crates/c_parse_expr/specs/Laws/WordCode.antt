@@ -25,7 +25,9 @@ use Rattle.c_parse_expr.specs.declared.measured.Measured.{Measured}
 use Rattle.c_parse_expr.specs.declared.suffix.Suffix.{Suffix}
 use Rattle.c_parse_expr.specs.declared.suffix.Suffix.TheVariants as suffix
 use Rattle.c_parse_expr.specs.Reading.Nodes.{Quoted, text_of, joined}
-use Rattle.c_parse_expr.specs.Reading.Expressions.{assign_word, placed, step_word, unary_word, pick_placed, has_word, Reader, constant, pick_constant, pick_text, is_text, more_texts, texts, plain, pick_step, short_suffix, suffix_words, sees_suffix, plain_words, begins_bare, first_words}
+use Rattle.c_parse_expr.specs.Reading.Expressions.{assign_word, placed, step_word, unary_word, pick_placed, has_word, Reader, constant}
+use Rattle.c_parse_expr.specs.Reading.Expressions.{pick_constant, pick_text, is_text, more_texts, texts, plain, pick_step, short_suffix}
+use Rattle.c_parse_expr.specs.Reading.Expressions.{suffix_words, sees_suffix, plain_words, begins_bare, first_words}
 use Rattle.c_parse_base.specs.Laws.WordListLaws.{is_at}
 use Rattle.c_parse_expr.specs.Laws.PrimaryLaws.{MoreTexts, more_texts_good}
 

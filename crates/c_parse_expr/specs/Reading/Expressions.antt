@@ -26,7 +26,9 @@ use Rattle.c_parse_expr.specs.declared.measured.Measured.{Measured}
 use Rattle.c_parse_expr.specs.declared.suffix.Arguments.{Arguments}
 use Rattle.c_parse_expr.specs.declared.suffix.Suffix.{Suffix}
 use Rattle.c_parse_expr.specs.declared.suffix.Suffix.TheVariants as suffix
-use Rattle.c_parse_expr.specs.Reading.Nodes.{Quoted, text_of, joined, paren_of, one_argument, more_arguments, no_arguments, applied, step_of, unary_of, size_of, size_name_of, cast_of, binary_of, choice_of, assign_of, assignable}
+use Rattle.c_parse_expr.specs.Reading.Nodes.{Quoted, text_of, joined, paren_of, one_argument, more_arguments, no_arguments, applied}
+use Rattle.c_parse_expr.specs.Reading.Nodes.{step_of, unary_of, size_of, size_name_of, cast_of, binary_of, choice_of, assign_of}
+use Rattle.c_parse_expr.specs.Reading.Nodes.{assignable}
 use Rattle.c_parse_expr.specs.Reading.Operators.{pick_binary}
 
 abbrev pub Reader : Type 0

@@ -23,7 +23,8 @@ use Rattle.c_parse_base.specs.Laws.WordGood.{good_as, key_good}
 use Rattle.c_parse_expr.specs.declared.measured.Measured.{Measured}
 use Rattle.c_parse_stmt.specs.declared.statement_read.StatementRead.{StatementRead}
 use Rattle.c_parse_stmt.specs.Reading.Nodes.{statement_of, Branches, if_then_of, if_else_of, branches_of, if_of}
-use Rattle.c_parse_stmt.specs.Reading.Statements.{Reader, Low, ending, StatementWord, begins_statement, condition, takes_else, free, if_head, if_tail, if_statement}
+use Rattle.c_parse_stmt.specs.Reading.Statements.{Reader, Low, ending, StatementWord, begins_statement, condition, takes_else, free}
+use Rattle.c_parse_stmt.specs.Reading.Statements.{if_head, if_tail, if_statement}
 use Rattle.c_parse_stmt.specs.Laws.ClauseLaws.{LowInner, ConditionWord, condition_word, condition_begins, condition_good}
 use Rattle.c_parse_stmt.specs.Laws.LastLaws.{statement_on, statement_begins, worded_begins, worded_starts}
 

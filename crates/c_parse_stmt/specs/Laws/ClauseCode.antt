@@ -21,8 +21,10 @@ use Rattle.c_parse_base.specs.Reading.TypeNames.{begins_type}
 use Rattle.c_parse_decl.specs.Reading.Objects.{local}
 use Rattle.c_parse_stmt.specs.declared.clause_read.MaybeRead.{MaybeRead}
 use Rattle.c_parse_stmt.specs.declared.clause_read.FirstRead.{FirstRead}
-use Rattle.c_parse_stmt.specs.Reading.Nodes.{written_of, left_out_of, first_local, first_expression, head_of, simple_of, return_from, return_of, break_from, break_of, continue_from, continue_of}
-use Rattle.c_parse_stmt.specs.Reading.Statements.{placed, room, inner, condition, maybe, first, for_head, do_tail, simple, returned, broken, continued, continued_or, last}
+use Rattle.c_parse_stmt.specs.Reading.Nodes.{written_of, left_out_of, first_local, first_expression, head_of, simple_of, return_from}
+use Rattle.c_parse_stmt.specs.Reading.Nodes.{return_of, break_from, break_of, continue_from, continue_of}
+use Rattle.c_parse_stmt.specs.Reading.Statements.{placed, room, inner, condition, maybe, first, for_head, do_tail, simple, returned}
+use Rattle.c_parse_stmt.specs.Reading.Statements.{broken, continued, continued_or, last}
 use Rattle.c_parse_stmt.specs.Laws.WordCode.{start_next, keyed_makes}
 use Rattle.c_parse_stmt.specs.Laws.Room.{has_room, no_room}
 

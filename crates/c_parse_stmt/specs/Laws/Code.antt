@@ -12,7 +12,7 @@ use Rattle.c_parse_base.specs.declared.fault.Fault.TheVariants.{Unexpected, TooD
 use Rattle.c_parse_base.specs.Reading.Answer.{Parser, Read, Stuck, and_then, thens, makes, repeats, turns, follows, sees}
 use Rattle.c_parse_base.specs.Reading.Good.{Good}
 use Rattle.c_parse_base.specs.Laws.ChainLaws.{MayTurn}
-use Rattle.c_parse_base.specs.Laws.LoopLaws.{takes_some, turns_stop, turns_deep, turns_turn, turns_read}
+use Rattle.c_parse_base.specs.Laws.LoopLaws.{Loop, left}
 use Rattle.c_parse_base.specs.Laws.OptionalLaws.{follows_stop, follows_wrong, follows_part}
 use Rattle.c_parse_base.specs.Reading.Answers.{rest_of}
 use Rattle.c_parse_base.specs.Laws.AnswerLaws.{either_one, either_deep, either_other}
@@ -24,8 +24,12 @@ use Rattle.c_parse_decl.specs.Reading.Objects.{local}
 use Rattle.c_parse_stmt.specs.declared.statement_read.StatementRead.{StatementRead}
 use Rattle.c_parse_stmt.specs.declared.statement_read.ItemRead.{ItemRead}
 use Rattle.c_parse_stmt.specs.declared.statement_read.ItemsRead.{ItemsRead}
-use Rattle.c_parse_stmt.specs.Reading.Nodes.{while_made, while_of, do_made, do_of, for_made, for_of, Branches, if_of, local_item, statement_item, empty_items, no_items, with_item, block_of, compound_of}
-use Rattle.c_parse_stmt.specs.Reading.Statements.{Reader, begins_item, room, condition, for_head, do_tail, returned, last, takes_else, free, if_head, if_tail, if_statement, while_loop, do_loop, for_loop, item, further, items, block_in, compound, return_or, for_or, do_or, while_or, if_or, statement, under, block}
+use Rattle.c_parse_stmt.specs.Reading.Nodes.{while_made, while_of, do_made, do_of, for_made, for_of, Branches, if_of, local_item}
+use Rattle.c_parse_stmt.specs.Reading.Nodes.{statement_item, empty_items, no_items, with_item, block_of, compound_of}
+use Rattle.c_parse_stmt.specs.Reading.Statements.{Reader, begins_item, room, condition, for_head, do_tail, returned, last, takes_else}
+use Rattle.c_parse_stmt.specs.Reading.Statements.{free, if_head, if_tail, if_statement, while_loop, do_loop, for_loop, item, further}
+use Rattle.c_parse_stmt.specs.Reading.Statements.{items, block_in, compound, return_or, for_or, do_or, while_or, if_or, statement, under}
+use Rattle.c_parse_stmt.specs.Reading.Statements.{block}
 use Rattle.c_parse_stmt.specs.Laws.BlockLaws.{Further, LowItems}
 use Rattle.c_parse_stmt.specs.Laws.StatementLaws.{else_on, further_good, under_good}
 use Rattle.c_parse_stmt.specs.Laws.WordCode.{keyed_makes}
@@ -135,55 +139,30 @@ unfolding item
 item_statement d q ts h e = either_other begins_type true (item_declared d) (item_stated d q) ts e
     ∙ ap (λ (x : Place → Reader). makes statement_item (x q) ts) (under_is d h)
 
--- the parts that are left, behind what was read so far
-unfoldable pub more_items : ℕ → Place → ItemsRead → Parser Token ItemsRead
-more_items d q = repeats (begins_item q) (λ _. room d) (further d (under d) q)
+-- a further part
+abbrev pub further_item : ℕ → Place → Loop Token ItemsRead
+further_item d q = record { test = λ _. begins_item q; room = λ _. room d; step = further d (under d) q }
 
 pub items_chain : (d : ℕ) (q : Place) (ts : List Token) → items d (under d) q ts ≡ and_then (makes no_items (punct mark.LeftBrace) ts)
-    (more_items d q)
-unfolding items more_items
+    (left (further_item d q))
+unfolding items left
 items_chain d q ts = refl
 
-pub items_first : (d : ℕ) (q : Place) (ts us : List Token) (place : Span) → punct mark.LeftBrace ts ≡ Read place us →
-    items d (under d) q ts ≡ more_items d q empty_items us
-items_first d q ts us place e = items_chain d q ts ∙ ap (λ o. and_then (and_then o (λ p us. Read (no_items p) us)) (more_items d q)) e
-
-pub items_end : (d : ℕ) (q : Place) (a : ItemsRead) (ts : List Token) → sees (begins_item q) ts ≡ false → more_items d q a ts ≡ Read a ts
-unfolding more_items
-items_end d q a ts e = turns_stop (begins_item q) (λ _. room d) (further d (under d) q) a ts e
-
-pub items_deep : (d : ℕ) (q : Place) (a : ItemsRead) (ts : List Token) → sees (begins_item q) ts ≡ true → d ≡ 0 →
-    more_items d q a ts ≡ Stuck TooDeep ts
-unfolding more_items
-items_deep d q a ts e z = turns_deep (begins_item q) (λ _. room d) (further d (under d) q) a ts e (no_room d z)
-
-pub items_turn : (d : ℕ) (q : Place) (a : ItemsRead) (ts : List Token) → sees (begins_item q) ts ≡ true → 0 < d →
-    more_items d q a ts ≡ and_then (makes (with_item a) (item d (under d) q) ts)
-    (turns (begins_item q) (λ _. room d) (further d (under d) q) (length ts - 1))
-unfolding more_items further
-items_turn d q a ts e h = turns_turn (begins_item q) (λ _. room d) (further d (under d) q) a ts e (has_room d h)
-
-good_further : (d : ℕ) (q : Place) (a : ItemsRead) → MayTurn (LowItems d) (λ _. room d) a →
+pub item_good : (d : ℕ) (q : Place) (a : ItemsRead) → MayTurn (LowItems d) (λ _. room d) a →
     Good (further d (under d) q a) (Further q a) (LowItems d) (begins_item q) else_on
-good_further d q = further_good d (under d) (under_good d) q
+item_good d q = further_good d (under d) (under_good d) q
 
-further_read : (d : ℕ) (q : Place) (a : ItemsRead) (i : ItemRead) (ts us : List Token) → item d (under d) q ts ≡ Read i us →
-    further d (under d) q a ts ≡ Read (with_item a i) us
+pub may_item : (d : ℕ) (a : ItemsRead) → 0 < d → a.height ≤ d → MayTurn (LowItems d) (λ _. room d) a
+may_item d a h low = record { fits = low; has_room = has_room d h }
+
+pub further_is : (d : ℕ) (q : Place) (a : ItemsRead) (ts : List Token) →
+    further d (under d) q a ts ≡ makes (with_item a) (item d (under d) q) ts
 unfolding further
-further_read d q a i ts us e = ap (λ o. and_then o (λ i us. Read (with_item a i) us)) e
+further_is d q a ts = refl
 
-pub items_read : (d : ℕ) (q : Place) (a : ItemsRead) (i : ItemRead) (ts us : List Token) → sees (begins_item q) ts ≡ true → 0 < d →
-    a.height ≤ d →
-    item d (under d) q ts ≡ Read i us → more_items d q a ts ≡ more_items d q (with_item a i) us
-unfolding more_items
-items_read d q a i ts us e h low r =
-    turns_read (begins_item q) (λ _. room d) (further d (under d) q) (Further q) (good_further d q) a (with_item a i) ts us
-    (record { fits = low; has_room = has_room d h }) e (further_read d q a i ts us r)
-
-pub item_takes : (d : ℕ) (q : Place) (a : ItemsRead) (i : ItemRead) (ts us : List Token) → 0 < d → a.height ≤ d →
-    item d (under d) q ts ≡ Read i us → length us < length ts
-item_takes d q a i ts us h low r = takes_some (good_further d q a (record { fits = low; has_room = has_room d h })) ts us (with_item a i)
-    (further_read d q a i ts us r)
+pub further_read : (d : ℕ) (q : Place) (a : ItemsRead) (i : ItemRead) (ts us : List Token) → item d (under d) q ts ≡ Read i us →
+    further d (under d) q a ts ≡ Read (with_item a i) us
+further_read d q a i ts us e = further_is d q a ts ∙ ap (λ o. and_then o (λ i us. Read (with_item a i) us)) e
 
 pub block_in_is : (d : ℕ) (q : Place) (ts : List Token) → block_in d (under d) q ts ≡ makes block_of
     (thens (items d (under d) q) (λ _. punct mark.RightBrace)) ts

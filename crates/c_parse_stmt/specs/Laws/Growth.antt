@@ -18,8 +18,13 @@ use Rattle.c_parse_base.specs.Reading.TypeNames.{begins_type}
 use Rattle.c_parse_decl.specs.Reading.Objects.{local}
 use Rattle.c_parse_decl.specs.Laws.Objects.Growth.{local_grows}
 use Rattle.c_parse_stmt.specs.declared.statement_read.ItemsRead.{ItemsRead}
-use Rattle.c_parse_stmt.specs.Reading.Nodes.{written_of, left_out_of, first_local, first_expression, head_of, simple_of, return_of, while_of, do_of, for_of, Branches, if_of, local_item, statement_item, no_items, with_item, block_of, compound_of}
-use Rattle.c_parse_stmt.specs.Reading.Statements.{Reader, begins_item, room, inner, condition, maybe, first, for_head, do_tail, simple, returned, broken, continued, continued_or, last, takes_else, free, if_head, if_tail, if_statement, while_loop, do_loop, for_loop, item, further, items, block_in, compound, return_or, for_or, do_or, while_or, if_or, statement, under, block}
+use Rattle.c_parse_stmt.specs.Reading.Nodes.{written_of, left_out_of, first_local, first_expression, head_of, simple_of, return_of}
+use Rattle.c_parse_stmt.specs.Reading.Nodes.{while_of, do_of, for_of, Branches, if_of, local_item, statement_item, no_items, with_item}
+use Rattle.c_parse_stmt.specs.Reading.Nodes.{block_of, compound_of}
+use Rattle.c_parse_stmt.specs.Reading.Statements.{Reader, begins_item, room, inner, condition, maybe, first, for_head, do_tail, simple}
+use Rattle.c_parse_stmt.specs.Reading.Statements.{returned, broken, continued, continued_or, last, takes_else, free, if_head, if_tail}
+use Rattle.c_parse_stmt.specs.Reading.Statements.{if_statement, while_loop, do_loop, for_loop, item, further, items, block_in, compound}
+use Rattle.c_parse_stmt.specs.Reading.Statements.{return_or, for_or, do_or, while_or, if_or, statement, under, block}
 use Rattle.c_parse_stmt.specs.Laws.Room.{more_room, some_room}
 
 -- the parsers of the level below

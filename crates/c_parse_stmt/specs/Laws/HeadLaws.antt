@@ -24,7 +24,8 @@ use Rattle.c_parse_stmt.specs.declared.clause_read.ForHead.{ForHead}
 use Rattle.c_parse_stmt.specs.Reading.Nodes.{first_local, first_expression, head_of}
 use Rattle.c_parse_stmt.specs.Reading.Statements.{room, condition, maybe, first, for_head, simple_words}
 use Rattle.c_parse_stmt.specs.Laws.ItemWords.{simple_apart}
-use Rattle.c_parse_stmt.specs.Laws.ClauseLaws.{semicolon_closing, paren_closing, MaybeWord, maybe_word, LowMaybe, begins_maybe, maybe_good, maybe_begins}
+use Rattle.c_parse_stmt.specs.Laws.ClauseLaws.{semicolon_closing, paren_closing, MaybeWord, maybe_word, LowMaybe, begins_maybe}
+use Rattle.c_parse_stmt.specs.Laws.ClauseLaws.{maybe_good, maybe_begins}
 use Rattle.c_parse_stmt.specs.Laws.Room.{some_room, has_room}
 
 -- ---- what comes first in a `for`

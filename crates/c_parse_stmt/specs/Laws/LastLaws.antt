@@ -20,8 +20,10 @@ use Rattle.c_parse_base.specs.Laws.WordListLaws.{apart_words, is_not_first, or_l
 use Rattle.c_parse_stmt.specs.declared.clause_read.MaybeRead.{MaybeRead}
 use Rattle.c_parse_stmt.specs.declared.statement_read.StatementRead.{StatementRead}
 use Rattle.c_parse_stmt.specs.Reading.Nodes.{simple_of, return_of, break_of, continue_of}
-use Rattle.c_parse_stmt.specs.Reading.Statements.{Low, StatementWord, simple_words, last_words, maybe, simple, returned, broken, continued, continued_or, last}
-use Rattle.c_parse_stmt.specs.Laws.ClauseLaws.{MaybeWord, maybe_word, LowMaybe, begins_maybe, semicolon_closing, maybe_good, maybe_begins, maybe_begins_at}
+use Rattle.c_parse_stmt.specs.Reading.Statements.{Low, StatementWord, simple_words, last_words, maybe, simple, returned, broken}
+use Rattle.c_parse_stmt.specs.Reading.Statements.{continued, continued_or, last}
+use Rattle.c_parse_stmt.specs.Laws.ClauseLaws.{MaybeWord, maybe_word, LowMaybe, begins_maybe, semicolon_closing, maybe_good, maybe_begins}
+use Rattle.c_parse_stmt.specs.Laws.ClauseLaws.{maybe_begins_at}
 
 -- `else` goes on behind a statement that is not closed
 abbrev pub statement_on : StatementRead → Token → Bool

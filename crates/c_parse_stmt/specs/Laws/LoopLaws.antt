@@ -24,9 +24,11 @@ use Rattle.c_parse_base.specs.Laws.WordListLaws.{is_at}
 use Rattle.c_parse_stmt.specs.declared.clause_read.ForHead.{ForHead}
 use Rattle.c_parse_stmt.specs.declared.statement_read.StatementRead.{StatementRead}
 use Rattle.c_parse_stmt.specs.Reading.Nodes.{statement_of, while_of, do_of, for_of}
-use Rattle.c_parse_stmt.specs.Reading.Statements.{Reader, Low, ending, StatementWord, begins_statement, condition, do_tail, for_head, while_loop, do_loop, for_loop}
+use Rattle.c_parse_stmt.specs.Reading.Statements.{Reader, Low, ending, StatementWord, begins_statement, condition, do_tail, for_head}
+use Rattle.c_parse_stmt.specs.Reading.Statements.{while_loop, do_loop, for_loop}
 use Rattle.c_parse_stmt.specs.Laws.HeadLaws.{LowHead, HeadWord, head_word, head_begins, head_good}
-use Rattle.c_parse_stmt.specs.Laws.ClauseLaws.{LowInner, ConditionWord, condition_word, condition_begins, condition_good, maybe_word, TailWord, tail_word, tail_begins, tail_good}
+use Rattle.c_parse_stmt.specs.Laws.ClauseLaws.{LowInner, ConditionWord, condition_word, condition_begins, condition_good, maybe_word}
+use Rattle.c_parse_stmt.specs.Laws.ClauseLaws.{TailWord, tail_word, tail_begins, tail_good}
 use Rattle.c_parse_stmt.specs.Laws.LastLaws.{statement_on, statement_begins, worded_begins, worded_starts}
 use Rattle.c_parse_stmt.specs.Laws.BranchLaws.{is_closed, word_of_statement, measured, stops_open}
 

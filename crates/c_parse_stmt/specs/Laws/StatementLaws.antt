@@ -23,14 +23,22 @@ use Rattle.c_parse_decl.specs.Laws.Objects.LocalLaws.{local_good, local_begins_a
 use Rattle.c_parse_stmt.specs.declared.statement_read.StatementRead.{StatementRead}
 use Rattle.c_parse_stmt.specs.declared.statement_read.ItemsRead.{ItemsRead}
 use Rattle.c_parse_stmt.specs.Reading.Nodes.{statement_of, local_item, statement_item, no_items, with_item, block_of, compound_of}
-use Rattle.c_parse_stmt.specs.Reading.Statements.{Reader, Low, LowBlock, ending, StatementWord, BlockIn, BlockWord, last_words, begins_statement, begins_item, room, item, further, items, block_in, compound, return_or, for_or, do_or, while_or, if_or, statement, under, block}
+use Rattle.c_parse_stmt.specs.Reading.Statements.{Reader, Low, LowBlock, ending, StatementWord, BlockIn, BlockWord, last_words}
+use Rattle.c_parse_stmt.specs.Reading.Statements.{begins_statement, begins_item, room, item, further, items, block_in, compound}
+use Rattle.c_parse_stmt.specs.Reading.Statements.{return_or, for_or, do_or, while_or, if_or, statement, under, block}
 use Rattle.c_parse_stmt.specs.Laws.ItemWords.{not_both, statement_apart, no_item, brace_no_statement, else_no_statement}
 use Rattle.c_parse_stmt.specs.Laws.ClauseLaws.{maybe_word}
 use Rattle.c_parse_stmt.specs.Laws.Room.{some_room, has_room}
-use Rattle.c_parse_stmt.specs.Laws.LastLaws.{statement_on, keyed_good, keyed_begins, ReturnWord, return_into, return_good, return_begins, return_starts, LastWord, simple_last, last_into, last_good, last_begins_at}
-use Rattle.c_parse_stmt.specs.Laws.BranchLaws.{is_closed, stops_open, IfWord, if_into, if_then_out, if_else_out, if_begins, if_starts, if_high, if_good}
-use Rattle.c_parse_stmt.specs.Laws.LoopLaws.{WhileWord, while_into, while_out, while_begins, while_starts, while_high, while_good, DoWord, do_into, do_out, do_begins, do_starts, do_high, do_good, ForWord, for_into, for_out, for_begins, for_starts, for_high, for_good}
-use Rattle.c_parse_stmt.specs.Laws.BlockLaws.{ItemWord, LowItem, LocalItem, StatementItem, item_into, item_out, Further, NoItems, ItemsWord, LowItems, BlockParts, block_into, block_out, block_starts, CompoundWord, compound_into, compound_out, compound_begins}
+use Rattle.c_parse_stmt.specs.Laws.LastLaws.{statement_on, keyed_good, keyed_begins, ReturnWord, return_into, return_good, return_begins}
+use Rattle.c_parse_stmt.specs.Laws.LastLaws.{return_starts, LastWord, simple_last, last_into, last_good, last_begins_at}
+use Rattle.c_parse_stmt.specs.Laws.BranchLaws.{is_closed, stops_open, IfWord, if_into, if_then_out, if_else_out, if_begins, if_starts}
+use Rattle.c_parse_stmt.specs.Laws.BranchLaws.{if_high, if_good}
+use Rattle.c_parse_stmt.specs.Laws.LoopLaws.{WhileWord, while_into, while_out, while_begins, while_starts, while_high, while_good, DoWord}
+use Rattle.c_parse_stmt.specs.Laws.LoopLaws.{do_into, do_out, do_begins, do_starts, do_high, do_good, ForWord, for_into, for_out}
+use Rattle.c_parse_stmt.specs.Laws.LoopLaws.{for_begins, for_starts, for_high, for_good}
+use Rattle.c_parse_stmt.specs.Laws.BlockLaws.{ItemWord, LowItem, LocalItem, StatementItem, item_into, item_out, Further, NoItems}
+use Rattle.c_parse_stmt.specs.Laws.BlockLaws.{ItemsWord, LowItems, BlockParts, block_into, block_out, block_starts, CompoundWord}
+use Rattle.c_parse_stmt.specs.Laws.BlockLaws.{compound_into, compound_out, compound_begins}
 
 -- an `else` goes on
 abbrev pub else_on : {A : Type 0} → A → Token → Bool

@@ -1,5 +1,6 @@
 -- The parser of statements (ISO C11 6.8), by the number of levels that may stand below the statement.
-use Rattle.std.specs.Prelude.{◌≡◌, ℕ, zero, suc, ◌-◌, ◌≤◌, ◌||◌, Bool, true, false, nat_lt, if◌then◌else◌, List, [], ◌∷◌, Option, Some, None}
+use Rattle.std.specs.Prelude.{◌≡◌, ℕ, zero, suc, ◌-◌, ◌≤◌, ◌||◌, Bool, true, false, nat_lt, if◌then◌else◌, List, [], ◌∷◌, Option, Some}
+use Rattle.std.specs.Prelude.{None}
 use Rattle.c_ast.specs.Seen.{Seen as Token}
 use Rattle.c_ast.specs.declared.keyword.Keyword.TheVariants as key
 use Rattle.c_ast.specs.declared.punctuator.Punctuator.{Punctuator}
@@ -24,7 +25,9 @@ use Rattle.c_parse_stmt.specs.declared.statement_read.ItemsRead.{ItemsRead}
 use Rattle.c_parse_stmt.specs.declared.clause_read.MaybeRead.{MaybeRead}
 use Rattle.c_parse_stmt.specs.declared.clause_read.FirstRead.{FirstRead}
 use Rattle.c_parse_stmt.specs.declared.clause_read.ForHead.{ForHead}
-use Rattle.c_parse_stmt.specs.Reading.Nodes.{written_of, left_out_of, first_local, first_expression, head_of, simple_of, return_of, break_of, continue_of, while_of, do_of, for_of, Branches, if_of, local_item, statement_item, no_items, with_item, block_of, compound_of}
+use Rattle.c_parse_stmt.specs.Reading.Nodes.{written_of, left_out_of, first_local, first_expression, head_of, simple_of, return_of}
+use Rattle.c_parse_stmt.specs.Reading.Nodes.{break_of, continue_of, while_of, do_of, for_of, Branches, if_of, local_item, statement_item}
+use Rattle.c_parse_stmt.specs.Reading.Nodes.{no_items, with_item, block_of, compound_of}
 
 abbrev pub Reader : Type 0
 Reader = Parser Token StatementRead

@@ -18,7 +18,8 @@ use Rattle.c_ast.specs.declared.statement.Stmt.{Stmt, roll-Stmt, map-Stmt}
 use Rattle.c_ast.specs.declared.statement.Item.{Item, roll-Item, map-Item}
 use Rattle.c_ast.specs.declared.statement.Item.TheFolds.{fold-roll-Item, fold-roll-Stmt}
 use Rattle.c_grammar.specs.Declarators.{arrays}
-use Rattle.c_print.specs.Spans.{no_span, option_map, expr_cleared, bare, bare_node, bare_type, bare_init_step, bare_init, bare_item_step, bare_stmt_step, bare_stmt, bare_item}
+use Rattle.c_print.specs.Spans.{no_span, option_map, expr_cleared, bare, bare_node, bare_type, bare_init_step, bare_init, bare_item_step}
+use Rattle.c_print.specs.Spans.{bare_stmt_step, bare_stmt, bare_item}
 
 -- one level, with parts without spans
 abbrev pub bare_in_type : TypeLayer → TypeLayer

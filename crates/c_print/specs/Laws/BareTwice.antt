@@ -25,8 +25,10 @@ use Rattle.c_ast.specs.declared.program.Program.{Program}
 use Rattle.c_ast.specs.declared.program.Function.{Function}
 use Rattle.c_ast.specs.declared.program.External.{External}
 use Rattle.c_ast.specs.declared.program.External.TheVariants as external
-use Rattle.c_print.specs.Spans.{no_span, option_map, bare, bare_node, bare_type, bare_init, bare_decl, bare_struct, bare_item, bare_stmt, bare_item_step, bare_stmt_step, bare_function, bare_external, bare_program}
-use Rattle.c_print.specs.Laws.BareLaws.{bare_in_type, bare_in_node, bare_in_stmt, bare_in_item, type_bare, node_bare, expr_cleared_bare, one_bare, list_bare, stmt_bare, item_bare}
+use Rattle.c_print.specs.Spans.{no_span, option_map, bare, bare_node, bare_type, bare_init, bare_decl, bare_struct, bare_item, bare_stmt}
+use Rattle.c_print.specs.Spans.{bare_item_step, bare_stmt_step, bare_function, bare_external, bare_program}
+use Rattle.c_print.specs.Laws.BareLaws.{bare_in_type, bare_in_node, bare_in_stmt, bare_in_item, type_bare, node_bare, expr_cleared_bare}
+use Rattle.c_print.specs.Laws.BareLaws.{one_bare, list_bare, stmt_bare, item_bare}
 
 -- to do it twice is to do it once
 abbrev pub Settles : {A : Type 0} → (A → A) → A → Type 0

@@ -10,7 +10,8 @@ use Rattle.c_ast.specs.declared.expr.Expr.{Expr}
 use Rattle.c_ast.specs.declared.expr.Node.{roll-Node}
 use Rattle.c_ast.specs.declared.expr.CType.TheOpen.{Node-F}
 use Rattle.c_grammar.specs.Words.{span_of}
-use Rattle.c_grammar.specs.Expressions.{Texts, one_text, more_text, Primary, Postfix, Arguments, ArgumentList, Unary, Cast, Binary, Conditional, Expression}
+use Rattle.c_grammar.specs.Expressions.{Texts, one_text, more_text, Primary, Postfix, Arguments, ArgumentList, Unary, Cast, Binary}
+use Rattle.c_grammar.specs.Expressions.{Conditional, Expression}
 use Rattle.c_grammar.specs.Expressions as grammar
 use Rattle.c_print.specs.Spans.{no_span, bare, bare_type}
 use Rattle.c_print.specs.Laws.BareLaws.{bare_in_node, expr_bare}

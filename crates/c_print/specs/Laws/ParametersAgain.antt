@@ -1,16 +1,14 @@
 -- Other tokens with the lexemes of parameters spell them again, spans aside.
-use Rattle.std.specs.Prelude.{◌≡◌, ◌≢◌, ℕ, List, [], ◌∷◌, ◌++◌, map, Option, Some, None, refl}
+use Rattle.std.specs.Prelude.{◌≡◌, ◌≢◌, ℕ, List, [], ◌∷◌, ◌++◌, map, None, refl}
 use Rattle.std.proofs.Common.{sym, ◌∙◌, ap, subst}
 use Rattle.std.proofs.lemmas.List.Elements.{All-nil, All-cons, All-head, All-tail}
 use Rattle.c_ast.specs.Seen.{Seen as Token}
-use Rattle.c_ast.specs.declared.expr.CType.TheVariants as type
 use Rattle.c_ast.specs.declared.declaration.Decl.{Decl}
-use Rattle.c_ast.specs.declared.declaration.Init.{Init}
 use Rattle.c_grammar.specs.Words.{span_of}
 use Rattle.c_grammar.specs.Declarators.{arrays}
 use Rattle.c_grammar.specs.Parameters.{ParameterName, unnamed, named, Parameter, ParameterList, OneVoid, one_void, Parameters, AllNamed}
 use Rattle.c_grammar.specs.Parameters as grammar
-use Rattle.c_print.specs.Spans.{no_span, option_map, bare_init, bare_decl}
+use Rattle.c_print.specs.Spans.{no_span, bare_type, bare_decl}
 use Rattle.c_print.specs.Laws.BareLaws.{arrays_alike, bare_void, void_bare}
 use Rattle.c_print.specs.Laws.Again.{Again, Alike, done, kind, word, before, last, more_alike}
 use Rattle.c_print.specs.Laws.TypesAgain.{base_again, stars_again}
@@ -19,33 +17,17 @@ use Rattle.c_print.specs.Laws.ObjectsAgain.{declared}
 
 -- ---- one `void`
 
-bare_none : (i : Option Init) → option_map bare_init i ≡ None → i ≡ None
-bare_none None is = refl
-bare_none (Some i) is = cc
+void_cleared : {ds : List Decl} → OneVoid ds → OneVoid (map bare_decl ds)
+void_cleared (one_void d n t) = one_void (bare_decl d) n (ap bare_type t ∙ void_bare)
 
--- what a list of one `void` is, as a fact that computes
-abbrev pub IsOneVoid : List Decl → Type 0
-IsOneVoid [] = ⊥
-IsOneVoid (d ∷ []) = (d.name ≡ []) × (d.ty ≡ type.Void) × (d.init ≡ None)
-IsOneVoid (d ∷ e ∷ ds) = ⊥
+pub void_back : (ds : List Decl) → OneVoid (map bare_decl ds) → OneVoid ds
+void_back [] h = elim h [ ]
+void_back (d ∷ []) (one_void e n t) = one_void d n (bare_void d.ty t)
+void_back (d ∷ e ∷ ds) h = elim h [ ]
 
-pub one_void_is : {ds : List Decl} → OneVoid ds → IsOneVoid ds
-one_void_is (one_void s) = (refl, refl, refl)
-
-one_void_bare : {ds : List Decl} → OneVoid ds → IsOneVoid (map bare_decl ds)
-one_void_bare (one_void s) = (refl, void_bare, refl)
-
-pub is_one_void : (ds : List Decl) → IsOneVoid (map bare_decl ds) → OneVoid ds
-is_one_void [] none = absurd none
-is_one_void (d ∷ []) is =
-    let P : Decl → Type 0 = λ e. OneVoid (e ∷ []) in
-    let same : record { name = []; ty = type.Void; init = None; span = d.span } ≡ d =
-    (λ i. record { name = sym is.0 i; ty = sym (bare_void d.ty is.1) i; init = sym (bare_none d.init is.2) i; span = d.span }) in
-    subst P same (one_void d.span)
-is_one_void (d ∷ e ∷ ds) none = absurd none
-
-not_one_void : (ds es : List Decl) → map bare_decl es ≡ map bare_decl ds → ¬ OneVoid ds → ¬ OneVoid es
-not_one_void ds es same more void = more (is_one_void ds (subst IsOneVoid same (one_void_bare void)))
+-- likewise where they are alike
+void_alike : (ds es : List Decl) → map bare_decl es ≡ map bare_decl ds → OneVoid ds → OneVoid es
+void_alike ds es same one = void_back es (subst OneVoid (sym same) (void_cleared one))
 
 -- ---- names
 
@@ -86,9 +68,9 @@ list_again (grammar.more_parameter {ds} {d} c ms p m) =
 pub parameters_again : {h : ℕ} {ds : List Decl} {w : List Token} → Parameters h ds w → Alike w (Again (Parameters h) (map bare_decl) ds)
 parameters_again (grammar.no_word l r pl pr) = word l pl (λ l pl. word r pr
     (λ r pr. done (record { tree = []; word = grammar.no_word l r pl pr; same = refl })))
-parameters_again (grammar.void_word l t r pl k pr) =
-    word l pl (λ l pl. word t k (λ t k. word r pr (λ r pr. done
-    (record { tree = []; word = grammar.void_word l t r pl k pr; same = refl }))))
+parameters_again (grammar.void {ds} l r pl ps one pr) =
+    word l pl (λ l pl. before (list_again ps) (λ v a. word r pr (λ r pr. done
+    (record { tree = []; word = grammar.void l r pl a.word (void_alike ds a.tree a.same one) pr; same = refl }))))
 parameters_again (grammar.parameters {ds} l r pl ps more pr) =
     word l pl (λ l pl. before (list_again ps) (λ v a. word r pr (λ r pr. done
-    (record { tree = a.tree; word = grammar.parameters l r pl a.word (not_one_void ds a.tree a.same more) pr; same = a.same }))))
+    (record { tree = a.tree; word = grammar.parameters l r pl a.word (λ one. more (void_alike a.tree ds (sym a.same) one)) pr; same = a.same }))))

@@ -11,7 +11,8 @@ use Rattle.c_ast.specs.declared.statement.Stmt.TheVariants as stmt
 use Rattle.c_ast.specs.declared.statement.Item.{Item, roll-Item}
 use Rattle.c_ast.specs.declared.statement.Item.TheVariants as item
 use Rattle.c_ast.specs.declared.statement.Item.TheOpen.{Item-F, Stmt-F}
-use Rattle.c_grammar.specs.Statements.{Place, Ending, MaybeExpression, left_out, written, First, first_local, first_expression, Statement, Block, BlockItems, BlockItem}
+use Rattle.c_grammar.specs.Statements.{Place, Ending, MaybeExpression, left_out, written, First, first_local, first_expression, Statement}
+use Rattle.c_grammar.specs.Statements.{Block, BlockItems, BlockItem}
 use Rattle.c_grammar.specs.Statements as grammar
 use Rattle.c_print.specs.Spans.{no_span, option_map, bare, bare_decl, bare_item_step, bare_stmt_step, bare_stmt, bare_item}
 use Rattle.c_print.specs.Laws.BareLaws.{bare_in_stmt, bare_in_item, stmt_bare, item_bare}

@@ -61,7 +61,8 @@ loop-place-preserved c =
     let text = c.args.text.now in
     record {
       reached = rw (c.in-Ok-push.ensures.items, map_push, take_rest)
-          (token-reached text c.loop-place.place c.loop-place.line c.loop-place-test.true _ c.in-Token.kind c.in-Token.bytes c.loop-place.invariant.reached is);
+          (token-reached text c.loop-place.place c.loop-place.line c.loop-place-test.true _ c.in-Token.kind c.in-Token.bytes
+          c.loop-place.invariant.reached is);
       within = (token-goes text c.loop-place.place c.loop-place.line c.loop-place-test.true c.in-Token.kind c.in-Token.bytes is).within;
     }
 
@@ -89,4 +90,5 @@ returns-in-Fault-clause-refused c =
     let text = c.args.text.now in
     rw c.refusal.ensures
     (refusal-cause text c.in-Fault.fault _
-    (fault-first text c.loop-place.place c.loop-place.line c.loop-place-test.true _ c.in-Fault.fault c.in-Fault.offset c.loop-place.invariant.reached is))
+    (fault-first text c.loop-place.place c.loop-place.line c.loop-place-test.true _ c.in-Fault.fault c.in-Fault.offset
+    c.loop-place.invariant.reached is))

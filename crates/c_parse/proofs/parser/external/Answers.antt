@@ -1,19 +1,13 @@
-use Rattle.std.proofs.Common.{sym, arith}
+use Rattle.std.proofs.Common.{sym}
 use Rattle.c_parse_base.specs.Laws.AnswerLaws.{answers_by}
-use Rattle.c_parse.specs.Laws.Code.{external_include, external_deep, external_declared}
+use Rattle.c_parse.specs.Laws.Code.{external_include, external_declared}
 use Rattle.c_parse.proofs.parser.external.Goals as goal
 
 pub returns-then-not-begins_declaration-clause-answers : goal.returns-then-not-begins_declaration-clause-answers
 returns-then-not-begins_declaration-clause-answers c =
     answers_by (external_include c.args.depth c.args.cursor.now (sym c.if-not-begins_declaration.ensures)) c.include.ensures.answers
 
-pub returns-then-depth-eq0-clause-answers : goal.returns-then-depth-eq0-clause-answers
-returns-then-depth-eq0-clause-answers c = record {
-  is = external_deep c.args.depth c.args.cursor.now
-      (sym c.if-not-begins_declaration.ensures) c.if-depth-eq0.true;
-}
-
 pub returns-clause-answers : goal.returns-clause-answers
 returns-clause-answers c =
-    answers_by (external_declared c.args.depth c.args.cursor.now (sym c.if-not-begins_declaration.ensures) (omega arith))
+    answers_by (external_declared c.args.depth c.args.cursor.now (sym c.if-not-begins_declaration.ensures))
     c.declaration.ensures.answers

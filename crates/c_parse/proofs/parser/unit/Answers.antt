@@ -1,7 +1,11 @@
-use Rattle.std.proofs.Common.{arith, sym, ◌∙◌, ap}
+use Rattle.std.proofs.Common.{arith, sym, ◌∙◌, ap, refl}
+use Rattle.c_parse_base.specs.Reading.Answer.{and_then}
 use Rattle.c_parse_base.specs.Laws.AnswerLaws.{answers_on, answers_by, answers_stop}
+use Rattle.c_parse_base.specs.Laws.LoopLaws.{left, loop_end, loop_stops, loop_read, loop_takes}
 use Rattle.c_parse.specs.declared.externals.Externals.{Externals}
-use Rattle.c_parse.specs.Laws.Code.{more_units, unit_is, unit_first, units_end, units_turn, units_read, unit_takes}
+use Rattle.c_parse.specs.Reading.Values.{more_externals}
+use Rattle.c_parse.specs.Laws.UnitLaws.{next_good}
+use Rattle.c_parse.specs.Laws.Code.{further_external, unit_is, next_is, next_read, may_follow}
 use Rattle.c_parse.proofs.parser.unit.Goals as goal
 
 pub returns-in_err-read-clause-answers : goal.returns-in_err-read-clause-answers
@@ -10,33 +14,37 @@ returns-in_err-read-clause-answers c = answers_on _ c.from_residual.ensures.1
 
 pub loop-alloc-init : goal.loop-alloc-init
 loop-alloc-init c = record {
-  reads = unit_first c.args.depth c.args.cursor.now c.external.new.cursor c.in_ok-read.read c.in_ok-read.ensures.answers.is;
+  reads = unit_is c.args.depth c.args.cursor.now
+      ∙ ap (λ o. and_then o (left (further_external c.args.depth))) c.in_ok-read.ensures.answers.is;
   low = c.in_ok-read.ensures.low;
 }
 
 pub returns-in_err-next-clause-answers : goal.returns-in_err-next-clause-answers
 returns-in_err-next-clause-answers c =
     answers_on _ c.from_residual-in_err-next.ensures.1
-    (answers_by (c.loop-alloc.invariant.reads ∙ units_turn c.args.depth c.loop-alloc.read c.loop-alloc.cursor
-    (sym c.begins_external.ensures ∙ c.loop-alloc-test.true))
-    (answers_stop _ (answers_stop _ c.in_err-next.ensures.answers)))
+    (answers_by c.loop-alloc.invariant.reads (loop_stops (further_external c.args.depth) c.loop-alloc.read c.loop-alloc.cursor
+    (sym c.begins_external.ensures ∙ c.loop-alloc-test.true) refl
+    (answers_by (next_is c.args.depth c.loop-alloc.read c.loop-alloc.cursor) (answers_stop _ c.in_err-next.ensures.answers))))
 
 pub loop-alloc-smaller : goal.loop-alloc-smaller
-loop-alloc-smaller c = unit_takes c.args.depth c.in_ok-next.next c.loop-alloc.cursor c.external-in-loop-alloc.new.cursor
-    c.in_ok-next.ensures.answers.is
+loop-alloc-smaller c = loop_takes (further_external c.args.depth) c.loop-alloc.read c.loop-alloc.cursor (next_good c.args.depth)
+    (may_follow c.args.depth c.loop-alloc.read c.loop-alloc.invariant.low) (more_externals c.loop-alloc.read c.in_ok-next.next)
+    c.external-in-loop-alloc.new.cursor (next_read c.args.depth c.loop-alloc.read c.in_ok-next.next c.loop-alloc.cursor
+    c.external-in-loop-alloc.new.cursor c.in_ok-next.ensures.answers.is)
 
 pub loop-alloc-preserved : goal.loop-alloc-preserved
 loop-alloc-preserved c = record {
   reads = c.loop-alloc.invariant.reads
-      ∙ units_read c.args.depth c.loop-alloc.read c.in_ok-next.next c.loop-alloc.cursor c.external-in-loop-alloc.new.cursor
-      c.loop-alloc.invariant.low
-      (sym c.begins_external.ensures ∙ c.loop-alloc-test.true) c.in_ok-next.ensures.answers.is
-      ∙ ap (λ a. more_units c.args.depth a c.external-in-loop-alloc.new.cursor) (sym c.in_ok-read-2.ensures);
+      ∙ loop_read (further_external c.args.depth) c.loop-alloc.read c.loop-alloc.cursor (next_good c.args.depth)
+      (may_follow c.args.depth c.loop-alloc.read c.loop-alloc.invariant.low) (more_externals c.loop-alloc.read c.in_ok-next.next)
+      c.external-in-loop-alloc.new.cursor (next_read c.args.depth c.loop-alloc.read c.in_ok-next.next c.loop-alloc.cursor
+      c.external-in-loop-alloc.new.cursor c.in_ok-next.ensures.answers.is) (sym c.begins_external.ensures ∙ c.loop-alloc-test.true)
+      ∙ ap (λ a. left (further_external c.args.depth) a c.external-in-loop-alloc.new.cursor) (sym c.in_ok-read-2.ensures);
   low = omega (arith, ap (λ (a : Externals). a.height) c.in_ok-read-2.ensures, c.in_ok-next.ensures.low, c.loop-alloc.invariant.low);
 }
 
 pub returns-clause-answers : goal.returns-clause-answers
 returns-clause-answers c = record {
-  is = c.loop-alloc.invariant.reads ∙ units_end c.args.depth c.loop-alloc.read c.loop-alloc.cursor
+  is = c.loop-alloc.invariant.reads ∙ loop_end (further_external c.args.depth) c.loop-alloc.read c.loop-alloc.cursor
       (sym c.begins_external.ensures ∙ c.loop-alloc-test.false);
 }

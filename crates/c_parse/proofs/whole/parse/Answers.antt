@@ -6,7 +6,8 @@ use Rattle.c_parse.specs.Reading.Values.{program_of}
 use Rattle.c_parse.specs.Reading.Externals.{unit}
 use Rattle.c_parse.specs.Parsed.{Parsed, limit}
 use Rattle.c_parse.specs.Laws.ParsedLaws.{deep_refused}
-use Rattle.c_parse.specs.Laws.WholeCode.{refused, taken_of, none_left, some_left, parsed_none, parsed_read, parsed_stop, program_read, program_kept, program_none}
+use Rattle.c_parse.specs.Laws.WholeCode.{below, refused, taken_of, none_left, some_left, parsed_none, parsed_read, parsed_stop}
+use Rattle.c_parse.specs.Laws.WholeCode.{program_read, program_kept, program_none}
 use Rattle.c_parse.proofs.whole.parse.Goals as goal
 
 pub returns-then-tokens-eq0-clause-parsed : goal.returns-then-tokens-eq0-clause-parsed
@@ -21,14 +22,14 @@ returns-then-tokens-eq0-clause-all c = λ program depth spells low.
 pub returns-in-Ok-clause-parsed : goal.returns-in-Ok-clause-parsed
 returns-in-Ok-clause-parsed c =
     subst (λ program. Parsed limit c.args.tokens.now (Ok program)) (sym c.program.ensures)
-    (parsed_read limit c.args.tokens.now c.all.new.cursor c.in-Ok.read (passed (ended (unit limit)) c.new-cursor.ensures c.in-Ok.ensures))
+    (parsed_read below c.args.tokens.now c.all.new.cursor c.in-Ok.read (passed (ended (unit below)) c.new-cursor.ensures c.in-Ok.ensures))
 
 pub returns-in-Ok-clause-all : goal.returns-in-Ok-clause-all
 returns-in-Ok-clause-all c = λ program depth spells low.
     c.program.ensures
-    ∙ program_read limit c.args.tokens.now c.all.new.cursor program depth c.in-Ok.read
+    ∙ program_read below c.args.tokens.now c.all.new.cursor program depth c.in-Ok.read
     (some_left c.args.tokens.now c.if-tokens-eq0.false) spells low
-    (passed (ended (unit limit)) c.new-cursor.ensures c.in-Ok.ensures)
+    (passed (ended (unit below)) c.new-cursor.ensures c.in-Ok.ensures)
 
 pub returns-in-Err-clause-parsed : goal.returns-in-Err-clause-parsed
 returns-in-Err-clause-parsed c =
@@ -37,16 +38,16 @@ returns-in-Err-clause-parsed c =
     let told : c.refused.result ≡ refused c.in-Err.stop (taken_of c.args.tokens.now c.all.new.cursor) = c.refused.ensures
     ∙ ap (refused c.in-Err.stop) place in
     subst (λ e. Parsed limit c.args.tokens.now (Err e)) (sym told)
-    (parsed_stop limit c.args.tokens.now c.all.new.cursor c.in-Err.stop (some_left c.args.tokens.now c.if-tokens-eq0.false)
-    (passed (ended (unit limit)) c.new-cursor.ensures c.in-Err.ensures))
+    (parsed_stop below c.args.tokens.now c.all.new.cursor c.in-Err.stop (some_left c.args.tokens.now c.if-tokens-eq0.false)
+    (passed (ended (unit below)) c.new-cursor.ensures c.in-Err.ensures))
 
 pub returns-in-Err-clause-all : goal.returns-in-Err-clause-all
 returns-in-Err-clause-all c = λ program depth spells low.
     c.refused.ensures
     ∙ ap (λ s. refused s c.saturating_sub-place.result)
-    (program_kept limit c.args.tokens.now c.all.new.cursor program depth c.in-Err.stop
+    (program_kept below c.args.tokens.now c.all.new.cursor program depth c.in-Err.stop
     (some_left c.args.tokens.now c.if-tokens-eq0.false) spells low
-    (passed (ended (unit limit)) c.new-cursor.ensures c.in-Err.ensures))
+    (passed (ended (unit below)) c.new-cursor.ensures c.in-Err.ensures))
 
 pub returns-then-tokens-eq0-clause-deep : goal.returns-then-tokens-eq0-clause-deep
 returns-then-tokens-eq0-clause-deep c = deep_refused limit c.args.tokens.now (Ok (program_of c.new.result))

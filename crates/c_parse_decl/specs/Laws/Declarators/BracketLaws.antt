@@ -1,5 +1,6 @@
 -- Pairs of brackets behind what was declared are read.
-use Rattle.std.specs.Prelude.{◌≡◌, ◌≢◌, ℕ, suc, ◌+◌, ◌-◌, ◌<◌, ◌≤◌, max, Bool, true, false, nat_lt, ◌||◌, List, [], ◌∷◌, ◌++◌, length, Option, Some, None, refl}
+use Rattle.std.specs.Prelude.{◌≡◌, ◌≢◌, ℕ, suc, ◌+◌, ◌-◌, ◌<◌, ◌≤◌, max, Bool, true, false, nat_lt, ◌||◌, List, [], ◌∷◌, ◌++◌, length}
+use Rattle.std.specs.Prelude.{Option, Some, None, refl}
 use Rattle.std.proofs.Common.{sym, ◌∙◌, ap, subst, append_assoc, arith, inl, inr, length-append}
 use Rattle.c_ast.specs.declared.token.Span.{Span}
 use Rattle.c_ast.specs.Seen.{Seen as Token}
@@ -25,7 +26,9 @@ use Rattle.c_parse_expr.specs.Laws.ExpressionLaws.{good_at}
 use Rattle.c_parse_expr.specs.Laws.BeginLaws.{conditional_begins_at}
 use Rattle.c_parse_decl.specs.declared.declarators.declared.Declared.{Declared}
 use Rattle.c_parse_decl.specs.declared.declarators.lengths.Lengths.{Lengths}
-use Rattle.c_parse_decl.specs.Reading.Declarators.{Low, BracketedWord, brackets_behind, goes_on_declarator, no_lengths, tree_of, levels_of, more_lengths, arrays_of, sized, unsized, size, pair, has_room, pairs, bracketed}
+use Rattle.c_parse_decl.specs.Reading.Declarators.{Low, BracketedWord, brackets_behind, goes_on_declarator, no_lengths, tree_of}
+use Rattle.c_parse_decl.specs.Reading.Declarators.{levels_of, more_lengths, arrays_of, sized, unsized, size, pair, has_room, pairs}
+use Rattle.c_parse_decl.specs.Reading.Declarators.{bracketed}
 
 -- ---- what stands between brackets
 

@@ -1,5 +1,6 @@
 -- What the code of the parser needs of the parser.
-use Rattle.std.specs.Prelude.{◌≡◌, ℕ, suc, ◌-◌, ◌<◌, ◌≤◌, Bool, true, false, nat_lt, if◌then◌else◌, List, [], ◌∷◌, ◌++◌, length, Option, Some, None, Result, refl}
+use Rattle.std.specs.Prelude.{◌≡◌, ℕ, suc, ◌-◌, ◌<◌, ◌≤◌, Bool, true, false, nat_lt, if◌then◌else◌, List, [], ◌∷◌, ◌++◌, length, Option}
+use Rattle.std.specs.Prelude.{Some, None, Result, refl}
 use Rattle.std.proofs.Common.{sym, ◌∙◌, ap, subst}
 use Rattle.c_ast.specs.Seen.{Seen as Token}
 use Rattle.c_ast.specs.declared.expr.Expr.{Expr}
@@ -13,7 +14,7 @@ use Rattle.c_parse_base.specs.declared.fault.Fault.TheVariants.{TooDeep}
 use Rattle.c_parse_base.specs.Reading.Answer.{Read, Stuck, Parser, and_then, thens, makes, sees, turns, repeats, follows}
 use Rattle.c_parse_base.specs.Laws.ChainLaws.{MayTurn}
 use Rattle.c_parse_base.specs.Laws.OptionalLaws.{follows_stop, follows_part, follows_deep}
-use Rattle.c_parse_base.specs.Laws.LoopLaws.{turns_stop, turns_deep, turns_turn, turns_read, takes_some}
+use Rattle.c_parse_base.specs.Laws.LoopLaws.{Loop, left}
 use Rattle.c_parse_base.specs.Reading.Answers.{Answers}
 use Rattle.c_parse_base.specs.Laws.AnswerLaws.{either_one, either_deep, either_other}
 use Rattle.c_parse_base.specs.Reading.Spans.{start_of}
@@ -25,7 +26,8 @@ use Rattle.c_parse_expr.specs.Reading.Levels.{begins}
 use Rattle.c_parse_expr.specs.Reading.Expressions.{at}
 use Rattle.c_parse_decl.specs.declared.declarators.declared.Declared.{Declared}
 use Rattle.c_parse_decl.specs.declared.declarators.lengths.Lengths.{Lengths}
-use Rattle.c_parse_decl.specs.Reading.Declarators.{Reader, plain, typed_name, named_of, starred, no_lengths, more_lengths, arrays_of, sized, unsized, size, pair, has_room, pairs, bracketed, declarator}
+use Rattle.c_parse_decl.specs.Reading.Declarators.{Reader, plain, typed_name, named_of, starred, no_lengths, more_lengths, arrays_of}
+use Rattle.c_parse_decl.specs.Reading.Declarators.{sized, unsized, size, pair, has_room, pairs, bracketed, declarator}
 use Rattle.c_parse_decl.specs.Laws.Declarators.BracketLaws.{PairWord, LowLengths, pair_good}
 
 -- ---- stars and a name
@@ -104,43 +106,16 @@ pair_is d b level ts e = ap (λ level. makes (λ c. more_lengths b c.1) (thens (
 
 -- ---- the loop over pairs
 
--- the pairs that are left, behind what was read so far
-unfoldable pub more_pairs : ℕ → Lengths → Parser Token Lengths
-more_pairs d = repeats (is (punctuator mark.LeftBracket)) (has_room d) (pair d)
+-- a further pair
+abbrev pub further_pair : ℕ → Loop Token Lengths
+further_pair d = record { test = λ _. is (punctuator mark.LeftBracket); room = has_room d; step = pair d }
 
-pub pairs_is : (d : ℕ) (b : Lengths) (ts : List Token) → pairs d b ts ≡ and_then (pair d b ts) (more_pairs d)
-unfolding pairs more_pairs
+pub pairs_is : (d : ℕ) (b : Lengths) (ts : List Token) → pairs d b ts ≡ and_then (pair d b ts) (left (further_pair d))
+unfolding pairs left
 pairs_is d b ts = refl
 
-pub pairs_first : (d : ℕ) (b c : Lengths) (ts us : List Token) → pair d b ts ≡ Read c us → pairs d b ts ≡ more_pairs d c us
-pairs_first d b c ts us e = pairs_is d b ts ∙ ap (λ o. and_then o (more_pairs d)) e
-
-pub pairs_end : (d : ℕ) (b : Lengths) (ts : List Token) → sees (is (punctuator mark.LeftBracket)) ts ≡ false → more_pairs d b ts ≡ Read b ts
-unfolding more_pairs
-pairs_end d b ts e = turns_stop (is (punctuator mark.LeftBracket)) (has_room d) (pair d) b ts e
-
-pub pairs_deep : (d : ℕ) (b : Lengths) (ts : List Token) → sees (is (punctuator mark.LeftBracket)) ts ≡ true → d ≤ b.level →
-    more_pairs d b ts ≡ Stuck TooDeep ts
-unfolding more_pairs
-pairs_deep d b ts e high = turns_deep (is (punctuator mark.LeftBracket)) (has_room d) (pair d) b ts e (not_below b.level d high)
-
-pub pairs_turn : (d : ℕ) (b : Lengths) (ts : List Token) → sees (is (punctuator mark.LeftBracket)) ts ≡ true → b.level < d →
-    more_pairs d b ts ≡ and_then (pair d b ts) (turns (is (punctuator mark.LeftBracket)) (has_room d) (pair d) (length ts - 1))
-unfolding more_pairs
-pairs_turn d b ts e low = turns_turn (is (punctuator mark.LeftBracket)) (has_room d) (pair d) b ts e (is_below b.level d low)
-
-may_turn : (d : ℕ) (b : Lengths) → b.height ≤ d → b.level < d → MayTurn (LowLengths d) (has_room d) b
-may_turn d b fits low = record { fits = fits; has_room = is_below b.level d low }
-
-pub pairs_read : (d : ℕ) (b c : Lengths) (ts us : List Token) → sees (is (punctuator mark.LeftBracket)) ts ≡ true → b.height ≤ d →
-    b.level < d →
-    pair d b ts ≡ Read c us → more_pairs d b ts ≡ more_pairs d c us
-unfolding more_pairs
-pairs_read d b c ts us e fits low h = turns_read (is (punctuator mark.LeftBracket)) (has_room d) (pair d) PairWord
-    (pair_good d) b c ts us (may_turn d b fits low) e h
-
-pub pair_takes : (d : ℕ) (b c : Lengths) (ts us : List Token) → b.height ≤ d → b.level < d → pair d b ts ≡ Read c us → length us < length ts
-pair_takes d b c ts us fits low h = takes_some (pair_good d b (may_turn d b fits low)) ts us c h
+pub may_pair : (d : ℕ) (b : Lengths) → b.height ≤ d → b.level < d → MayTurn (LowLengths d) (has_room d) b
+may_pair d b fits low = record { fits = fits; has_room = is_below b.level d low }
 
 -- the same behind equal ones
 pub pairs_at : (d : ℕ) (b c : Lengths) (ts us : List Token) (r : Result Lengths Stop) → b ≡ c → Answers (pairs d b ts) r us →

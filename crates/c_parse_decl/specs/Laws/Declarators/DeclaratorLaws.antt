@@ -18,7 +18,8 @@ use Rattle.c_parse_base.specs.Reading.Words.{is}
 use Rattle.c_parse_base.specs.Laws.WordGood.{good_as}
 use Rattle.c_parse_base.specs.Laws.Depths.{below_is, is_below}
 use Rattle.c_parse_decl.specs.declared.declarators.declared.Declared.{Declared}
-use Rattle.c_parse_decl.specs.Reading.Declarators.{Low, StarredWord, starred_name, BracketedWord, brackets_behind, DeclaratorWord, begins_declarator, goes_on_declarator, bracketed, declarator}
+use Rattle.c_parse_decl.specs.Reading.Declarators.{Low, StarredWord, starred_name, BracketedWord, brackets_behind, DeclaratorWord}
+use Rattle.c_parse_decl.specs.Reading.Declarators.{begins_declarator, goes_on_declarator, bracketed, declarator}
 use Rattle.c_parse_decl.specs.Laws.Declarators.StarredLaws.{starred_good, starred_begins_at}
 use Rattle.c_parse_decl.specs.Laws.Declarators.BracketLaws.{bracketed_good, bracketed_begins_at, bracketed_high, not_empty}
 

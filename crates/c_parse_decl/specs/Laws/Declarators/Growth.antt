@@ -15,7 +15,8 @@ use Rattle.c_parse_base.specs.Laws.StartingLaws.{starting_grows}
 use Rattle.c_parse_base.specs.Laws.Depths.{below_is, more_room}
 use Rattle.c_parse_decl.specs.declared.declarators.declared.Declared.{Declared}
 use Rattle.c_parse_decl.specs.declared.declarators.lengths.Lengths.{Lengths}
-use Rattle.c_parse_decl.specs.Reading.Declarators.{plain, typed_name, named_of, starred, no_lengths, more_lengths, arrays_of, sized, unsized, size, pair, has_room, pairs, bracketed, declarator}
+use Rattle.c_parse_decl.specs.Reading.Declarators.{plain, typed_name, named_of, starred, no_lengths, more_lengths, arrays_of, sized}
+use Rattle.c_parse_decl.specs.Reading.Declarators.{unsized, size, pair, has_room, pairs, bracketed, declarator}
 
 typed_name_grows : (d : ℕ) (base : CType) → Grows (typed_name d base) (typed_name (suc d) base)
 unfolding typed_name

@@ -1,13 +1,11 @@
 -- Stars and a name behind a base are read.
-use Rattle.std.specs.Prelude.{◌≡◌, ℕ, zero, suc, ◌≤◌, Bool, true, false, nat_lt, ◌==◌, ◌||◌, List, [], ◌∷◌, ◌++◌, is_some, refl}
+use Rattle.std.specs.Prelude.{◌≡◌, ℕ, zero, suc, ◌≤◌, Bool, true, false, nat_lt, ◌==◌, ◌||◌, List, [], ◌∷◌, ◌++◌, refl}
 use Rattle.std.proofs.Common.{sym, ◌∙◌, ap, subst, arith, inl, inr}
 use Rattle.c_ast.specs.declared.token.Span.{Span}
 use Rattle.c_ast.specs.Seen.{Seen as Token}
-use Rattle.c_ast.specs.declared.token.Lexeme.{Lexeme}
-use Rattle.c_ast.specs.declared.token.Lexeme.TheVariants as lexeme
 use Rattle.c_ast.specs.declared.expr.CType.{CType}
 use Rattle.c_ast.specs.declared.punctuator.Punctuator.TheVariants as mark
-use Rattle.c_grammar.specs.Words.{IsName, word_of, lexeme_word, end_of, span_of, punctuator, a_name}
+use Rattle.c_grammar.specs.Words.{IsName, word_of, end_of, span_of, punctuator, a_name}
 use Rattle.c_grammar.specs.Types as grammar
 use Rattle.c_grammar.specs.Types.{Stars}
 use Rattle.c_parse_base.specs.declared.words.Named.{Named}
@@ -16,12 +14,12 @@ use Rattle.c_parse_base.specs.Reading.Good.{Language, Begins, StartsIn, Good}
 use Rattle.c_parse_base.specs.Reading.Languages.{Then, join, Either, Always, nothing, Made}
 use Rattle.c_parse_base.specs.Laws.Lists.{starts_append}
 use Rattle.c_parse_base.specs.Laws.Parts.{picks, thens_good, makes_good, either_good}
-use Rattle.c_parse_base.specs.Reading.Words.{is, name, named_at, pick_name, place_of, Naming, naming, one_word}
-use Rattle.c_parse_base.specs.Laws.WordGood.{good_as, equal_is}
+use Rattle.c_parse_base.specs.Reading.Words.{is, name, pick_name, place_of, Naming, naming, one_word}
+use Rattle.c_parse_base.specs.Laws.WordGood.{good_as}
 use Rattle.c_parse_base.specs.Reading.Spans.{Starting}
 use Rattle.c_parse_base.specs.declared.type_read.TypeRead.{TypeRead}
 use Rattle.c_parse_base.specs.Reading.TypeNames.{stars}
-use Rattle.c_parse_base.specs.Laws.NameLaws.{name_good, name_begins}
+use Rattle.c_parse_base.specs.Laws.NameLaws.{name_word, name_good, name_begins, name_begins_at}
 use Rattle.c_parse_base.specs.Laws.TypeNameLaws.{typed}
 use Rattle.c_parse_base.specs.Laws.StarLaws.{StarsWord, stars_good, stars_begin_at}
 use Rattle.c_parse_base.specs.Laws.WordListLaws.{is_at}
@@ -46,18 +44,6 @@ abbrev LowType : ℕ → TypeRead × Named → Type 0
 LowType d c = c.0.height ≤ d
 
 -- ---- first words
-
-name_kind : (t : Token) (kind : Lexeme) → is_some (named_at (place_of t) kind) ≡ true → lexeme_word kind ≡ 1
-name_kind t (lexeme.Name n) h = refl
-name_kind t lexeme.Include h = cc
-name_kind t (lexeme.Number v ty) h = cc
-name_kind t (lexeme.Character c) h = cc
-name_kind t (lexeme.Text b) h = cc
-name_kind t (lexeme.Keyword k) h = cc
-name_kind t (lexeme.Punct p) h = cc
-
-name_word : (t : Token) → picks pick_name t ≡ true → word_of t ≡ a_name
-name_word t h = name_kind t t.kind h
 
 name_no_star : (t : Token) → picks pick_name t ≡ true → is (punctuator mark.Star) t ≡ false
 name_no_star t h = ap (λ w. w == punctuator mark.Star) (name_word t h)
@@ -166,19 +152,6 @@ starred_good d base = makes_good named_of (StarredWord base) (Low d) nothing (st
 
 -- ---- each first token begins some word
 
-name_at : (base : CType) (t : Token) (kind : Lexeme) → t.kind ≡ kind → lexeme_word kind ≡ 1 → Begins (StarredWord base) (t ∷ [])
-name_at base t (lexeme.Name n) e h = record {
-  value = record { name = n; ty = base; height = 0; span = span_of (t ∷ []) };
-  more = [];
-  whole = starred_name t grammar.none e;
-}
-name_at base t lexeme.Include e h = cc
-name_at base t (lexeme.Number v ty) e h = cc
-name_at base t (lexeme.Character c) e h = cc
-name_at base t (lexeme.Text b) e h = cc
-name_at base t (lexeme.Keyword k) e h = absurd (omega arith)
-name_at base t (lexeme.Punct p) e h = absurd (omega arith)
-
 star_at : (base : CType) (t : Token) → is (punctuator mark.Star) t ≡ true → Begins (StarredWord base) (t ∷ [])
 star_at base t h =
     let b = pointing_begins base t h in
@@ -190,7 +163,12 @@ star_at base t h =
 
 begins_at : (base : CType) (t : Token) (x : Bool) → (word_of t == a_name) ≡ x → (y : Bool) → is (punctuator mark.Star) t ≡ y →
     (x || (y || false)) ≡ true → Begins (StarredWord base) (t ∷ [])
-begins_at base t true e y f h = name_at base t t.kind refl (equal_is (word_of t) 1 e)
+begins_at base t true e y f h =
+    let b = name_begins_at t e in record {
+      value = named_of (t.start, (plain base, b.value));
+      more = b.more;
+      whole = named_into base t.start (plain base, b.value) (t ∷ b.more) (inr (record { source = b.value; is = refl; word = b.whole })) refl;
+    }
 begins_at base t false e true f h = star_at base t f
 begins_at base t false e false f h = cc
 

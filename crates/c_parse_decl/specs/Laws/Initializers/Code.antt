@@ -8,16 +8,19 @@ use Rattle.c_ast.specs.declared.punctuator.Punctuator.TheVariants as mark
 use Rattle.c_grammar.specs.Words.{punctuator}
 use Rattle.c_parse_base.specs.declared.fault.Fault.TheVariants.{TooDeep}
 use Rattle.c_parse_base.specs.Reading.Answer.{Read, Stuck, and_then, makes, thens, sees, repeats_by, turns_by}
-use Rattle.c_parse_base.specs.Laws.LoopLaws.{takes_some, by_stop, by_turn, by_read}
+use Rattle.c_parse_base.specs.Laws.LoopLaws.{Loop, left}
+use Rattle.c_parse_base.specs.Reading.Good.{Good}
+use Rattle.c_parse_base.specs.Laws.ChainLaws.{MayTurn}
 use Rattle.c_parse_base.specs.Laws.AnswerLaws.{either_one, either_deep, either_other}
 use Rattle.c_parse_base.specs.Reading.Words.{is, punct}
 use Rattle.c_parse_expr.specs.Reading.Expressions.{at}
 use Rattle.c_parse_expr.specs.Reading.Levels.{begins}
 use Rattle.c_parse_decl.specs.declared.initializers.init_read.InitRead.{InitRead}
 use Rattle.c_parse_decl.specs.declared.initializers.list_read.ListRead.{ListRead}
-use Rattle.c_parse_decl.specs.Reading.Initializers.{Reader, ListReader, value_of, one_item, more_items, comma_behind, list_of, room, begins_initial, list_goes_on, turn_by, turn, items, closed, under, initial}
+use Rattle.c_parse_decl.specs.Reading.Initializers.{Reader, ListReader, value_of, one_item, more_items, comma_behind, list_of, room}
+use Rattle.c_parse_decl.specs.Reading.Initializers.{begins_initial, list_goes_on, turn_by, turn, items, closed, under, initial}
 use Rattle.c_parse_base.specs.Laws.Depths.{is_below}
-use Rattle.c_parse_decl.specs.Laws.Initializers.ListLaws.{Turn, turn_good}
+use Rattle.c_parse_decl.specs.Laws.Initializers.ListLaws.{Turn, LowList, part_on, turn_good}
 use Rattle.c_parse_decl.specs.Laws.Initializers.InitialLaws.{under_good}
 
 -- the parser of the level below
@@ -45,37 +48,17 @@ turn_comma d a ts c = ap (λ x. turn_by (under d) x a ts) c
 
 -- ---- the loop of a list
 
--- what is left of a list, behind what was read so far
-unfoldable pub rest_items : ℕ → ListRead → ListReader
-rest_items d = repeats_by list_goes_on (λ _. true) (turn (under d))
+-- a further initial or comma
+abbrev pub further_turn : ℕ → Loop Token ListRead
+further_turn d = record { test = list_goes_on; room = λ _. true; step = turn (under d) }
 
-pub items_is : (d : ℕ) (ts : List Token) → 0 < d → items (under d) ts ≡ and_then (makes one_item (initial (d - 1)) ts) (rest_items d)
-unfolding items rest_items
+pub items_is : (d : ℕ) (ts : List Token) → 0 < d → items (under d) ts ≡ and_then (makes one_item (initial (d - 1)) ts) (left (further_turn d))
+unfolding items left
 items_is d ts h = ap (λ p. and_then (makes one_item p ts) (repeats_by list_goes_on (λ _. true) (turn (under d)))) (under_is d h)
 
-pub items_first : (d : ℕ) (ts us : List Token) (a : InitRead) → 0 < d → initial (d - 1) ts ≡ Read a us →
-    items (under d) ts ≡ rest_items d (one_item a) us
-items_first d ts us a h e = items_is d ts h ∙ ap (λ o. and_then (and_then o (λ a us. Read (one_item a) us)) (rest_items d)) e
-
-pub items_end : (d : ℕ) (a : ListRead) (ts : List Token) → sees (list_goes_on a) ts ≡ false → rest_items d a ts ≡ Read a ts
-unfolding rest_items
-items_end d a ts e = by_stop list_goes_on (λ _. true) (turn (under d)) a ts e
-
-pub items_turn : (d : ℕ) (a : ListRead) (ts : List Token) → sees (list_goes_on a) ts ≡ true →
-    rest_items d a ts ≡ and_then (turn (under d) a ts) (turns_by list_goes_on (λ _. true) (turn (under d)) (length ts - 1))
-unfolding rest_items
-items_turn d a ts e = by_turn list_goes_on (λ _. true) (turn (under d)) a ts e refl
-
-pub items_read : (d : ℕ) (a b : ListRead) (ts us : List Token) → 0 < d → a.height ≤ d → sees (list_goes_on a) ts ≡ true →
-    turn (under d) a ts ≡ Read b us →
-    rest_items d a ts ≡ rest_items d b us
-unfolding rest_items
-items_read d a b ts us h low e r = by_read list_goes_on (λ _. true) (turn (under d)) Turn
-    (λ a may. turn_good d h (under_good d h) a may.fits) a b ts us (record { fits = low; has_room = refl }) e r
-
-pub turn_takes : (d : ℕ) (a b : ListRead) (ts us : List Token) → 0 < d → a.height ≤ d → turn (under d) a ts ≡ Read b us →
-    length us < length ts
-turn_takes d a b ts us h low r = takes_some (turn_good d h (under_good d h) a low) ts us b r
+pub further_good : (d : ℕ) → 0 < d → (a : ListRead) → MayTurn (LowList d) (λ _. true) a →
+    Good (turn (under d) a) (Turn a) (LowList d) (list_goes_on a) part_on
+further_good d h a may = turn_good d h (under_good d h) a may.fits
 
 -- ---- a list in braces, or an expression
 

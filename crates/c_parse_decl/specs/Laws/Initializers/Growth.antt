@@ -9,7 +9,8 @@ use Rattle.c_parse_base.specs.Reading.Answer.{makes}
 use Rattle.c_parse_base.specs.Laws.Deeper.{Grows, grows_same, grows_then, grows_made, grows_either, grows_chain_by}
 use Rattle.c_parse_expr.specs.Laws.Growth.{grows_at}
 use Rattle.c_parse_decl.specs.declared.initializers.list_read.ListRead.{ListRead}
-use Rattle.c_parse_decl.specs.Reading.Initializers.{Reader, value_of, one_item, more_items, comma_behind, list_of, room, list_goes_on, turn_by, items, closed, layer, under, initial}
+use Rattle.c_parse_decl.specs.Reading.Initializers.{Reader, value_of, one_item, more_items, comma_behind, list_of, room, list_goes_on}
+use Rattle.c_parse_decl.specs.Reading.Initializers.{turn_by, items, closed, layer, under, initial}
 use Rattle.c_parse_base.specs.Laws.Depths.{below_is, is_below}
 
 module _ {below above : Reader} (grows : Grows below above) where

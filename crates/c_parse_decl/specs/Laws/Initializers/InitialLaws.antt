@@ -27,7 +27,8 @@ use Rattle.c_parse_expr.specs.Laws.ExpressionLaws.{good_at}
 use Rattle.c_parse_expr.specs.Laws.BeginLaws.{expression_begins_at}
 use Rattle.c_parse_decl.specs.declared.initializers.init_read.InitRead.{InitRead}
 use Rattle.c_parse_decl.specs.declared.initializers.list_read.ListRead.{ListRead}
-use Rattle.c_parse_decl.specs.Reading.Initializers.{Reader, Low, InitialWord, begins_initial, initial_on, value_of, one_item, list_of, room, closed, layer, under, initial}
+use Rattle.c_parse_decl.specs.Reading.Initializers.{Reader, Low, InitialWord, begins_initial, initial_on, value_of, one_item, list_of}
+use Rattle.c_parse_decl.specs.Reading.Initializers.{room, closed, layer, under, initial}
 use Rattle.c_parse_decl.specs.Laws.Initializers.ListLaws.{ItemsBy, ItemsWord, list_by, items_good, initials_high}
 
 -- ---- lists in braces
@@ -145,19 +146,6 @@ braced_high c w (join {v = u} (spot l is) m) = let high : 0 < m.source.0.height 
 
 braced_needs : (d : ℕ) (v : InitRead) (w : List Token) → Braced v w → Low d v → room d ≡ true
 braced_needs d v w m low = is_below 0 d (omega (arith, braced_high m.source w m.word, ap (λ (v : InitRead). v.height) m.is))
-
--- some initializer begins with each token that begins one
-pub initial_begins_at : (t : Token) → begins_initial t ≡ true → Begins InitialWord (t ∷ [])
-initial_begins_at t h = by_brace (is (punctuator mark.LeftBrace) t) refl h
-  where
-    by_brace : (x : Bool) → is (punctuator mark.LeftBrace) t ≡ x → (x || begins t) ≡ true → Begins InitialWord (t ∷ [])
-    by_brace true e h = let b = braced_begins t e in record {
-      value = b.value;
-      more = b.more;
-      whole = initial_into b.value (t ∷ b.more) (inl b.whole);
-    }
-    by_brace false e h = let b = expression_begins_at t h in
-        record { value = value_of b.value; more = b.more; whole = value_made b.value (t ∷ b.more) b.whole }
 
 -- ---- the parser
 

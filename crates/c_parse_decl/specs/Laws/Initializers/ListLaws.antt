@@ -19,7 +19,8 @@ use Rattle.c_parse_expr.specs.Reading.Levels.{expression_on, example}
 use Rattle.c_parse_expr.specs.Laws.LevelLaws.{closes_all}
 use Rattle.c_parse_decl.specs.declared.initializers.init_read.InitRead.{InitRead}
 use Rattle.c_parse_decl.specs.declared.initializers.list_read.ListRead.{ListRead}
-use Rattle.c_parse_decl.specs.Reading.Initializers.{Reader, Low, InitialWord, begins_initial, initial_on, one_item, more_items, comma_behind, goes_on_by, list_goes_on, turn_by, turn, items}
+use Rattle.c_parse_decl.specs.Reading.Initializers.{Reader, Low, InitialWord, begins_initial, initial_on, one_item, more_items}
+use Rattle.c_parse_decl.specs.Reading.Initializers.{comma_behind, goes_on_by, list_goes_on, turn_by, turn, items}
 use Rattle.c_parse_base.specs.Laws.ChainLaws.{chain_by_good}
 
 -- initializers with a comma behind them

@@ -21,7 +21,7 @@ use Rattle.c_parse_base.specs.Laws.WordListLaws.{is_at}
 use Rattle.c_parse_base.specs.Laws.Bases.{base_begins_at}
 use Rattle.c_parse_base.specs.declared.type_read.TypeRead.{TypeRead}
 use Rattle.c_parse_base.specs.Reading.TypeWords.{first_at, size_at}
-use Rattle.c_parse_base.specs.Reading.TypeNames.{begins_type, base}
+use Rattle.c_parse_base.specs.Reading.TypeNames.{begins_type}
 use Rattle.c_parse_base.specs.Laws.TypeWordLaws.{more_words}
 use Rattle.c_parse_base.specs.Laws.TypeOrders.{BaseWord}
 use Rattle.c_parse_base.specs.Laws.TypeNameLaws.{base_good}

@@ -22,7 +22,8 @@ use Rattle.c_parse_decl.specs.Reading.Declarators.{starred, bracketed, declarato
 use Rattle.c_parse_decl.specs.Reading.Initializers.{initial}
 use Rattle.c_parse_decl.specs.declared.objects.objects_read.ObjectRead.{ObjectRead}
 use Rattle.c_parse_decl.specs.declared.objects.objects_read.ObjectsRead.{ObjectsRead}
-use Rattle.c_parse_decl.specs.Reading.Objects.{Reader, ObjectReader, Low, FurtherWord, plain_of, valued, one_object, more_objects, equal, comma, room, free, value, object, further, list, ended, valued_rest, rest, named, local}
+use Rattle.c_parse_decl.specs.Reading.Objects.{Reader, ObjectReader, Low, FurtherWord, plain_of, valued, one_object, more_objects, equal}
+use Rattle.c_parse_decl.specs.Reading.Objects.{comma, room, free, value, object, further, list, ended, valued_rest, rest, named, local}
 use Rattle.c_parse_decl.specs.Laws.Objects.EndLaws.{further_good}
 
 -- ---- an initializer behind a declarator

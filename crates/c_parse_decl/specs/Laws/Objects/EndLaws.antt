@@ -19,7 +19,8 @@ use Rattle.c_parse_expr.specs.Reading.Levels.{expression_on, example}
 use Rattle.c_parse_expr.specs.Laws.LevelLaws.{closes_all}
 use Rattle.c_parse_decl.specs.Reading.Declarators.{begins_declarator}
 use Rattle.c_parse_decl.specs.declared.objects.objects_read.ObjectsRead.{ObjectsRead}
-use Rattle.c_parse_decl.specs.Reading.Objects.{Low, ObjectWord, FurtherWord, ListWord, ListedWord, LastWord, EndedWord, more_objects, equal, comma, free, object, further, list, ended}
+use Rattle.c_parse_decl.specs.Reading.Objects.{Low, ObjectWord, FurtherWord, ListWord, ListedWord, LastWord, EndedWord, more_objects}
+use Rattle.c_parse_decl.specs.Reading.Objects.{equal, comma, free, object, further, list, ended}
 use Rattle.c_parse_decl.specs.Laws.Objects.ObjectLaws.{LowObject, goes_on, object_on, object_good, object_begins}
 
 -- ---- levels

@@ -16,7 +16,8 @@ use Rattle.c_parse_decl.specs.Laws.Declarators.Growth.{starred_grows, bracketed_
 use Rattle.c_parse_decl.specs.Laws.Initializers.Growth.{initial_grows}
 use Rattle.c_parse_decl.specs.declared.objects.objects_read.ObjectRead.{ObjectRead}
 use Rattle.c_parse_decl.specs.declared.objects.objects_read.ObjectsRead.{ObjectsRead}
-use Rattle.c_parse_decl.specs.Reading.Objects.{plain_of, valued, one_object, more_objects, equal, comma, room, free, value, object, further, list, ended, valued_rest, rest, named, local}
+use Rattle.c_parse_decl.specs.Reading.Objects.{plain_of, valued, one_object, more_objects, equal, comma, room, free, value, object}
+use Rattle.c_parse_decl.specs.Reading.Objects.{further, list, ended, valued_rest, rest, named, local}
 
 value_grows : (d : ℕ) (a : ObjectRead) → room d ≡ true → Grows (value d a) (value (suc d) a)
 unfolding value

@@ -22,7 +22,7 @@ use Rattle.c_parse_base.specs.Laws.WordListLaws.{is_at, both_false}
 use Rattle.c_parse_base.specs.Laws.Depths.{below_is, is_below}
 use Rattle.c_parse_expr.specs.Reading.Levels.{expression_on, example}
 use Rattle.c_parse_decl.specs.declared.declarators.declared.Declared.{Declared}
-use Rattle.c_parse_decl.specs.Reading.Declarators.{DeclaratorWord, begins_declarator, declarator}
+use Rattle.c_parse_decl.specs.Reading.Declarators.{DeclaratorWord, begins_declarator}
 use Rattle.c_parse_decl.specs.declared.initializers.init_read.InitRead.{InitRead}
 use Rattle.c_parse_decl.specs.Reading.Initializers as initializers
 use Rattle.c_parse_decl.specs.Reading.Initializers.{InitialWord, begins_initial, initial_on, initial}

@@ -22,7 +22,8 @@ use Rattle.c_parse_decl.specs.Reading.Initializers.{InitialWord}
 use Rattle.c_parse_decl.specs.Laws.Declarators.BracketLaws.{bracketed_good, bracketed_begins_at}
 use Rattle.c_parse_decl.specs.declared.objects.objects_read.ObjectRead.{ObjectRead}
 use Rattle.c_parse_decl.specs.declared.objects.objects_read.ObjectsRead.{ObjectsRead}
-use Rattle.c_parse_decl.specs.Reading.Objects.{Low, ValueWord, EndedWord, ValuedWord, ValuedRestWord, BracketRestWord, RestWord, plain_of, one_object, equal, room, value, ended, valued_rest, rest, begins_rest}
+use Rattle.c_parse_decl.specs.Reading.Objects.{Low, ValueWord, EndedWord, ValuedWord, ValuedRestWord, BracketRestWord, RestWord, plain_of}
+use Rattle.c_parse_decl.specs.Reading.Objects.{one_object, equal, room, value, ended, valued_rest, rest, begins_rest}
 use Rattle.c_parse_decl.specs.Laws.Objects.ObjectLaws.{value_begins, value_high, value_good}
 use Rattle.c_parse_decl.specs.Laws.Objects.EndLaws.{end_words, begins_end, end_apart, ended_height, ended_begins, ended_good}
 

@@ -18,12 +18,14 @@ use Rattle.c_parse_base.specs.Reading.Spans.{join_spans}
 use Rattle.c_parse_base.specs.Laws.SpanLaws.{span_append}
 use Rattle.c_parse_base.specs.Reading.Words.{is, place_of, Spot, spot}
 use Rattle.c_parse_decl.specs.declared.declarators.declared.Declared.{Declared}
-use Rattle.c_parse_decl.specs.Reading.Declarators.{StarredWord, starred_name, BracketedWord, brackets_behind, DeclaratorWord, begins_declarator}
+use Rattle.c_parse_decl.specs.Reading.Declarators.{StarredWord, starred_name, BracketedWord, brackets_behind, DeclaratorWord}
+use Rattle.c_parse_decl.specs.Reading.Declarators.{begins_declarator}
 use Rattle.c_parse_decl.specs.Laws.Declarators.StarredLaws.{starred_good}
 use Rattle.c_parse_decl.specs.Laws.Declarators.BracketLaws.{bracketed_good}
 use Rattle.c_parse_decl.specs.declared.objects.objects_read.ObjectRead.{ObjectRead}
 use Rattle.c_parse_decl.specs.declared.objects.objects_read.ObjectsRead.{ObjectsRead}
-use Rattle.c_parse_decl.specs.Reading.Objects.{ObjectWord, ValueWord, FurtherWord, ListWord, EndedWord, ValuedRestWord, RestWord, ObjectsBehind, ByFirstName, plain_of, one_object, more_objects}
+use Rattle.c_parse_decl.specs.Reading.Objects.{ObjectWord, ValueWord, FurtherWord, ListWord, EndedWord, ValuedRestWord, RestWord}
+use Rattle.c_parse_decl.specs.Reading.Objects.{ObjectsBehind, ByFirstName, plain_of, one_object, more_objects}
 use Rattle.c_parse_decl.specs.Laws.Objects.ObjectLaws.{object_read, declared, plain_made, value_made, value_out}
 
 -- ---- declarators by their parts

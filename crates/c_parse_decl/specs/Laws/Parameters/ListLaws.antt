@@ -1,155 +1,161 @@
--- The parsers of what stands behind the first parameter read their languages.
-use Rattle.std.specs.Prelude.{◌≡◌, ℕ, suc, ◌≤◌, Bool, true, false, ◌==◌, ◌||◌, List, [], ◌∷◌, ◌++◌, refl}
-use Rattle.std.proofs.Common.{sym, ap, subst, arith, inl, inr}
+-- The parser of parameters without their parentheses reads its language (ISO C11 6.7.6.3).
+use Rattle.std.specs.Prelude.{◌≡◌, ℕ, suc, ◌≤◌, max, Bool, true, false, ◌||◌, if◌then◌else◌, List, [], ◌∷◌, ◌++◌, refl}
+use Rattle.std.proofs.Common.{sym, ◌∙◌, ap, subst, arith}
 use Rattle.c_ast.specs.declared.token.Span.{Span}
 use Rattle.c_ast.specs.Seen.{Seen as Token}
+use Rattle.c_ast.specs.declared.declaration.Decl.{Decl}
 use Rattle.c_ast.specs.declared.punctuator.Punctuator.TheVariants as mark
 use Rattle.c_grammar.specs.Words.{word_of, punctuator}
-use Rattle.c_parse_base.specs.Reading.Answer.{chain}
-use Rattle.c_parse_base.specs.Reading.Good.{Begins, StartsIn, Good}
-use Rattle.c_parse_base.specs.Reading.Languages.{Then, join, once, again, Always, nothing}
-use Rattle.c_parse_base.specs.Laws.Parts.{thens_good, makes_good, either_good}
-use Rattle.c_parse_base.specs.Laws.ChainLaws.{chain_good}
-use Rattle.c_parse_base.specs.Reading.Words.{is, punct, Spot, one_word, among}
-use Rattle.c_parse_base.specs.Laws.WordGood.{good_as, punct_good, punct_begins, spot_begins}
+use Rattle.c_grammar.specs.Parameters as grammar
+use Rattle.c_grammar.specs.Parameters.{Parameter, ParameterList}
+use Rattle.c_parse_base.specs.Reading.Answer.{makes}
+use Rattle.c_parse_base.specs.Reading.Good.{Language, Begins, Good}
+use Rattle.c_parse_base.specs.Reading.Languages.{Then, join, Chain, once, again, Made}
+use Rattle.c_parse_base.specs.Laws.Parts.{thens_good, makes_good}
+use Rattle.c_parse_base.specs.Laws.ChainLaws.{MayTurn, chain_good}
+use Rattle.c_parse_base.specs.Reading.Words.{place_of, Spot, spot, one_word, among}
+use Rattle.c_parse_base.specs.Laws.WordGood.{good_as, punct_good, spot_begins}
 use Rattle.c_parse_base.specs.Reading.TypeWords.{size_at}
 use Rattle.c_parse_base.specs.Reading.TypeNames.{begins_type}
-use Rattle.c_parse_base.specs.Laws.WordListLaws.{is_at, both_false}
+use Rattle.c_parse_base.specs.Laws.WordListLaws.{is_at, both_false, fails_test}
 use Rattle.c_parse_decl.specs.declared.declarators.declared.Declared.{Declared}
-use Rattle.c_parse_decl.specs.declared.parameter_list.parameters_read.ParametersRead.{ParametersRead}
-use Rattle.c_parse_decl.specs.Reading.Parameters.{always, comma, void_of, one_parameter, more_parameters, closed, is_lone, parameter, further, more, close, rest_by, rest}
-use Rattle.c_parse_decl.specs.Laws.Parameters.ParameterWords.{ParameterWord}
-use Rattle.c_parse_decl.specs.Laws.Parameters.ListWords.{CommaWord, Others, MoreWord, CloseWord, RestBy, RestWord, void_is_lone}
-use Rattle.c_parse_decl.specs.Laws.Parameters.Beginnings.{fails_at, fails_words, some_parameter, some_parameter_word, struct_token, some_name}
-use Rattle.c_parse_decl.specs.Laws.Parameters.ParameterLaws.{LowOne, parameter_word_on, parameter_on, parameter_good}
+use Rattle.c_parse_decl.specs.declared.parameter_list.parameters_read.ListRead.{ListRead}
+use Rattle.c_parse_decl.specs.Reading.Parameters.{always, comma, has_name, all_named, decl_of, one_parameter, more_parameters, parameter}
+use Rattle.c_parse_decl.specs.Reading.Parameters.{further, list}
+use Rattle.c_parse_decl.specs.Laws.Parameters.ParameterLaws.{ParameterWord, LowOne, parameter_word_on, parameter_on, declared_of}
+use Rattle.c_parse_decl.specs.Laws.Parameters.ParameterLaws.{parameter_decl, parameter_good, parameter_begins_at}
 
--- the types of the parameters have at most so many levels
-abbrev pub LowTypes : ℕ → ParametersRead → Type 0
-LowTypes d v = v.height ≤ suc d
+-- ---- the languages
 
-pub parameter_begins : Begins ParameterWord []
-parameter_begins = record { value = some_parameter; more = struct_token ∷ some_name ∷ []; whole = some_parameter_word.word }
+abbrev FirstWord : Language Token ListRead
+FirstWord = Made one_parameter ParameterWord
+
+abbrev pub CommaWord : ListRead → Language Token ListRead
+CommaWord l = Made (λ (c : Span × Declared). more_parameters l c.1) (Then (Spot (punctuator mark.Comma)) (λ _. ParameterWord))
+
+-- a list, as the grammar has it
+pub record ListWord (l : ListRead) (w : List Token) : Type 0 where
+  pub height : ℕ
+  pub above : l.height ≡ suc height
+  pub list : ParameterList height l.decls w
+  pub names : l.all_named ≡ all_named l.decls
+
+abbrev pub LowList : ℕ → ListRead → Type 0
+LowList d l = l.height ≤ suc d
+
+-- ---- one, and others behind commas
 
 -- the words that stand behind a parameter
-abbrev pub rest_words : List ℕ
+abbrev rest_words : List ℕ
 rest_words = punctuator mark.Comma ∷ punctuator mark.RightParen ∷ []
 
-rest_off : fails_at parameter_word_on rest_words ≡ true
-unfolding size_at
-rest_off = refl
-
 pub rest_apart : (t : Token) → among rest_words t ≡ true → parameter_on t ≡ false
-rest_apart t e = fails_words parameter_word_on rest_words rest_off (word_of t) e
+unfolding size_at
+rest_apart t e = fails_test parameter_word_on rest_words refl (word_of t) e
 
-comma_rest : (t : Token) → comma t ≡ true → among rest_words t ≡ true
-comma_rest t e = is_at (one_word rest_words) (punctuator mark.Comma) t e
+some_parameter : Begins ParameterWord []
+some_parameter = let p = (parameter_good 0).some in record { value = p.value; more = p.more; whole = p.whole }
 
-close_rest : (t : Token) → is (punctuator mark.RightParen) t ≡ true → among rest_words t ≡ true
-close_rest t e = is_at (one_word rest_words) (punctuator mark.RightParen) t e
+first_good : (d : ℕ) → Good (makes one_parameter (parameter d)) FirstWord (LowList d) begins_type (λ _. parameter_on)
+first_good d = makes_good one_parameter FirstWord (LowList d) (λ _. parameter_on) (parameter_good d)
+    (λ a w m. record { source = a; is = refl; word = m }) (λ l w m. m) (λ a w m low. omega arith) (λ a w m low. omega arith) (λ a x e. e)
 
--- ---- others
-
-comma_high : (l v : ParametersRead) (u : List Token) → CommaWord l v u → l.height ≤ v.height
-comma_high l v u m = omega (arith, ap (λ (v : ParametersRead). v.height) m.is)
-
-pub further_good : (d : ℕ) (l : ParametersRead) → LowTypes d l → Good (further d l) (CommaWord l) (LowTypes d) comma (λ _. parameter_on)
+pub further_good : (d : ℕ) (l : ListRead) → LowList d l → Good (further d l) (CommaWord l) (LowList d) comma (λ _. parameter_on)
 unfolding further
-further_good d l low = makes_good (λ c. more_parameters l c.1) (CommaWord l) (LowTypes d) (λ _. parameter_on)
+further_good d l low = makes_good (λ c. more_parameters l c.1) (CommaWord l) (LowList d) (λ _. parameter_on)
     (thens_good (λ _. parameter d) (λ _. ParameterWord) (λ _. LowOne d) begins_type (λ _ _. parameter_on) (punct_good mark.Comma)
-    (λ _ _. parameter_good d) (λ _. parameter_begins) (λ a x e. refl))
+    (λ _ _. parameter_good d) (λ _. some_parameter) (λ a x e. refl))
     (λ c w m. record { source = c; is = refl; word = m }) (λ b w m. m)
     (λ c w m fits. omega (arith, fits.1, low)) (λ c w m fits. (tt, omega (arith, fits))) (λ a x e. e)
 
-comma_begins : (l : ParametersRead) (t : Token) → comma t ≡ true → Begins (CommaWord l) (t ∷ [])
+comma_begins : (l : ListRead) (t : Token) → comma t ≡ true → Begins (CommaWord l) (t ∷ [])
 comma_begins l t e =
-    let c = spot_begins (punctuator mark.Comma) (λ _. ParameterWord) t e parameter_begins in
+    let c = spot_begins (punctuator mark.Comma) (λ _. ParameterWord) t e some_parameter in
     record { value = more_parameters l c.value.1; more = c.more; whole = record { source = c.value; is = refl; word = c.whole } }
 
-others_high : (a : Declared) (v : ParametersRead) (w : List Token) → Others a v w → suc a.height ≤ v.height
-others_high a v w (once m) = comma_high (one_parameter a) v w m
-others_high a v w (again {a = l} {w = x} {u = u} c m) = omega (arith, others_high a l x c, comma_high l v u m)
+may_comma : (d : ℕ) (l v : ListRead) (u : List Token) → CommaWord l v u → LowList d v → MayTurn (LowList d) always l
+may_comma d l v u m low = record { fits = omega (arith, ap (λ (v : ListRead). v.height) m.is, low); has_room = refl }
 
-module _ (d : ℕ) (a : Declared) (low : LowOne d a) where
-  others_good : Good (chain comma always (further d (one_parameter a)) (further d)) (Others a) (LowTypes d) comma
-      (λ _ t. parameter_on t || comma t)
-  others_good = chain_good comma always (further d) CommaWord (λ l may. further_good d l may.fits) (λ _ t. parameter_on t || comma t)
-      (further_good d (one_parameter a) (omega (arith, low)))
-      comma_begins (λ l v u m fits. record { fits = omega (arith, comma_high l v u m, fits); has_room = refl })
-      (λ l x e. rest_apart x (comma_rest x e)) (λ l x e. both_false (parameter_on x) (comma x) e)
+chain_is_good : (d : ℕ) → Good (list d) (Chain FirstWord CommaWord) (LowList d) begins_type (λ _ t. parameter_on t || comma t)
+unfolding list
+chain_is_good d = chain_good comma always (further d) CommaWord (λ l may. further_good d l may.fits) (λ _ t. parameter_on t || comma t)
+    (first_good d) comma_begins (may_comma d) (λ l x e. rest_apart x (is_at (one_word rest_words) (punctuator mark.Comma) x e))
+    (λ l x e. both_false (parameter_on x) (comma x) e)
 
-  pub more_good : Good (more d a) (MoreWord a) (LowTypes d) comma nothing
-  unfolding more
-  more_good = makes_good closed (MoreWord a) (LowTypes d) nothing
-      (thens_good (λ _. punct mark.RightParen) (λ _. Spot (punctuator mark.RightParen)) (λ _. Always) (is (punctuator mark.RightParen))
-      (λ _. nothing)
-      others_good (λ _ _. punct_good mark.RightParen) (λ _. punct_begins mark.RightParen) (λ l x e. close_apart x e))
-      (λ c w m. record { source = c; is = refl; word = m }) (λ b w m. m) (λ c w m fits. fits.0) (λ c w m fits. (fits, tt)) (λ c x e. refl)
-    where
-      or_false : (p q : Bool) → p ≡ false → q ≡ false → (p || q) ≡ false
-      or_false false q e h = h
-      or_false true q e h = cc
+-- ---- into the grammar, and back
 
-      close_apart : (x : Token) → is (punctuator mark.RightParen) x ≡ true → (parameter_on x || comma x) ≡ false
-      close_apart x e = or_false (parameter_on x) (comma x) (rest_apart x (close_rest x e))
-          (is_at (λ w. w == punctuator mark.Comma) (punctuator mark.RightParen) x e)
+one_named : (b : Bool) → b ≡ (if b then true else false)
+one_named true = refl
+one_named false = refl
 
-  close_good : Good (close a) (CloseWord a) (LowTypes d) (is (punctuator mark.RightParen)) nothing
-  unfolding close
-  close_good = makes_good (λ p. closed (one_parameter a, p)) (CloseWord a) (LowTypes d) nothing (punct_good mark.RightParen)
-      (λ c w m. record { source = c; is = refl; word = m }) (λ b w m. m) (λ c w m fits. omega (arith, low)) (λ c w m fits. tt)
-      (λ c x e. refl)
+named_step : (m n p b : Bool) → m ≡ (if n then p else false) → (if b then m else false) ≡ (if (if b then n else false) then p else false)
+named_step m n p true e = e
+named_step m n p false e = refl
 
-  more_begins : (t : Token) → comma t ≡ true → Begins (MoreWord a) (t ∷ [])
-  more_begins t e =
-      let c = comma_begins (one_parameter a) t e in
-      let r = punct_begins mark.RightParen in
-      record {
-        value = closed (c.value, r.value);
-        more = c.more ++ r.more;
-        whole = record { source = (c.value, r.value); is = refl; word = join (once c.whole) r.whole };
-      }
+named_append : (ds : List Decl) (d : Decl) → all_named (ds ++ d ∷ []) ≡ (if all_named ds then has_name d.name else false)
+named_append [] d = sym (one_named (has_name d.name))
+named_append (x ∷ ds) d = named_step (all_named (ds ++ d ∷ [])) (all_named ds) (has_name d.name) (has_name x.name) (named_append ds d)
 
-  rest_by_good : (b : Bool) → Good (rest_by b d a) (RestBy b a) (LowTypes d) (among rest_words) nothing
-  rest_by_good true = good_as (MoreWord a) (LowTypes d) (among rest_words) more_good (λ v w m. m) (λ v w m. m) (λ v w m h. h)
-      (λ v w m h. h) comma_rest
-  rest_by_good false = either_good comma true (among rest_words) (λ r. more_good) close_good
-      more_begins (λ v w m h. refl) (more_good.starts) (λ x e. is_at (λ w. w == punctuator mark.Comma) (punctuator mark.RightParen) x e)
-      comma_rest close_rest
+comma_into : (l : ListRead) (c : Span × Declared) (w u : List Token) → ListWord l w →
+    Then (Spot (punctuator mark.Comma)) (λ _. ParameterWord) c u → ListWord (more_parameters l c.1) (w ++ u)
+comma_into l c w u m (join {b = a} (spot t e) p) = record {
+  height = max m.height a.height;
+  above = omega (arith, m.above);
+  list = grammar.more_parameter t m.list e p;
+  names = ap (λ b. if b then has_name a.name else false) m.names ∙ sym (named_append l.decls (decl_of a));
+}
 
-  -- what stands behind the first parameter is read
-  pub rest_good : Good (rest d a) (RestWord a) (LowTypes d) (among rest_words) nothing
-  unfolding rest
-  rest_good = rest_by_good (is_lone a)
+list_into : (l : ListRead) (w : List Token) → Chain FirstWord CommaWord l w → ListWord l w
+list_into l w (once m) = subst (λ l. ListWord l w) m.is (record {
+  height = m.source.height;
+  above = refl;
+  list = grammar.one_parameter m.word;
+  names = one_named (has_name m.source.name);
+})
+list_into l w (again {a = b} {w = x} {u = u} c m) = subst (λ l. ListWord l (x ++ u)) m.is (comma_into b m.source x u (list_into b x c) m.word)
 
-more_high : (a : Declared) (v : ParametersRead) (w : List Token) → MoreWord a v w → suc a.height ≤ v.height
-more_high a v w m = omega (arith, ap (λ (v : ParametersRead). v.height) m.is, go m.source w m.word)
+abbrev pub listed_of : List Decl → ℕ → ListRead
+listed_of ds h = record { decls = ds; height = suc h; all_named = all_named ds }
+
+read_again : (h : ℕ) (d : Decl) (w : List Token) → Parameter h d w → ParameterWord (declared_of h d) w
+read_again h d w m = subst (λ d. Parameter h d w) (sym (parameter_decl h d w m)) m
+
+list_back : (h : ℕ) (ds : List Decl) (w : List Token) → ParameterList h ds w → Chain FirstWord CommaWord (listed_of ds h) w
+list_back h ds w (grammar.one_parameter {d = d} m) = once (record {
+  source = declared_of h d;
+  is = ap (λ d. record { decls = d ∷ []; height = suc h; all_named = has_name d.name }) (parameter_decl h d w m)
+      ∙ ap (λ b. record { decls = d ∷ []; height = suc h; all_named = b }) (one_named (has_name d.name));
+  word = read_again h d w m;
+})
+list_back h ds w (grammar.more_parameter {h = i} {k = k} {ds = before} {d = d} {u = u} {v = v} c l e m) =
+    again (list_back i before u l) (record {
+      source = (place_of c, declared_of k d);
+      is = same;
+      word = join (spot c e) (read_again k d v m);
+    })
   where
-    go : (c : ParametersRead × Span) (w : List Token) → Then (Others a) (λ _. Spot (punctuator mark.RightParen)) c w →
-        suc a.height ≤ c.0.height
-    go c w (join {a = l} {u = x} o r) = others_high a l x o
+    same : more_parameters (listed_of before i) (declared_of k d) ≡ listed_of (before ++ d ∷ []) (max i k)
+    same =
+        let high : max (suc i) (suc k) ≡ suc (max i k) = omega arith in
+        ap (λ d. record { decls = before ++ d ∷ []; height = max (suc i) (suc k); all_named = if all_named before then has_name d.name else false })
+        (parameter_decl k d v m)
+        ∙ ap (λ n. record { decls = before ++ d ∷ []; height = n; all_named = if all_named before then has_name d.name else false }) high
+        ∙ ap (λ b. record { decls = before ++ d ∷ []; height = suc (max i k); all_named = b }) (sym (named_append before d))
 
-rest_by_high : (b : Bool) (a : Declared) (v : ParametersRead) (w : List Token) → RestBy b a v w → suc a.height ≤ v.height
-rest_by_high true a v w m = more_high a v w m
-rest_by_high false a v w (inl m) = more_high a v w m
-rest_by_high false a v w (inr m) = omega (arith, ap (λ (v : ParametersRead). v.height) m.is)
+list_out : (l : ListRead) (w : List Token) → ListWord l w → Chain FirstWord CommaWord l w
+list_out l w m = subst (λ l. Chain FirstWord CommaWord l w)
+    (ap (λ h. record { decls = l.decls; height = h; all_named = all_named l.decls }) (sym m.above)
+    ∙ ap (λ b. record { decls = l.decls; height = l.height; all_named = b }) (sym m.names))
+    (list_back m.height l.decls w m.list)
 
--- the levels of the first parameter are among those of all
-pub rest_high : (a : Declared) (v : ParametersRead) (w : List Token) → RestWord a v w → suc a.height ≤ v.height
-rest_high a = rest_by_high (is_lone a) a
+-- ---- a list is read
 
-pub rest_begins : (a : Declared) → Begins (RestWord a) []
-rest_begins a = let b = (rest_good a.height a (omega arith)).some in record { value = b.value; more = b.more; whole = b.whole }
+pub list_good : (d : ℕ) → Good (list d) ListWord (LowList d) begins_type (λ _ t. parameter_on t || comma t)
+list_good d = good_as ListWord (LowList d) begins_type (chain_is_good d) list_into list_out (λ v w m h. h) (λ v w m h. h) (λ x h. h)
 
--- behind the word `void` alone a comma comes first
-pub lone_starts : (v : Span) (r : ParametersRead) (w : List Token) → RestWord (void_of v) r w → StartsIn comma w
-lone_starts v r w m = (more_good 0 (void_of v) (omega arith)).starts r w (subst (λ b. RestBy b (void_of v) r w) (void_is_lone v) m)
-
-pub lone_begins : (v : Span) (t : Token) → comma t ≡ true → Begins (RestWord (void_of v)) (t ∷ [])
-lone_begins v t e =
-    let b = more_begins 0 (void_of v) (omega arith) t e in
-    record {
-      value = b.value;
-      more = b.more;
-      whole = subst (λ l. RestBy l (void_of v) b.value ((t ∷ []) ++ b.more))
-          (sym (void_is_lone v)) b.whole;
-    }
+pub list_begins_at : (t : Token) → begins_type t ≡ true → Begins ListWord (t ∷ [])
+list_begins_at t e = let p = parameter_begins_at t e in record {
+  value = one_parameter p.value;
+  more = p.more;
+  whole = list_into (one_parameter p.value) ((t ∷ []) ++ p.more) (once (record { source = p.value; is = refl; word = p.whole }));
+}

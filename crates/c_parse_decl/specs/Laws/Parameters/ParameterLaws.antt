@@ -1,40 +1,66 @@
--- The parser of one parameter reads its language.
-use Rattle.std.specs.Prelude.{◌≡◌, ℕ, suc, ◌<◌, Bool, true, false, nat_lt, ◌==◌, ◌||◌, List, [], ◌∷◌, is_some, refl}
-use Rattle.std.proofs.Common.{◌∙◌, ap, arith, inl, inr}
+-- The parser of one parameter reads its language: a type, perhaps a name, perhaps brackets (ISO C11 6.7.6.3).
+use Rattle.std.specs.Prelude.{◌≡◌, ℕ, suc, Bool, true, false, ◌==◌, ◌||◌, List, [], ◌∷◌, ◌++◌, Option, None, is_some, refl}
+use Rattle.std.proofs.Common.{sym, ◌∙◌, ap, subst, append_assoc, append-nil, arith}
 use Rattle.c_ast.specs.declared.token.Span.{Span}
 use Rattle.c_ast.specs.Seen.{Seen as Token}
+use Rattle.c_ast.specs.declared.expr.CType.{CType}
+use Rattle.c_ast.specs.declared.expr.Expr.{Expr}
+use Rattle.c_ast.specs.declared.declaration.Decl.{Decl}
 use Rattle.c_ast.specs.declared.keyword.Keyword.TheVariants as key
 use Rattle.c_ast.specs.declared.punctuator.Punctuator.TheVariants as mark
-use Rattle.c_grammar.specs.Words.{word_of, keyword, punctuator, a_name}
+use Rattle.c_grammar.specs.Words.{word_of, keyword, punctuator, a_name, span_of}
+use Rattle.c_grammar.specs.Types.{TypeName, type_name}
+use Rattle.c_grammar.specs.Declarators.{arrays, Brackets, no_bracket, bracket as more_brackets}
+use Rattle.c_grammar.specs.Parameters as grammar
+use Rattle.c_grammar.specs.Parameters.{Parameter, ParameterName}
+use Rattle.c_parse_base.specs.declared.words.Named.{Named}
 use Rattle.c_parse_base.specs.Reading.Good.{Language, Begins, StartsIn, Good}
-use Rattle.c_parse_base.specs.Reading.Languages.{alone, followed, Always, nothing}
-use Rattle.c_parse_base.specs.Laws.Parts.{makes_good, either_good}
-use Rattle.c_parse_base.specs.Laws.OptionalLaws.{optional_good}
-use Rattle.c_parse_base.specs.Laws.StartingLaws.{starting_good}
-use Rattle.c_parse_base.specs.Reading.Words.{is, place_of, Naming, one_word, among}
-use Rattle.c_parse_base.specs.Laws.WordGood.{good_as, good_on}
+use Rattle.c_parse_base.specs.Reading.Languages.{Perhaps, alone, followed, Made, Always, nothing}
+use Rattle.c_parse_base.specs.Reading.Spans.{join_spans, Starting}
+use Rattle.c_parse_base.specs.Reading.Words.{place_of, Naming, naming}
 use Rattle.c_parse_base.specs.Reading.TypeWords.{size_at}
-use Rattle.c_parse_base.specs.Reading.TypeNames as types
 use Rattle.c_parse_base.specs.Reading.TypeNames.{begins_type}
-use Rattle.c_parse_base.specs.Laws.TypeNameLaws.{type_good}
-use Rattle.c_parse_base.specs.Laws.NameLaws.{name_good}
-use Rattle.c_parse_base.specs.Laws.StarLaws.{stars_good, stars_begin_at}
-use Rattle.c_parse_base.specs.Laws.WordListLaws.{is_at, is_not_first, apart_words, within_words, both_false}
+use Rattle.c_parse_base.specs.declared.type_read.TypeRead.{TypeRead}
+use Rattle.c_parse_base.specs.Laws.Parts.{makes_good}
+use Rattle.c_parse_base.specs.Laws.OptionalLaws.{optional_good}
+use Rattle.c_parse_base.specs.Laws.SpanLaws.{span_append}
+use Rattle.c_parse_base.specs.Laws.StartingLaws.{starting_good}
+use Rattle.c_parse_base.specs.Laws.WordGood.{good_as}
+use Rattle.c_parse_base.specs.Laws.TypeNameLaws.{TypeWord, type_good}
+use Rattle.c_parse_base.specs.Laws.NameLaws.{name_word, name_good, name_begins_at}
+use Rattle.c_parse_base.specs.Laws.WordListLaws.{is_at, both_false}
 use Rattle.c_parse_base.specs.Laws.Depths.{below_is, is_below}
+use Rattle.c_parse_expr.specs.Laws.TypeBegins.{type_begins_at}
 use Rattle.c_parse_decl.specs.declared.declarators.declared.Declared.{Declared}
-use Rattle.c_parse_decl.specs.Reading.Declarators.{BracketedWord, brackets_behind, bracketed}
 use Rattle.c_parse_decl.specs.Reading.Declarators as declarators
-use Rattle.c_parse_decl.specs.Laws.Declarators.BracketLaws.{bracketed_good, bracketed_begins_at}
-use Rattle.c_parse_decl.specs.Reading.Parameters.{OneReader, always, has_room, bracket, star, is_name, unnamed, named, typed, name_behind, nameable, bracketable, parameter, void_of, starred_void, named_void, void_parameter}
-use Rattle.c_parse_decl.specs.Laws.Parameters.ParameterWords.{TypedWord, NameBehind, Nameable, Bracketable, ParameterWord, SomeBrackets, none, some, some_brackets, parameter_into, parameter_out}
-use Rattle.c_parse_decl.specs.Laws.Parameters.VoidWords.{StarredVoid, NamedVoid, VoidWord}
-use Rattle.c_parse_decl.specs.Laws.Parameters.Beginnings.{name_first, name_begins_at}
+use Rattle.c_parse_decl.specs.Reading.Declarators.{BracketedWord, brackets_behind, bracketed}
+use Rattle.c_parse_decl.specs.Laws.Declarators.BracketLaws.{bracketed_good, bracketed_begins_at, bracketed_high, not_empty}
+use Rattle.c_parse_decl.specs.Reading.Parameters.{always, has_room, bracket, is_name, unnamed, named, typed, name_behind, nameable}
+use Rattle.c_parse_decl.specs.Reading.Parameters.{parameter, decl_of}
+
+-- ---- the languages
+
+abbrev TypedWord : Language Token Declared
+TypedWord = Made unnamed (Starting TypeWord)
+
+abbrev NameBehind : Declared → Language Token Declared
+NameBehind a = Made (named a) Naming
+
+abbrev Nameable : Language Token Declared
+Nameable = Perhaps TypedWord NameBehind
+
+abbrev Parts : Language Token Declared
+Parts = Perhaps Nameable BracketedWord
+
+-- one parameter, as the grammar has it
+abbrev pub ParameterWord : Language Token Declared
+ParameterWord a w = Parameter a.height (decl_of a) w
 
 abbrev pub LowOne : ℕ → Declared → Type 0
 LowOne = declarators.Low
 
 -- the words that go on behind a type name
-abbrev pub type_word_on : ℕ → Bool
+abbrev type_word_on : ℕ → Bool
 type_word_on w = (is_some (size_at w) || (w == keyword key.Int)) || (w == punctuator mark.Star)
 
 -- the words that go on behind a parameter
@@ -47,7 +73,9 @@ type_on t = type_word_on (word_of t)
 abbrev pub parameter_on : Token → Bool
 parameter_on t = parameter_word_on (word_of t)
 
-name_off : type_word_on 1 ≡ false
+-- ---- the parsers of the parts
+
+name_off : type_word_on a_name ≡ false
 unfolding size_at
 name_off = refl
 
@@ -64,148 +92,191 @@ name_behind_good : (d : ℕ) (a : Declared) → LowOne d a → Good (name_behind
 unfolding name_behind
 name_behind_good d a low = makes_good (named a) (NameBehind a) (LowOne d) nothing
     (good_as Naming Always is_name name_good (λ a w m. m) (λ a w m. m) (λ a w m h. h) (λ a w m h. h)
-    (λ x h. name_first (place_of x) x.kind h))
+    (λ x h. ap (λ w. w == a_name) (name_word x h)))
     (λ c w m. record { source = c; is = refl; word = m }) (λ b w m. m) (λ c w m fits. low) (λ c w m fits. tt) (λ c x h. refl)
 
-name_keeps : (a b : Declared) (u : List Token) → NameBehind a b u → a.height ≡ b.height
-name_keeps a b u m = ap (λ (b : Declared). b.height) m.is
+name_at : (a : Declared) (t : Token) → is_name t ≡ true → Begins (NameBehind a) (t ∷ [])
+name_at a t e = let b = name_begins_at t e in record {
+  value = named a b.value;
+  more = b.more;
+  whole = record { source = b.value; is = refl; word = b.whole };
+}
 
-bracket_deeper : (a b : Declared) (u : List Token) → BracketedWord a b u → a.height < b.height
-bracket_deeper a b u (brackets_behind {h = h} {lengths = lengths} br ne) = go (some_brackets a.height h lengths u br)
-  where
-    go : SomeBrackets a.height h lengths u → a.height < h
-    go (none e f g) = absurd (ne f)
-    go (some s f high) = high
+nameable_good : (d : ℕ) → Good (nameable d) Nameable (LowOne d) begins_type (λ _ t. is_name t || type_on t)
+unfolding nameable
+nameable_good d = optional_good is_name always always name_behind NameBehind (λ _ t. is_name t || type_on t) (typed_good d)
+    (λ a may. name_behind_good d a may.fits) (λ a x h e. name_at a x e)
+    (λ a b u m low. record { fits = omega (arith, ap (λ (b : Declared). b.height) m.is); is_allowed = refl; has_room = refl })
+    (λ a x e. is_at type_word_on a_name x e ∙ name_off)
+    (λ a x e. let n = both_false (is_name x) (type_on x) e in (n.1, n.0, refl))
 
-module _ (d : ℕ) {p : OneReader} {L : Language Token Declared} {first : Token → Bool} (on : Token → Bool)
-    (g : Good p L (LowOne d) first (λ _. on)) where
-  nameable_good : ((x : Token) → is_name x ≡ true → on x ≡ false) →
-      Good (nameable p) (Nameable L) (LowOne d) first (λ _ t. is_name t || on t)
-  nameable_good apart = optional_good is_name always always name_behind NameBehind (λ _ t. is_name t || on t) g
-      (λ a may. name_behind_good d a may.fits)
-      (λ a x h e. name_begins_at a x e) (λ a b u m low. record {
-        fits = omega (arith, name_keeps a b u m);
-        is_allowed = refl;
-        has_room = refl;
-      })
-      (λ a x e. apart x e) (λ a x e. let n = both_false (is_name x) (on x) e in (n.1, n.0, refl))
-
-  bracketable_good : ((x : Token) → bracket x ≡ true → on x ≡ false) →
-      Good (bracketable d p) (Bracketable L) (LowOne d) first (λ _ t. bracket t || on t)
-  bracketable_good apart = optional_good bracket always (has_room d) (bracketed d) BracketedWord (λ _ t. bracket t || on t) g
-      (λ a may. bracketed_good d a (below_is a.height d may.has_room))
-      (λ a x h e. bracketed_begins_at a x e)
-      (λ a b u m low. let high : a.height < b.height = bracket_deeper a b u m in
-      record { fits = omega arith; is_allowed = refl; has_room = is_below a.height d (omega arith) })
-      (λ a x e. apart x e) (λ a x e. let n = both_false (bracket x) (on x) e in (n.1, n.0, n.0))
-
--- a parameter is read
-pub parameter_good : (d : ℕ) → Good (parameter d) ParameterWord (LowOne d) begins_type (λ _. parameter_on)
+parts_good : (d : ℕ) → Good (parameter d) Parts (LowOne d) begins_type (λ _. parameter_on)
 unfolding parameter
-parameter_good d = good_as ParameterWord (LowOne d) begins_type
-    (bracketable_good d (λ t. is_name t || type_on t)
-    (nameable_good d type_on (typed_good d) (λ x e. is_at type_word_on 1 x e ∙ name_off))
-    (λ x e. is_at (λ w. (w == a_name) || type_word_on w) (punctuator mark.LeftBracket) x e ∙ bracket_off))
-    parameter_into parameter_out (λ v w m h. h) (λ v w m h. h) (λ x h. h)
+parts_good d = optional_good bracket always (has_room d) (bracketed d) BracketedWord (λ _. parameter_on) (nameable_good d)
+    (λ a may. bracketed_good d a (below_is a.height d may.has_room)) (λ a x h e. bracketed_begins_at a x e)
+    (λ a b u m low. let high = bracketed_high a b u m in
+    record { fits = omega arith; is_allowed = refl; has_room = is_below a.height d (omega arith) })
+    (λ a x e. is_at (λ w. (w == a_name) || type_word_on w) (punctuator mark.LeftBracket) x e ∙ bracket_off)
+    (λ a x e. let n = both_false (bracket x) (is_name x || type_on x) e in (n.1, n.0, n.0))
 
--- ---- behind the word `void`
+-- ---- into the grammar
 
-starred_good : (d : ℕ) (v : Span) → 0 < d → Good (starred_void d v) (StarredVoid v) (LowOne d) star (λ _. star)
-unfolding starred_void
-starred_good d v h = makes_good (λ r. unnamed (v.start, r)) (StarredVoid v) (LowOne d) (λ _. star) (stars_good d (types.void_of v) h)
-    (λ c w m. record { source = c; is = refl; word = m }) (λ b w m. m) (λ c w m fits. fits) (λ c w m fits. fits) (λ c x h. h)
+-- a type, and perhaps a name
+record Unbracketed (a : Declared) (w : List Token) : Type 0 where
+  type_part : List Token
+  name_part : List Token
+  parts : w ≡ type_part ++ name_part
+  type : TypeName a.height a.ty type_part
+  name : ParameterName a.name name_part
+  span : a.span ≡ span_of w
 
-star_part_good : (d : ℕ) (v : Span) → 0 < d → Good (bracketable d (nameable (starred_void d v))) (Bracketable (Nameable (StarredVoid v)))
-    (LowOne d) star (λ _ t. bracket t || (is_name t || star t))
-star_part_good d v h = bracketable_good d (λ t. is_name t || star t)
-    (nameable_good d star (starred_good d v h) (λ x e. is_at (λ w. w == punctuator mark.Star) 1 x e))
-    (λ x e. is_at (λ w. (w == a_name) || (w == punctuator mark.Star)) (punctuator mark.LeftBracket) x e)
+abbrev anything : Token → Bool
+anything t = true
 
-name_part_good : (d : ℕ) (v : Span) → Good (bracketable d (name_behind (void_of v))) (Bracketable (NameBehind (void_of v)))
-    (LowOne d) is_name (λ _ t. bracket t || false)
-name_part_good d v = bracketable_good d (λ _. false) (name_behind_good d (void_of v) (omega arith)) (λ x e. refl)
+one_token : (t : Token) → StartsIn anything (t ∷ [])
+one_token t = record { head = t; tail = []; parts = refl; is_first = refl }
 
--- fewer words go on behind them than behind a type
-less_on : (l n s m : Bool) → (l || (n || (m || s))) ≡ false → (l || (n || s)) ≡ false
-less_on false false false m e = refl
-less_on false false true false e = cc
-less_on false false true true e = cc
-less_on false true s m e = cc
-less_on true n s m e = cc
+type_starts : (n : ℕ) (ty : CType) (w : List Token) → TypeName n ty w → StartsIn begins_type w
+type_starts n ty w m = (type_good 0).starts (record { ty = ty; height = n; end = (span_of w).end }) w (record { name = m; end = refl })
 
-least_on : (l n : Bool) → (l || n) ≡ false → (l || false) ≡ false
-least_on false n e = refl
-least_on true n e = cc
+type_span : (c : ℕ × TypeRead) (w : List Token) → Starting TypeWord c w → (unnamed c).span ≡ span_of w
+type_span c w s = ap (λ start. record { start = start; end = c.1.end }) s.start
+    ∙ ap (λ end. record { start = (span_of w).start; end = end }) s.word.end
 
-starred_high : (v : Span) (a : Declared) (w : List Token) → StarredVoid v a w → 0 < a.height
-starred_high v a w m = omega (arith, m.word.height, ap (λ (a : Declared). a.height) m.is)
+unnamed_into : (c : ℕ × TypeRead) (w : List Token) → Starting TypeWord c w → Unbracketed (unnamed c) w
+unnamed_into c w s = record {
+  type_part = w;
+  name_part = [];
+  parts = sym (append-nil w);
+  type = s.word.name;
+  name = grammar.unnamed;
+  span = type_span c w s;
+}
 
-nameable_high : (v : Span) (a : Declared) (w : List Token) → Nameable (StarredVoid v) a w → 0 < a.height
-nameable_high v a w (alone m) = starred_high v a w m
-nameable_high v a w (followed {a = b} {w = x} {u = u} m k) = omega (arith, starred_high v b x m, name_keeps b a u k)
+named_into : (c : ℕ × TypeRead) (n : Named) (w u : List Token) → Starting TypeWord c w → Naming n u →
+    Unbracketed (named (unnamed c) n) (w ++ u)
+named_into c n w u s (naming t e) = record {
+  type_part = w;
+  name_part = t ∷ [];
+  parts = refl;
+  type = s.word.name;
+  name = grammar.named t e;
+  span = ap (λ s. join_spans s (place_of t)) (type_span c w s)
+      ∙ sym (span_append begins_type anything w (t ∷ []) (type_starts c.1.height c.1.ty w s.word.name) (one_token t));
+}
 
-star_part_high : (v : Span) (a : Declared) (w : List Token) → Bracketable (Nameable (StarredVoid v)) a w → 0 < a.height
-star_part_high v a w (alone m) = nameable_high v a w m
-star_part_high v a w (followed {a = b} {w = x} {u = u} m k) = omega (arith, bracket_deeper b a u k)
+nameable_into : (a : Declared) (w : List Token) → Nameable a w → Unbracketed a w
+nameable_into a w (alone m) = subst (λ a. Unbracketed a w) m.is (unnamed_into m.source w m.word)
+nameable_into a w (followed {a = b} {w = x} {u = u} m k) =
+    subst (λ a. Unbracketed a (x ++ u)) (ap (λ b. named b k.source) m.is ∙ k.is)
+    (named_into m.source k.source x u m.word k.word)
 
-star_part_begins : (v : Span) (t : Token) → star t ≡ true → Begins (Bracketable (Nameable (StarredVoid v))) (t ∷ [])
-star_part_begins v t e =
-    let b = stars_begin_at (types.void_of v) t e in
-    record {
-      value = unnamed (v.start, b.value);
-      more = b.more;
-      whole = alone (alone (record { source = b.value; is = refl; word = b.whole }));
-    }
+abbrev parameter_of : List ℕ → CType → Span → Decl
+parameter_of name ty span = record { name = name; ty = ty; init = None; span = span }
 
--- the words with which the rest of such a parameter begins
-abbrev plain_words : List ℕ
-plain_words = punctuator mark.LeftBracket ∷ a_name ∷ []
-
-abbrev pub void_words : List ℕ
-void_words = punctuator mark.Star ∷ punctuator mark.LeftBracket ∷ a_name ∷ []
-
-name_among : (t : Token) → is_name t ≡ true → among plain_words t ≡ true
-name_among t e = is_at (one_word plain_words) 1 t e
-
-bracket_starts : (a b : Declared) (w : List Token) → BracketedWord a b w → StartsIn bracket w
-bracket_starts a b w m = (bracketed_good (suc a.height) a (omega arith)).starts b w m
-
-named_void_good : (d : ℕ) (v : Span) → Good (named_void d v) (NamedVoid v) (LowOne d) (among plain_words) (λ _. parameter_on)
-unfolding named_void
-named_void_good d v = either_good bracket (nat_lt 0 d) (among plain_words)
-    (λ r. good_on (λ _. parameter_on) (bracketed_good d (void_of v) (below_is 0 d r))
-    (λ a x e. (both_false (bracket x) (is_name x || type_on x) e).0))
-    (good_on (λ _. parameter_on) (name_part_good d v) (λ a x e. least_on (bracket x) (is_name x || type_on x) e))
-    (bracketed_begins_at (void_of v)) (λ a w m fits. is_below 0 d (omega (arith, bracket_deeper (void_of v) a w m)))
-    (bracket_starts (void_of v))
-    (λ x e. is_at (λ w. w == punctuator mark.LeftBracket) 1 x e)
-    (λ x e. is_at (one_word plain_words) (punctuator mark.LeftBracket) x e) name_among
-
--- the rest of a parameter behind its base `void` is read
-pub void_parameter_good : (d : ℕ) (v : Span) → Good (void_parameter d v) (VoidWord v) (LowOne d) (among void_words) (λ _. parameter_on)
-unfolding void_parameter
-void_parameter_good d v = either_good star (nat_lt 0 d) (among void_words)
-    (λ r. good_on (λ _. parameter_on) (star_part_good d v (below_is 0 d r))
-    (λ a x e. less_on (bracket x) (is_name x) (star x) (is_some (size_at (word_of x)) || is (keyword key.Int) x) e))
-    (named_void_good d v) (star_part_begins v) (λ a w m fits. is_below 0 d (omega (arith, star_part_high v a w m)))
-    (λ a w m. (star_part_good 1 v (omega arith)).starts a w m)
-    (λ x e. is_not_first (punctuator mark.Star) (word_of x) (apart_words plain_words (punctuator mark.Star ∷ []) refl (word_of x) e))
-    (λ x e. is_at (one_word void_words) (punctuator mark.Star) x e) (λ x e. within_words plain_words void_words refl (word_of x) e)
-
--- some rest begins with each of these words
-pub void_begins : (v : Span) (t : Token) → among void_words t ≡ true → Begins (VoidWord v) (t ∷ [])
-void_begins v t e = by_star (star t) refl e
+-- brackets, if there are any, behind a type and a name
+brackets_into : (a : Declared) (h : ℕ) (lengths : List (Option Expr)) (w u : List Token) → Unbracketed a w → Brackets a.height h lengths u →
+    Parameter h (parameter_of a.name (arrays a.ty lengths) (span_of (w ++ u))) (w ++ u)
+brackets_into a h lengths w u m b =
+    subst (λ w. Parameter h (parameter_of a.name (arrays a.ty lengths) (span_of (w ++ u))) (w ++ u)) (sym m.parts)
+    (go a.ty a.height m.type_part m.type b)
   where
-    by_name : (z : Bool) → is_name t ≡ z → (z || false) ≡ true → Begins (VoidWord v) (t ∷ [])
-    by_name true h e = let b = name_begins_at (void_of v) t h in
-        record { value = b.value; more = b.more; whole = inr (inr (alone b.whole)) }
-    by_name false h e = cc
+    go : (ty : CType) (n : ℕ) (x : List Token) → TypeName n ty x → Brackets n h lengths u →
+        Parameter h (parameter_of a.name (arrays ty lengths) (span_of ((x ++ m.name_part) ++ u))) ((x ++ m.name_part) ++ u)
+    go ty n x (type_name {u = y} {v = z} bs ss) b =
+        subst (λ w. Parameter h (parameter_of a.name (arrays ty lengths) (span_of w)) w)
+        (sym (ap (λ w. w ++ u) (append_assoc y z m.name_part) ∙ append_assoc y (z ++ m.name_part) u
+        ∙ ap (λ w. y ++ w) (append_assoc z m.name_part u)))
+        (grammar.parameter bs ss m.name b)
 
-    by_bracket : (y : Bool) → bracket t ≡ y → (y || (is_name t || false)) ≡ true → Begins (VoidWord v) (t ∷ [])
-    by_bracket true h e = let b = bracketed_begins_at (void_of v) t h in
-        record { value = b.value; more = b.more; whole = inr (inl b.whole) }
-    by_bracket false h e = by_name (is_name t) refl e
+unbracketed_into : (a : Declared) (w : List Token) → Unbracketed a w → ParameterWord a w
+unfolding arrays
+unbracketed_into a w m =
+    subst (λ s. Parameter a.height (parameter_of a.name a.ty s) w) (sym m.span)
+    (subst (λ w. Parameter a.height (parameter_of a.name a.ty (span_of w)) w) (append-nil w) (brackets_into a a.height [] w [] m no_bracket))
 
-    by_star : (x : Bool) → star t ≡ x → (x || (bracket t || (is_name t || false))) ≡ true → Begins (VoidWord v) (t ∷ [])
-    by_star true h e = let b = star_part_begins v t h in record { value = b.value; more = b.more; whole = inl b.whole }
-    by_star false h e = by_bracket (bracket t) refl e
+bracketed_into : (a b : Declared) (w u : List Token) → Unbracketed a w → StartsIn begins_type w → StartsIn bracket u →
+    BracketedWord a b u → ParameterWord b (w ++ u)
+bracketed_into a b w u m s r (brackets_behind {h = h} {lengths = lengths} br ne) =
+    subst (λ s. Parameter h (parameter_of a.name (arrays a.ty lengths) s) (w ++ u))
+    (span_append begins_type bracket w u s r ∙ ap (λ s. join_spans s (span_of u)) (sym m.span))
+    (brackets_into a h lengths w u m br)
+
+bracket_starts : (a b : Declared) (u : List Token) → BracketedWord a b u → StartsIn bracket u
+bracket_starts a b u k = (bracketed_good (suc a.height) a (omega arith)).starts b u k
+
+parameter_into : (a : Declared) (w : List Token) → Parts a w → ParameterWord a w
+parameter_into a w (alone m) = unbracketed_into a w (nameable_into a w m)
+parameter_into a w (followed {a = b} {w = x} {u = u} m k) =
+    bracketed_into b a x u (nameable_into b x m) ((nameable_good 0).starts b x m) (bracket_starts b a u k) k
+
+-- ---- and back
+
+abbrev declared : List ℕ → CType → ℕ → Span → Declared
+declared name ty height span = record { name = name; ty = ty; height = height; span = span }
+
+typed_out : (n : ℕ) (ty : CType) (w : List Token) → TypeName n ty w → TypedWord (declared [] ty n (span_of w)) w
+typed_out n ty w m = record {
+  source = ((span_of w).start, record { ty = ty; height = n; end = (span_of w).end });
+  is = refl;
+  word = record { word = record { name = m; end = refl }; start = refl };
+}
+
+-- a name, if there is one, behind a type
+name_out : (n : ℕ) (ty : CType) (name : List ℕ) (w u : List Token) → TypeName n ty w → ParameterName name u →
+    Nameable (declared name ty n (span_of (w ++ u))) (w ++ u)
+name_out n ty name w u m grammar.unnamed =
+    subst (λ w. Nameable (declared [] ty n (span_of w)) w) (sym (append-nil w)) (alone (typed_out n ty w m))
+name_out n ty name w u m (grammar.named t e) =
+    subst (λ s. Nameable (declared name ty n s) (w ++ t ∷ []))
+    (sym (span_append begins_type anything w (t ∷ []) (type_starts n ty w m) (one_token t)))
+    (followed (typed_out n ty w m) (record { source = record { name = name; place = place_of t }; is = refl; word = naming t e }))
+
+bracketed_out : (name : List ℕ) (ty to : CType) (n h : ℕ) (w u : List Token) → Nameable (declared name ty n (span_of w)) w →
+    BracketedWord (declared name ty n (span_of w)) (declared name to h (join_spans (span_of w) (span_of u))) u →
+    Parts (declared name to h (span_of (w ++ u))) (w ++ u)
+bracketed_out name ty to n h w u m k =
+    subst (λ s. Parts (declared name to h s) (w ++ u))
+    (sym (span_append begins_type bracket w u ((nameable_good 0).starts (declared name ty n (span_of w)) w m)
+    (bracket_starts (declared name ty n (span_of w)) (declared name to h (join_spans (span_of w) (span_of u))) u k)))
+    (followed m k)
+
+-- brackets, if there are any, behind them
+brackets_out : (name : List ℕ) (ty : CType) (n h : ℕ) (lengths : List (Option Expr)) (w u : List Token) →
+    Nameable (declared name ty n (span_of w)) w → Brackets n h lengths u →
+    Parts (declared name (arrays ty lengths) h (span_of (w ++ u))) (w ++ u)
+unfolding arrays
+brackets_out name ty n h lengths w u m no_bracket = subst (λ w. Parts (declared name ty n (span_of w)) w) (sym (append-nil w)) (alone m)
+brackets_out name ty n h lengths w u m (more_brackets {lengths = before} {size = size} l r b isl k isr) =
+    bracketed_out name ty (arrays ty lengths) n h w u m (brackets_behind (more_brackets l r b isl k isr) (not_empty before size))
+
+-- a declaration of so many levels
+abbrev pub declared_of : ℕ → Decl → Declared
+declared_of h d = declared d.name d.ty h d.span
+
+parameter_back : (h : ℕ) (d : Decl) (w : List Token) → Parameter h d w → Parts (declared_of h d) w
+parameter_back h d w (grammar.parameter {n = n} {ty = ty} {name = name} {lengths = lengths} {u = u} {v = v} {w = x} {x = y} bs ss nm br) =
+    subst (λ w. Parts (declared name (arrays ty lengths) h (span_of w)) w) (append_assoc (u ++ v) x y ∙ append_assoc u v (x ++ y))
+    (brackets_out name ty n h lengths ((u ++ v) ++ x) y (name_out n ty name (u ++ v) x (type_name bs ss) nm) br)
+
+-- a parameter has no initialiser
+pub parameter_decl : (h : ℕ) (d : Decl) (w : List Token) → Parameter h d w → decl_of (declared_of h d) ≡ d
+parameter_decl h d w (grammar.parameter bs ss nm br) = refl
+
+-- ---- a parameter is read
+
+pub parameter_good : (d : ℕ) → Good (parameter d) ParameterWord (LowOne d) begins_type (λ _. parameter_on)
+parameter_good d = good_as ParameterWord (LowOne d) begins_type (parts_good d) parameter_into
+    (λ a w m. parameter_back a.height (decl_of a) w m) (λ v w m h. h) (λ v w m h. h) (λ x h. h)
+
+-- some parameter begins with each token that begins a type
+pub parameter_begins_at : (t : Token) → begins_type t ≡ true → Begins ParameterWord (t ∷ [])
+parameter_begins_at t e =
+    let b = type_begins_at t e in
+    let a : Declared = unnamed ((span_of ((t ∷ []) ++ b.more)).start, b.value) in
+    record {
+      value = a;
+      more = b.more;
+      whole = parameter_into a ((t ∷ []) ++ b.more)
+          (alone (alone (record { source = ((span_of ((t ∷ []) ++ b.more)).start, b.value); is = refl; word = record { word = b.whole; start = refl } })));
+    }

@@ -1,181 +1,220 @@
--- The parser of parameters with their parentheses reads their language.
-use Rattle.std.specs.Prelude.{◌≡◌, ℕ, ◌-◌, ◌<◌, Bool, true, false, nat_lt, ◌==◌, ◌||◌, List, [], ◌∷◌, ◌++◌, refl}
-use Rattle.std.proofs.Common.{ap, arith, inl, inr}
+-- The parser of parameters with their parentheses reads their language (ISO C11 6.7.6.3).
+use Rattle.std.specs.Prelude.{◌≡◌, ℕ, suc, Bool, true, false, ◌==◌, ◌||◌, if◌then◌else◌, List, [], ◌∷◌, ◌++◌, refl}
+use Rattle.std.proofs.Common.{sym, ◌∙◌, ap, subst, arith, inl, inr}
 use Rattle.c_ast.specs.declared.token.Span.{Span}
 use Rattle.c_ast.specs.Seen.{Seen as Token}
+use Rattle.c_ast.specs.declared.expr.CType.{CType, out-CType}
+use Rattle.c_ast.specs.declared.expr.CType.TheOpen.{CType-F}
+use Rattle.c_ast.specs.declared.expr.CType.TheVariants as type
+use Rattle.c_ast.specs.declared.declaration.Decl.{Decl}
 use Rattle.c_ast.specs.declared.keyword.Keyword.TheVariants as key
 use Rattle.c_ast.specs.declared.punctuator.Punctuator.TheVariants as mark
-use Rattle.c_grammar.specs.Words.{word_of, keyword, punctuator}
-use Rattle.c_parse_base.specs.Reading.Good.{Begins, BeginsFitting, StartsIn, Good}
-use Rattle.c_parse_base.specs.Reading.Languages.{Guarded, Then, join, nothing}
-use Rattle.c_parse_base.specs.Laws.GuardedLaws.{guarded_good}
+use Rattle.c_ast.specs.Tree.{TypeLayer}
+use Rattle.c_ast.specs.Laws.Opened.{given_trees}
+use Rattle.c_ast.specs.Laws.Tree.{type-by_level}
+use Rattle.c_grammar.specs.Words.{keyword, punctuator, IsPunct, span_of, end_of}
+use Rattle.c_grammar.specs.Parameters as grammar
+use Rattle.c_grammar.specs.Parameters.{Parameters, ParameterList, OneVoid, one_void}
+use Rattle.c_grammar.specs.Laws.VoidLaws.{void_levels}
+use Rattle.c_parse_base.specs.Reading.Good.{Language, Begins, Good}
+use Rattle.c_parse_base.specs.Reading.Languages.{Then, join, Either, Made, Always, nothing}
 use Rattle.c_parse_base.specs.Laws.Parts.{thens_good, makes_good, either_good}
-use Rattle.c_parse_base.specs.Reading.Words.{is, place_of, Spot, one_word, among}
-use Rattle.c_parse_base.specs.Laws.WordGood.{good_as, key_good, punct_good, punct_begins, spot_starts, spot_begins}
+use Rattle.c_parse_base.specs.Reading.Words.{is, place_of, punct, Spot, spot, one_word}
 use Rattle.c_parse_base.specs.Reading.TypeWords.{first_at}
-use Rattle.c_parse_base.specs.Laws.WordListLaws.{is_at, is_not_first, apart_words, within_words, or_left, or_right}
-use Rattle.c_parse_base.specs.Laws.Depths.{below_is, is_below}
-use Rattle.c_parse_decl.specs.declared.declarators.declared.Declared.{Declared}
+use Rattle.c_parse_base.specs.Reading.TypeNames.{begins_type, begins_integer}
+use Rattle.c_parse_base.specs.Laws.SpanLaws.{last_end_append}
+use Rattle.c_parse_base.specs.Laws.WordGood.{good_as, punct_good, punct_begins, spot_begins}
+use Rattle.c_parse_base.specs.Laws.WordListLaws.{is_at, or_left, or_right, or_false}
+use Rattle.c_parse_decl.specs.declared.parameter_list.parameters_read.ListRead.{ListRead}
 use Rattle.c_parse_decl.specs.declared.parameter_list.parameters_read.ParametersRead.{ParametersRead}
-use Rattle.c_parse_decl.specs.Reading.Parameters.{Low, ParametersWord, comma, void_of, no_parameter, begins_other, goes_on_void, rest, listed, voids, nothing_there, behind_void, void_or_nothing, inside, parameters}
-use Rattle.c_parse_decl.specs.Laws.Parameters.ParameterWords.{ParameterWord}
-use Rattle.c_parse_decl.specs.Laws.Parameters.VoidWords.{VoidWord, other_word_at}
-use Rattle.c_parse_decl.specs.Laws.Parameters.ListWords.{RestWord, Behind, ListedWord, VoidsWord, NothingWord, BehindVoid, VoidOrNothing, InsideWord, WholeWord, whole_into}
-use Rattle.c_parse_decl.specs.Laws.Parameters.ListOut.{whole_out}
-use Rattle.c_parse_decl.specs.Laws.Parameters.Beginnings.{fails_at, fails_words, parameter_begins_at, some_parameter, some_parameter_word, struct_token, some_name}
-use Rattle.c_parse_decl.specs.Laws.Parameters.ParameterLaws.{LowOne, parameter_good, void_words, void_parameter_good, void_begins}
-use Rattle.c_parse_decl.specs.Laws.Parameters.ListLaws.{LowTypes, rest_words, rest_apart, rest_good, rest_high, rest_begins, lone_starts, lone_begins}
+use Rattle.c_parse_decl.specs.Reading.Parameters.{Low, has_name, all_named, ParametersWord, comma, no_parameter, void_layer, is_void}
+use Rattle.c_parse_decl.specs.Reading.Parameters.{closed_by, closed, listed, nothing_there, inside, parameters}
+use Rattle.c_parse_decl.specs.Laws.Parameters.ParameterLaws.{parameter_on}
+use Rattle.c_parse_decl.specs.Laws.Parameters.ListLaws.{ListWord, LowList, rest_apart, listed_of, list_good, list_begins_at}
 
--- ---- a first parameter that begins with another type word
+-- ---- one `void`
 
-some_other : (d : ℕ) → BeginsFitting (Guarded begins_other ParameterWord) (LowOne d) []
-some_other d = record { value = some_parameter; more = struct_token ∷ some_name ∷ []; whole = some_parameter_word; fits = omega arith }
+lone_parts : (name : List ℕ) (b : Bool) → (if has_name name then false else b) ≡ true → (name ≡ []) × (b ≡ true)
+lone_parts [] b e = (refl, e)
+lone_parts (x ∷ xs) b e = cc
 
-listed_high : (v : ParametersRead) (w : List Token) → ListedWord v w → 0 < v.height
-listed_high v w m = omega (arith, ap (λ (v : ParametersRead). v.height) m.is, go m.source w m.word)
+void_type : (ty : CType) (l : TypeLayer) → out-CType ty ≡ l → void_layer l ≡ true → ty ≡ type.Void
+unfolding given_trees
+void_type ty CType-F.Void e h = type-by_level ty type.Void e
+void_type ty (CType-F.Int i) e h = cc
+void_type ty (CType-F.Struct s) e h = cc
+void_type ty (CType-F.Pointer t) e h = cc
+void_type ty (CType-F.Array t l) e h = cc
+
+void_found : (ds : List Decl) → is_void ds ≡ true → OneVoid ds
+unfolding is_void
+void_found [] e = cc
+void_found (d ∷ []) e = let p = lone_parts d.name (void_layer (out-CType d.ty)) e in
+    one_void d p.0 (void_type d.ty (out-CType d.ty) refl p.1)
+void_found (d ∷ c ∷ ds) e = cc
+
+void_there : (ds : List Decl) → OneVoid ds → is_void ds ≡ true
+unfolding is_void given_trees
+void_there ds (one_void d n t) =
+    ap (λ name. if has_name name then false else void_layer (out-CType d.ty)) n ∙ ap (λ ty. void_layer (out-CType ty)) t
+
+no_void : (ds : List Decl) → ¬ OneVoid ds → is_void ds ≡ false
+no_void ds n = go (is_void ds) refl
   where
-    go : (c : Declared × ParametersRead) (w : List Token) → Then (Guarded begins_other ParameterWord) RestWord c w → 0 < c.1.height
-    go c w (join {a = a} {b = r} {v = x} g k) = omega (arith, rest_high a r x k)
+    go : (b : Bool) → is_void ds ≡ b → is_void ds ≡ false
+    go true e = absurd (n (void_found ds e))
+    go false e = e
 
-listed_kept : (d : ℕ) (c : Declared × ParametersRead) (w : List Token) → Then (Guarded begins_other ParameterWord) RestWord c w →
-    LowTypes d c.1 → LowOne d c.0 × LowTypes d c.1
-listed_kept d c w (join {a = a} {b = r} {v = x} g k) fits = (omega (arith, rest_high a r x k, fits), fits)
+-- ---- the languages
 
-listed_good : (d : ℕ) → Good (listed d) ListedWord (LowTypes d) begins_other nothing
+abbrev ListedWord : Language Token ParametersRead
+ListedWord = Made closed (Then ListWord (λ _. Spot (punctuator mark.RightParen)))
+
+abbrev NothingWord : Language Token ParametersRead
+NothingWord = Made no_parameter (Spot (punctuator mark.RightParen))
+
+abbrev InsideWord : Language Token ParametersRead
+InsideWord = Either ListedWord NothingWord
+
+abbrev WholeWord : Language Token ParametersRead
+WholeWord = Made (λ (c : Span × ParametersRead). c.1) (Then (Spot (punctuator mark.LeftParen)) (λ _. InsideWord))
+
+-- ---- the parsers
+
+close_apart : (l : ListRead) (x : Token) → is (punctuator mark.RightParen) x ≡ true → (parameter_on x || comma x) ≡ false
+close_apart l x e = or_false (parameter_on x) (comma x)
+    (rest_apart x (is_at (one_word (punctuator mark.Comma ∷ punctuator mark.RightParen ∷ [])) (punctuator mark.RightParen) x e))
+    (is_at (λ w. w == punctuator mark.Comma) (punctuator mark.RightParen) x e)
+
+closed_low : (d : ℕ) (b : Bool) (c : ListRead × Span) → LowList d c.0 → Low d (closed_by b c)
+closed_low d true c low = omega arith
+closed_low d false c low = low
+
+closed_back : (d : ℕ) (l : ListRead) (p : Span) (u : List Token) → ListWord l u → (b : Bool) → is_void l.decls ≡ b →
+    Low d (closed_by b (l, p)) → LowList d l
+closed_back d l p u m true e low = omega (arith, m.above, void_levels m.list (void_found l.decls e))
+closed_back d l p u m false e low = low
+
+listed_low : (d : ℕ) (c : ListRead × Span) (w : List Token) → Then ListWord (λ _. Spot (punctuator mark.RightParen)) c w → Low d (closed c) →
+    LowList d c.0 × Always c.1
+listed_low d c w (join {a = l} {b = p} {u = u} m s) low = (closed_back d l p u m (is_void l.decls) refl low, tt)
+
+listed_good : (d : ℕ) → Good (listed d) ListedWord (Low d) begins_type nothing
 unfolding listed
-listed_good d = makes_good (λ c. c.1) ListedWord (LowTypes d) nothing
-    (thens_good (rest d) RestWord (λ _. LowTypes d) (among rest_words) (λ _. nothing)
-    (guarded_good begins_other (parameter_good d) (some_other d)) (rest_good d) rest_begins (λ a x e. rest_apart x e))
-    (λ c w m. record { source = c; is = refl; word = m }) (λ b w m. m) (λ c w m fits. fits.1) (listed_kept d) (λ c x e. refl)
-
-listed_begins : (t : Token) → begins_other t ≡ true → Begins ListedWord (t ∷ [])
-listed_begins t e =
-    let p = parameter_begins_at t e in
-    let r = rest_begins p.value in
-    record {
-      value = r.value;
-      more = p.more ++ r.more;
-      whole =
-          record { source = (p.value, r.value); is = refl; word = join p.whole r.whole };
-    }
-
-listed_starts : (v : ParametersRead) (w : List Token) → ListedWord v w → StartsIn begins_other w
-listed_starts v w m = (listed_good v.height).starts v w m
-
--- ---- behind the word `void`
-
-module _ (v : Span) where
-  void_high : (r : ParametersRead) (w : List Token) → VoidsWord v r w → 0 < r.height
-  void_high r w (inl m) = omega (arith, rest_high (void_of v) r w m)
-  void_high r w (inr m) = omega (arith, ap (λ (v : ParametersRead). v.height) m.is, go m.source w m.word)
-    where
-      go : (c : Declared × ParametersRead) (w : List Token) → Then (VoidWord v) RestWord c w → 0 < c.1.height
-      go c w (join {a = a} {b = r} {v = x} g k) = omega (arith, rest_high a r x k)
-
-  void_kept : (d : ℕ) (c : Declared × ParametersRead) (w : List Token) → Then (VoidWord v) RestWord c w → LowTypes d c.1 →
-      LowOne d c.0 × LowTypes d c.1
-  void_kept d c w (join {a = a} {b = r} {v = x} g k) fits = (omega (arith, rest_high a r x k, fits), fits)
-
-  voids_good : (d : ℕ) → Good (voids d v) (VoidsWord v) (LowTypes d) goes_on_void nothing
-  unfolding voids
-  voids_good d = either_good comma true goes_on_void (λ r. rest_good d (void_of v) (omega arith))
-      (makes_good (λ c. c.1) (Behind (VoidWord v) RestWord) (LowTypes d) nothing
-      (thens_good (rest d) RestWord (λ _. LowTypes d) (among rest_words) (λ _. nothing) (void_parameter_good d v)
-      (rest_good d) rest_begins (λ a x e. rest_apart x e))
-      (λ c w m. record { source = c; is = refl; word = m }) (λ b w m. m) (λ c w m fits. fits.1) (void_kept d) (λ c x e. refl))
-      (lone_begins v) (λ r w m fits. refl) (lone_starts v)
-      (λ x e. is_not_first (punctuator mark.Comma) (word_of x) (apart_words void_words (punctuator mark.Comma ∷ []) refl (word_of x) e))
-      (λ x e. is_at (one_word (punctuator mark.Comma ∷ void_words)) (punctuator mark.Comma) x e)
-      (λ x e. within_words void_words (punctuator mark.Comma ∷ void_words) refl (word_of x) e)
-
-  voids_begin : (t : Token) → goes_on_void t ≡ true → Begins (VoidsWord v) (t ∷ [])
-  voids_begin t e = by_comma (comma t) refl e
-    where
-      by_comma : (x : Bool) → comma t ≡ x → (x || among void_words t) ≡ true → Begins (VoidsWord v) (t ∷ [])
-      by_comma true h e = let b = lone_begins v t h in record { value = b.value; more = b.more; whole = inl b.whole }
-      by_comma false h e =
-          let p = void_begins v t e in
-          let r = rest_begins p.value in
-          record {
-            value = r.value;
-            more = p.more ++ r.more;
-            whole = inr (record { source = (p.value, r.value); is = refl; word = join p.whole r.whole });
-          }
+listed_good d = makes_good closed ListedWord (Low d) nothing
+    (thens_good (λ _. punct mark.RightParen) (λ _. Spot (punctuator mark.RightParen)) (λ _. Always) (is (punctuator mark.RightParen))
+    (λ _. nothing) (list_good d) (λ _ _. punct_good mark.RightParen) (λ _. punct_begins mark.RightParen) close_apart)
+    (λ c w m. record { source = c; is = refl; word = m }) (λ v w m. m) (λ c w m fits. closed_low d (is_void c.0.decls) c fits.0)
+    (listed_low d) (λ c x e. refl)
 
 nothing_good : (d : ℕ) → Good nothing_there NothingWord (Low d) (is (punctuator mark.RightParen)) nothing
 unfolding nothing_there
 nothing_good d = makes_good no_parameter NothingWord (Low d) nothing (punct_good mark.RightParen)
     (λ c w m. record { source = c; is = refl; word = m }) (λ b w m. m) (λ c w m fits. omega arith) (λ c w m fits. tt) (λ c x e. refl)
 
-nothing_begins : Begins NothingWord []
-nothing_begins = let r = punct_begins mark.RightParen in record {
-  value = no_parameter r.value;
-  more = r.more;
-  whole = record { source = r.value; is = refl; word = r.whole };
-}
+listed_begins : (t : Token) → begins_type t ≡ true → Begins ListedWord (t ∷ [])
+listed_begins t e =
+    let l = list_begins_at t e in
+    let r = punct_begins mark.RightParen in
+    record {
+      value = closed (l.value, r.value);
+      more = l.more ++ r.more;
+      whole = record { source = (l.value, r.value); is = refl; word = join l.whole r.whole };
+    }
 
-abbrev behind_words : List ℕ
-behind_words = punctuator mark.RightParen ∷ punctuator mark.Comma ∷ void_words
+abbrev type_word : ℕ → Bool
+type_word w = (w == keyword key.Struct) || ((w == keyword key.Void) || begins_integer w)
 
--- with one level less below
-voids_level : (d : ℕ) (v : Span) → 0 < d → Good (voids (d - 1) v) (VoidsWord v) (Low d) goes_on_void nothing
-voids_level d v h = good_as (VoidsWord v) (Low d) goes_on_void (voids_good v (d - 1)) (λ r w m. m) (λ r w m. m)
-    (λ r w m fits. omega (arith, fits)) (λ r w m fits. omega (arith, fits)) (λ x e. e)
-
-behind_void_good : (d : ℕ) (v : Span) → Good (behind_void d v) (BehindVoid v) (Low d) (among behind_words) nothing
-unfolding behind_void
-behind_void_good d v = either_good goes_on_void (nat_lt 0 d) (among behind_words) (λ r. voids_level d v (below_is 0 d r)) (nothing_good d)
-    (voids_begin v) (λ r w m fits. is_below 0 d (omega (arith, void_high v r w m, fits))) (λ r w m. (voids_good v 0).starts r w m)
-    (λ x e. is_at (one_word (punctuator mark.Comma ∷ void_words)) (punctuator mark.RightParen) x e)
-    (λ x e. within_words (punctuator mark.Comma ∷ void_words) behind_words refl (word_of x) e)
-    (λ x e. is_at (one_word behind_words) (punctuator mark.RightParen) x e)
-
-behind_begins : (v : Span) → Begins (BehindVoid v) []
-behind_begins v = let b = nothing_begins in record { value = b.value; more = b.more; whole = inr b.whole }
-
-abbrev empty_words : List ℕ
-empty_words = keyword key.Void ∷ punctuator mark.RightParen ∷ []
-
-void_first_begins : (t : Token) → is (keyword key.Void) t ≡ true → Begins (Behind (Spot (keyword key.Void)) BehindVoid) (t ∷ [])
-void_first_begins t e =
-    let c = spot_begins (keyword key.Void) BehindVoid t e (behind_begins (place_of t)) in
-    record { value = c.value.1; more = c.more; whole = record { source = c.value; is = refl; word = c.whole } }
-
-void_or_nothing_good : (d : ℕ) → Good (void_or_nothing d) VoidOrNothing (Low d) (among empty_words) nothing
-unfolding void_or_nothing
-void_or_nothing_good d = either_good (is (keyword key.Void)) true (among empty_words)
-    (λ r. makes_good (λ c. c.1) (Behind (Spot (keyword key.Void)) BehindVoid) (Low d) nothing
-    (thens_good (behind_void d) BehindVoid (λ _. Low d) (among behind_words) (λ _. nothing) (key_good key.Void)
-    (λ v _. behind_void_good d v) behind_begins (λ a x e. refl))
-    (λ c w m. record { source = c; is = refl; word = m }) (λ b w m. m) (λ c w m fits. fits.1) (λ c w m fits. (tt, fits)) (λ c x e. refl))
-    (nothing_good d) void_first_begins (λ r w m fits. refl) (λ r w m. spot_starts (keyword key.Void) BehindVoid m.source w m.word)
-    (λ x e. is_at (λ w. w == keyword key.Void) (punctuator mark.RightParen) x e)
-    (λ x e. is_at (one_word empty_words) (keyword key.Void) x e) (λ x e. is_at (one_word empty_words) (punctuator mark.RightParen) x e)
-
--- ---- all parameters
-
-empty_other : fails_at other_word_at empty_words ≡ true
+close_no_type : type_word (punctuator mark.RightParen) ≡ false
 unfolding first_at
-empty_other = refl
+close_no_type = refl
 
 abbrev inside_first : Token → Bool
-inside_first t = begins_other t || among empty_words t
-
-listed_level : (d : ℕ) → 0 < d → Good (listed (d - 1)) ListedWord (Low d) begins_other nothing
-listed_level d h = good_as ListedWord (Low d) begins_other (listed_good (d - 1)) (λ r w m. m) (λ r w m. m)
-    (λ r w m fits. omega (arith, fits)) (λ r w m fits. omega (arith, fits)) (λ x e. e)
+inside_first t = begins_type t || is (punctuator mark.RightParen) t
 
 inside_good : (d : ℕ) → Good (inside d) InsideWord (Low d) inside_first nothing
 unfolding inside
-inside_good d = either_good begins_other (nat_lt 0 d) inside_first (λ r. listed_level d (below_is 0 d r)) (void_or_nothing_good d)
-    listed_begins (λ r w m fits. is_below 0 d (omega (arith, listed_high r w m, fits))) listed_starts
-    (λ x e. fails_words other_word_at empty_words empty_other (word_of x) e)
-    (λ x e. or_left (begins_other x) (among empty_words x) e) (λ x e. or_right (begins_other x) (among empty_words x) e)
+inside_good d = either_good begins_type true inside_first (λ r. listed_good d) (nothing_good d)
+    listed_begins (λ r w m fits. refl) (listed_good 0).starts (λ x e. is_at type_word (punctuator mark.RightParen) x e ∙ close_no_type)
+    (λ x e. or_left (begins_type x) (is (punctuator mark.RightParen) x) e) (λ x e. or_right (begins_type x) (is (punctuator mark.RightParen) x) e)
 
 inside_begins : Begins InsideWord []
-inside_begins = let b = nothing_begins in record { value = b.value; more = b.more; whole = inr (inr b.whole) }
+inside_begins = let r = punct_begins mark.RightParen in record {
+  value = no_parameter r.value;
+  more = r.more;
+  whole = inr (record { source = r.value; is = refl; word = r.whole });
+}
 
--- parameters with their parentheses are read
+-- ---- into the grammar, and back
+
+closed_end : (l : Token) (w : List Token) (r : Token) → (span_of (l ∷ w ++ r ∷ [])).end ≡ end_of r
+closed_end l w r = last_end_append l w r []
+
+module _ (p : Token) (is_left : IsPunct mark.LeftParen p) where
+  closed_into : (l : ListRead) (u : List Token) (r : Token) → ListWord l u → IsPunct mark.RightParen r →
+      (b : Bool) → is_void l.decls ≡ b → ParametersWord (closed_by b (l, place_of r)) (p ∷ u ++ r ∷ [])
+  closed_into l u r m is_right true e = record {
+    list = grammar.void p r is_left m.list (void_found l.decls e) is_right;
+    end = sym (closed_end p u r);
+    named = refl;
+  }
+  closed_into l u r m is_right false e = record {
+    list = subst (λ h. Parameters h l.decls (p ∷ u ++ r ∷ [])) (sym m.above)
+        (grammar.parameters p r is_left m.list (λ o. let y = void_there l.decls o in cc) is_right);
+    end = sym (closed_end p u r);
+    named = m.names;
+  }
+
+  inside_into : (v : ParametersRead) (w : List Token) → InsideWord v w → ParametersWord v (p ∷ w)
+  inside_into v w (inl m) = subst (λ v. ParametersWord v (p ∷ w)) m.is (go m.source w m.word)
+    where
+      go : (c : ListRead × Span) (w : List Token) → Then ListWord (λ _. Spot (punctuator mark.RightParen)) c w →
+          ParametersWord (closed c) (p ∷ w)
+      go c w (join {a = l} {u = u} k (spot r e)) = closed_into l u r k e (is_void l.decls) refl
+  inside_into v w (inr m) = subst (λ v. ParametersWord v (p ∷ w)) m.is (go m.source w m.word)
+    where
+      go : (c : Span) (w : List Token) → Spot (punctuator mark.RightParen) c w → ParametersWord (no_parameter c) (p ∷ w)
+      go c w (spot r e) = record { list = grammar.no_word p r is_left e; end = refl; named = refl }
+
+  whole_back : (v : ParametersRead) (w : List Token) → InsideWord v w → WholeWord v (p ∷ w)
+  whole_back v w k = record { source = (place_of p, v); is = refl; word = join (spot p is_left) k }
+
+whole_into : (v : ParametersRead) (w : List Token) → WholeWord v w → ParametersWord v w
+whole_into v w m = subst (λ v. ParametersWord v w) m.is (go m.source w m.word)
+  where
+    go : (c : Span × ParametersRead) (w : List Token) → Then (Spot (punctuator mark.LeftParen)) (λ _. InsideWord) c w → ParametersWord c.1 w
+    go c w (join {b = v} {v = x} (spot l e) k) = inside_into l e v x k
+
+abbrev read : List Decl → ℕ → ℕ → ParametersRead
+read ds h end = record { decls = ds; height = h; end = end; all_named = all_named ds }
+
+list_closed : (h : ℕ) (ds : List Decl) (w : List Token) (r : Token) → ParameterList h ds w → IsPunct mark.RightParen r →
+    (b : Bool) → is_void ds ≡ b → InsideWord (closed_by b (listed_of ds h, place_of r)) (w ++ r ∷ [])
+list_closed h ds w r m e b is = inl (record {
+  source = (listed_of ds h, place_of r);
+  is = ap (λ b. closed_by b (listed_of ds h, place_of r)) is;
+  word = join (record { height = h; above = refl; list = m; names = refl }) (spot r e);
+})
+
+whole_of : (h : ℕ) (ds : List Decl) (w : List Token) → Parameters h ds w → WholeWord (read ds h (span_of w).end) w
+whole_of h ds w (grammar.no_word l r is_left is_right) =
+    whole_back l is_left (no_parameter (place_of r)) (r ∷ []) (inr (record { source = place_of r; is = refl; word = spot r is_right }))
+whole_of h ds w (grammar.void {h = k} {ds = one} {v = v} l r is_left m o is_right) =
+    subst (λ end. WholeWord (read [] 0 end) (l ∷ v ++ r ∷ [])) (sym (closed_end l v r))
+    (whole_back l is_left (no_parameter (place_of r)) (v ++ r ∷ []) (list_closed k one v r m is_right true (void_there one o)))
+whole_of h ds w (grammar.parameters {h = k} {v = v} l r is_left m n is_right) =
+    subst (λ end. WholeWord (read ds (suc k) end) (l ∷ v ++ r ∷ [])) (sym (closed_end l v r))
+    (whole_back l is_left (read ds (suc k) (end_of r)) (v ++ r ∷ []) (list_closed k ds v r m is_right false (no_void ds n)))
+
+whole_out : (v : ParametersRead) (w : List Token) → ParametersWord v w → WholeWord v w
+whole_out v w m =
+    subst (λ v. WholeWord v w)
+    (ap (λ end. record { decls = v.decls; height = v.height; end = end; all_named = all_named v.decls }) (sym m.end)
+    ∙ ap (λ b. record { decls = v.decls; height = v.height; end = v.end; all_named = b }) (sym m.named))
+    (whole_of v.height v.decls w m.list)
+
+-- ---- parameters are read
+
 pub parameters_good : (d : ℕ) → Good (parameters d) ParametersWord (Low d) (is (punctuator mark.LeftParen)) nothing
 unfolding parameters
 parameters_good d = good_as ParametersWord (Low d) (is (punctuator mark.LeftParen))
@@ -192,6 +231,5 @@ parameters_begins_at t e =
     record {
       value = c.value.1;
       more = c.more;
-      whole = whole_into c.value.1 ((t ∷ []) ++ c.more)
-          (record { source = c.value; is = refl; word = c.whole });
+      whole = whole_into c.value.1 ((t ∷ []) ++ c.more) (record { source = c.value; is = refl; word = c.whole });
     }

@@ -1,15 +1,30 @@
 use Rattle.std.proofs.Common.{◌-◌, suc, arith, sym, ◌∙◌, ap, refl}
+use Rattle.std.specs.Prelude.{true, false}
+use Rattle.c_parse_base.specs.Reading.Answer.{Read, and_then}
 use Rattle.c_parse_base.specs.Reading.Answers.{rest_of}
+use Rattle.c_parse_base.specs.Laws.Depths.{is_below, not_below}
+use Rattle.c_parse_base.specs.Laws.LoopLaws.{left, loop_end, loop_deep, loop_stops, loop_read, loop_takes}
+use Rattle.c_parse_expr.specs.Reading.Nodes.{one_argument, more_arguments, applied}
 use Rattle.c_parse_base.specs.Laws.AnswerLaws.{answers_on, answers_by, answers_stop, answers_next, answers_behind, answers_made, passed}
 use Rattle.c_parse_base.specs.Laws.WordLaws.{value_passed}
 use Rattle.c_parse_expr.specs.Reading.Operators.{pick_binary}
-use Rattle.c_parse_expr.specs.Laws.Code.{branches_of, branches_is, chosen_is, conditional_is, no_choice, choice_deep, choice_read, assignment_is, no_assign, assign_wrong, assign_deep, assign_read, assigned_is, rest_arguments, arguments_is, arguments_first, arguments_end, arguments_turn, arguments_read, argument_takes, called_empty, called_full, indexed_is, behind_index, behind_call, behind_short, more_suffixes, suffixes_end, suffixes_deep, suffixes_turn, suffixes_read, suffix_takes, operation_is, tier_is, tier_zero, tier_first, operations_end, operations_deep, operations_read, operation_takes, operations_turn, tier_chain, at_tier}
-use Rattle.c_parse_expr.specs.Laws.OperandCode.{grouped_is, stepped_is, operated_is, size_opened_name, size_opened_deep, size_opened_group, size_rest_bare, size_rest_deep, size_rest_open, sized_is, bare_step, bare_step_deep, bare_operated, bare_operated_deep, bare_sized, bare_worded, unary_bare, unary_deep, unary_group, casted_is, open_type, open_group, operand_bare, operand_deep, operand_open}
+use Rattle.c_parse_expr.specs.Laws.Code.{further_argument, further_is, good_further, further_read, further_suffix, suffix_seen}
+use Rattle.c_parse_expr.specs.Laws.Code.{good_apply, apply_is, applied_read, further_operation, seen_some, seen_none, good_operation}
+use Rattle.c_parse_expr.specs.Laws.Code.{may_go_on, branches_of, branches_is, chosen_is, conditional_is, no_choice, choice_deep}
+use Rattle.c_parse_expr.specs.Laws.Code.{choice_read, assignment_is, no_assign, assign_wrong, assign_deep, assign_read, assigned_is}
+use Rattle.c_parse_expr.specs.Laws.Code.{arguments_is, called_empty, called_full, indexed_is, behind_index, behind_call, behind_short}
+use Rattle.c_parse_expr.specs.Laws.Code.{more_suffixes, operation_is, tier_is, tier_zero, tier_chain, at_tier}
+use Rattle.c_parse_expr.specs.Laws.OperandCode.{grouped_is, stepped_is, operated_is, size_opened_name, size_opened_deep}
+use Rattle.c_parse_expr.specs.Laws.OperandCode.{size_opened_group, size_rest_bare, size_rest_deep, size_rest_open, sized_is, bare_step}
+use Rattle.c_parse_expr.specs.Laws.OperandCode.{bare_step_deep, bare_operated, bare_operated_deep, bare_sized, bare_worded, unary_bare}
+use Rattle.c_parse_expr.specs.Laws.OperandCode.{unary_deep, unary_group, casted_is, open_type, open_group, operand_bare, operand_deep}
+use Rattle.c_parse_expr.specs.Laws.OperandCode.{operand_open}
 use Rattle.c_ast.specs.declared.keyword.Keyword.TheVariants as key
 use Rattle.c_ast.specs.declared.punctuator.Punctuator.TheVariants as mark
 use Rattle.c_parse_base.specs.Reading.Words as read
 use Rattle.c_parse_base.specs.Reading.Words.{punct}
-use Rattle.c_parse_expr.specs.Reading.Expressions.{assignment, called, grouped, size_opened, size_rest, cast_or_group, under, tier, step_word, unary_word}
+use Rattle.c_parse_expr.specs.Reading.Expressions.{assignment, called, grouped, size_opened, size_rest, cast_or_group, under, tier}
+use Rattle.c_parse_expr.specs.Reading.Expressions.{step_word, unary_word}
 use Rattle.c_parse_expr.specs.declared.suffix.Suffix.TheVariants as suffix
 use Rattle.c_parse_expr.specs.Laws.WordCode.{any_taken, placed_read}
 use Rattle.c_parse_expr.proofs.parser.+expression.Goals as goal
@@ -67,7 +82,8 @@ binary-returns-in_err-left-clause-answers t c =
 pub binary-loop-operator-init : goal.binary-loop-operator-init
 binary-loop-operator-init t c = record {
   reads = tier_is c.args.depth c.args.tier (suc (c.args.tier - 1)) c.args.cursor.now (omega arith)
-      ∙ tier_first c.args.depth (c.args.tier - 1) c.args.cursor.now c.binary.new.cursor c.in_ok-left.left c.in_ok-left.ensures.answers.is;
+      ∙ tier_chain c.args.depth (c.args.tier - 1) c.args.cursor.now
+      ∙ ap (λ o. and_then o (left (further_operation c.args.depth (c.args.tier - 1)))) c.in_ok-left.ensures.answers.is;
   low = c.in_ok-left.ensures.low;
 }
 
@@ -75,31 +91,34 @@ pub binary-returns-then-left-depth-clause-answers : goal.binary-returns-then-lef
 binary-returns-then-left-depth-clause-answers t c =
     let h = at_tier c.args.tier (suc (c.args.tier - 1)) c.loop-operator.cursor _ (omega arith) (sym c.in-Some.ensures) in
     record {
-      is = c.loop-operator.invariant.reads ∙ operations_deep c.args.depth
-          (c.args.tier - 1) c.loop-operator.left c.loop-operator.cursor c.in-Some.operator h (omega arith);
+      is = c.loop-operator.invariant.reads ∙ loop_deep (further_operation c.args.depth (c.args.tier - 1)) c.loop-operator.left
+          c.loop-operator.cursor (seen_some (c.args.tier - 1) c.loop-operator.cursor c.in-Some.operator h)
+          (not_below c.loop-operator.left.height c.args.depth (omega arith));
     }
 
 pub binary-returns-in_err-left-2-clause-answers : goal.binary-returns-in_err-left-2-clause-answers
 binary-returns-in_err-left-2-clause-answers t c =
     let h = at_tier c.args.tier (suc (c.args.tier - 1)) c.loop-operator.cursor _ (omega arith) (sym c.in-Some.ensures) in
     answers_on _ c.from_residual-in_err-left-2.ensures.1
-    (answers_by (c.loop-operator.invariant.reads ∙ operations_turn c.args.depth
-    (c.args.tier - 1) c.loop-operator.left c.loop-operator.cursor c.in-Some.operator h (omega arith))
-    (answers_stop _ c.in_err-left-2.ensures.answers))
+    (answers_by c.loop-operator.invariant.reads (loop_stops (further_operation c.args.depth (c.args.tier - 1)) c.loop-operator.left
+    c.loop-operator.cursor (seen_some (c.args.tier - 1) c.loop-operator.cursor c.in-Some.operator h)
+    (is_below c.loop-operator.left.height c.args.depth (omega arith)) c.in_err-left-2.ensures.answers))
 
 pub binary-loop-operator-smaller : goal.binary-loop-operator-smaller
 binary-loop-operator-smaller t c =
-    operation_takes c.args.depth (c.args.tier - 1) c.loop-operator.left c.in_ok-left-2.left c.loop-operator.cursor c.operation.new.cursor
-    (omega arith) (omega arith) c.in_ok-left-2.ensures.answers.is
+    loop_takes (further_operation c.args.depth (c.args.tier - 1)) c.loop-operator.left c.loop-operator.cursor
+    (good_operation c.args.depth (c.args.tier - 1) (omega arith)) (may_go_on c.args.depth c.loop-operator.left (omega arith))
+    c.in_ok-left-2.left c.operation.new.cursor c.in_ok-left-2.ensures.answers.is
 
 pub binary-loop-operator-preserved : goal.binary-loop-operator-preserved
 binary-loop-operator-preserved t c =
     let h = at_tier c.args.tier (suc (c.args.tier - 1)) c.loop-operator.cursor _ (omega arith) (sym c.in-Some.ensures) in
     record {
       reads = c.loop-operator.invariant.reads
-          ∙ operations_read c.args.depth (c.args.tier - 1) c.loop-operator.left c.in_ok-left-2.left c.loop-operator.cursor
-          c.operation.new.cursor c.in-Some.operator (omega arith) h (omega arith)
-          c.in_ok-left-2.ensures.answers.is;
+          ∙ loop_read (further_operation c.args.depth (c.args.tier - 1)) c.loop-operator.left c.loop-operator.cursor
+          (good_operation c.args.depth (c.args.tier - 1) (omega arith)) (may_go_on c.args.depth c.loop-operator.left (omega arith))
+          c.in_ok-left-2.left c.operation.new.cursor c.in_ok-left-2.ensures.answers.is
+          (seen_some (c.args.tier - 1) c.loop-operator.cursor c.in-Some.operator h);
       low = c.in_ok-left-2.ensures.low;
     }
 
@@ -108,8 +127,8 @@ binary-returns-clause-answers t c =
     let h = at_tier c.args.tier (suc (c.args.tier - 1)) c.loop-operator.cursor _ (omega arith)
     (sym c.tier_operator.ensures ∙ c.in_default.is) in
     record {
-      is = c.loop-operator.invariant.reads ∙ operations_end c.args.depth
-          (c.args.tier - 1) c.loop-operator.left c.loop-operator.cursor h;
+      is = c.loop-operator.invariant.reads ∙ loop_end (further_operation c.args.depth (c.args.tier - 1)) c.loop-operator.left
+          c.loop-operator.cursor (seen_none (c.args.tier - 1) c.loop-operator.cursor h);
     }
 
 pub arguments-returns-in_err-first-clause-answers : goal.arguments-returns-in_err-first-clause-answers
@@ -119,43 +138,49 @@ arguments-returns-in_err-first-clause-answers t c =
 
 pub arguments-loop-alloc-init : goal.arguments-loop-alloc-init
 arguments-loop-alloc-init t c = record {
-  reads = arguments_first c.args.depth c.args.cursor.now c.assignment.new.cursor c.in_ok-first.first c.requires
+  reads = arguments_is c.args.depth c.args.cursor.now c.requires
+      ∙ ap (λ o. and_then (and_then o (λ a us. Read (one_argument a) us)) (left (further_argument c.args.depth)))
       c.in_ok-first.ensures.answers.is
-      ∙ ap (λ a. rest_arguments c.args.depth a c.assignment.new.cursor) (sym c.in_ok-read.ensures);
+      ∙ ap (λ a. left (further_argument c.args.depth) a c.assignment.new.cursor) (sym c.in_ok-read.ensures);
   low = omega (arith, ap (λ a. a.height) c.in_ok-read.ensures, c.in_ok-first.ensures.low);
 }
 
 pub arguments-returns-in_err-next-clause-answers : goal.arguments-returns-in_err-next-clause-answers
 arguments-returns-in_err-next-clause-answers t c =
+    let seen = sym c.sees.ensures ∙ c.loop-alloc-test.true in
     answers_on _ c.from_residual-in_err-next.ensures.1
-    (answers_by (c.loop-alloc.invariant.reads ∙ arguments_turn c.args.depth c.loop-alloc.read c.loop-alloc.cursor c.requires
-    (sym c.sees.ensures ∙ c.loop-alloc-test.true))
-    (answers_stop _ (answers_stop _ (passed (assignment (c.args.depth - 1) (under (c.args.depth - 1))) c.skip.ensures
-    c.in_err-next.ensures.answers))))
+    (answers_by c.loop-alloc.invariant.reads (loop_stops (further_argument c.args.depth) c.loop-alloc.read c.loop-alloc.cursor seen refl
+    (answers_by (further_is c.args.depth c.loop-alloc.read c.loop-alloc.cursor c.requires seen)
+    (answers_stop _ (passed (assignment (c.args.depth - 1) (under (c.args.depth - 1))) c.skip.ensures c.in_err-next.ensures.answers)))))
 
 pub arguments-loop-alloc-smaller : goal.arguments-loop-alloc-smaller
 arguments-loop-alloc-smaller t c =
+    let seen = sym c.sees.ensures ∙ c.loop-alloc-test.true in
     let read = passed (assignment (c.args.depth - 1) (under (c.args.depth - 1))) c.skip.ensures c.in_ok-next.ensures.answers in
-    argument_takes c.args.depth c.loop-alloc.read c.in_ok-next.next c.loop-alloc.cursor c.assignment-in-loop-alloc.new.cursor c.requires
-    (omega (arith, c.loop-alloc.invariant.low)) (sym c.sees.ensures ∙ c.loop-alloc-test.true) read.is
+    loop_takes (further_argument c.args.depth) c.loop-alloc.read c.loop-alloc.cursor (good_further c.args.depth c.requires)
+    (record { fits = omega (arith, c.loop-alloc.invariant.low); has_room = refl }) (more_arguments c.loop-alloc.read c.in_ok-next.next)
+    c.assignment-in-loop-alloc.new.cursor (further_read c.args.depth c.loop-alloc.read c.in_ok-next.next c.loop-alloc.cursor
+    c.assignment-in-loop-alloc.new.cursor c.requires seen read.is)
 
 pub arguments-loop-alloc-preserved : goal.arguments-loop-alloc-preserved
 arguments-loop-alloc-preserved t c =
+    let seen = sym c.sees.ensures ∙ c.loop-alloc-test.true in
     let read = passed (assignment (c.args.depth - 1) (under (c.args.depth - 1))) c.skip.ensures c.in_ok-next.ensures.answers in
     record {
       reads = c.loop-alloc.invariant.reads
-          ∙ arguments_read c.args.depth c.loop-alloc.read c.in_ok-next.next c.loop-alloc.cursor c.assignment-in-loop-alloc.new.cursor
-          c.requires (omega (arith, c.loop-alloc.invariant.low)) (sym c.sees.ensures ∙ c.loop-alloc-test.true) read.is
-          ∙ ap (λ a. rest_arguments c.args.depth a c.assignment-in-loop-alloc.new.cursor) (sym c.in_ok-read-2.ensures);
+          ∙ loop_read (further_argument c.args.depth) c.loop-alloc.read c.loop-alloc.cursor (good_further c.args.depth c.requires)
+          (record { fits = omega (arith, c.loop-alloc.invariant.low); has_room = refl }) (more_arguments c.loop-alloc.read c.in_ok-next.next)
+          c.assignment-in-loop-alloc.new.cursor (further_read c.args.depth c.loop-alloc.read c.in_ok-next.next c.loop-alloc.cursor
+          c.assignment-in-loop-alloc.new.cursor c.requires seen read.is) seen
+          ∙ ap (λ a. left (further_argument c.args.depth) a c.assignment-in-loop-alloc.new.cursor) (sym c.in_ok-read-2.ensures);
       low = omega (arith, ap (λ a. a.height) c.in_ok-read-2.ensures, c.in_ok-next.ensures.low, c.loop-alloc.invariant.low);
     }
 
 pub arguments-returns-clause-answers : goal.arguments-returns-clause-answers
-arguments-returns-clause-answers t c =
-    record {
-      is = c.loop-alloc.invariant.reads ∙ arguments_end c.args.depth c.loop-alloc.read c.loop-alloc.cursor
-          (sym c.sees.ensures ∙ c.loop-alloc-test.false);
-    }
+arguments-returns-clause-answers t c = record {
+  is = c.loop-alloc.invariant.reads ∙ loop_end (further_argument c.args.depth) c.loop-alloc.read c.loop-alloc.cursor
+      (sym c.sees.ensures ∙ c.loop-alloc-test.false);
+}
 
 pub called-returns-in_err-right-clause-answers : goal.called-returns-in_err-right-clause-answers
 called-returns-in_err-right-clause-answers t c =
@@ -223,39 +248,43 @@ pub suffixes-loop-alloc-init : goal.suffixes-loop-alloc-init
 suffixes-loop-alloc-init t c = record { reads = refl; low = c.requires }
 
 pub suffixes-returns-then-read-depth-clause-answers : goal.suffixes-returns-then-read-depth-clause-answers
-suffixes-returns-then-read-depth-clause-answers t c =
-    record {
-      is = c.loop-alloc.invariant.reads ∙ suffixes_deep c.args.depth c.loop-alloc.read c.loop-alloc.cursor
-          (sym c.sees_suffix.ensures ∙ c.loop-alloc-test.true) (omega arith);
-    }
+suffixes-returns-then-read-depth-clause-answers t c = record {
+  is = c.loop-alloc.invariant.reads ∙ loop_deep (further_suffix c.args.depth) c.loop-alloc.read c.loop-alloc.cursor
+      (suffix_seen c.loop-alloc.cursor true (sym c.sees_suffix.ensures ∙ c.loop-alloc-test.true))
+      (not_below c.loop-alloc.read.height c.args.depth (omega arith));
+}
 
 pub suffixes-returns-in_err-suffix-clause-answers : goal.suffixes-returns-in_err-suffix-clause-answers
 suffixes-returns-in_err-suffix-clause-answers t c =
     answers_on _ c.from_residual.ensures.1
-    (answers_by (c.loop-alloc.invariant.reads ∙ suffixes_turn c.args.depth c.loop-alloc.read c.loop-alloc.cursor
-    (sym c.sees_suffix.ensures ∙ c.loop-alloc-test.true) (omega arith))
-    (answers_stop _ (answers_stop _ c.in_err-suffix.ensures.answers)))
+    (answers_by c.loop-alloc.invariant.reads (loop_stops (further_suffix c.args.depth) c.loop-alloc.read c.loop-alloc.cursor
+    (suffix_seen c.loop-alloc.cursor true (sym c.sees_suffix.ensures ∙ c.loop-alloc-test.true))
+    (is_below c.loop-alloc.read.height c.args.depth (omega arith))
+    (answers_by (apply_is c.args.depth c.loop-alloc.read c.loop-alloc.cursor) (answers_stop _ c.in_err-suffix.ensures.answers))))
 
 pub suffixes-loop-alloc-smaller : goal.suffixes-loop-alloc-smaller
-suffixes-loop-alloc-smaller t c =
-    suffix_takes c.args.depth c.loop-alloc.read c.in_ok-suffix.suffix c.loop-alloc.cursor c.behind.new.cursor
-    (omega arith) c.in_ok-suffix.ensures.answers.is
+suffixes-loop-alloc-smaller t c = loop_takes (further_suffix c.args.depth) c.loop-alloc.read c.loop-alloc.cursor (good_apply c.args.depth)
+    (may_go_on c.args.depth c.loop-alloc.read (omega arith)) (applied c.loop-alloc.read c.in_ok-suffix.suffix) c.behind.new.cursor
+    (applied_read c.args.depth c.loop-alloc.read c.in_ok-suffix.suffix c.loop-alloc.cursor c.behind.new.cursor
+    c.in_ok-suffix.ensures.answers.is)
 
 pub suffixes-loop-alloc-preserved : goal.suffixes-loop-alloc-preserved
 suffixes-loop-alloc-preserved t c = record {
   reads = c.loop-alloc.invariant.reads
-      ∙ suffixes_read c.args.depth c.loop-alloc.read c.in_ok-suffix.suffix c.loop-alloc.cursor c.behind.new.cursor
-      (sym c.sees_suffix.ensures ∙ c.loop-alloc-test.true) (omega arith) c.in_ok-suffix.ensures.answers.is
+      ∙ loop_read (further_suffix c.args.depth) c.loop-alloc.read c.loop-alloc.cursor (good_apply c.args.depth)
+      (may_go_on c.args.depth c.loop-alloc.read (omega arith)) (applied c.loop-alloc.read c.in_ok-suffix.suffix) c.behind.new.cursor
+      (applied_read c.args.depth c.loop-alloc.read c.in_ok-suffix.suffix c.loop-alloc.cursor c.behind.new.cursor
+      c.in_ok-suffix.ensures.answers.is)
+      (suffix_seen c.loop-alloc.cursor true (sym c.sees_suffix.ensures ∙ c.loop-alloc-test.true))
       ∙ ap (λ a. more_suffixes c.args.depth a c.behind.new.cursor) (sym c.in_ok-read.ensures);
   low = omega (arith, ap (λ a. a.height) c.in_ok-read.ensures, c.in_ok-suffix.ensures.low);
 }
 
 pub suffixes-returns-clause-answers : goal.suffixes-returns-clause-answers
-suffixes-returns-clause-answers t c =
-    record {
-      is = c.loop-alloc.invariant.reads ∙ suffixes_end c.args.depth c.loop-alloc.read c.loop-alloc.cursor
-          (sym c.sees_suffix.ensures ∙ c.loop-alloc-test.false);
-    }
+suffixes-returns-clause-answers t c = record {
+  is = c.loop-alloc.invariant.reads ∙ loop_end (further_suffix c.args.depth) c.loop-alloc.read c.loop-alloc.cursor
+      (suffix_seen c.loop-alloc.cursor false (sym c.sees_suffix.ensures ∙ c.loop-alloc-test.false));
+}
 
 pub stepped-returns-in_err-place-clause-answers : goal.stepped-returns-in_err-place-clause-answers
 stepped-returns-in_err-place-clause-answers t c = answers_on _ c.from_residual.ensures.1

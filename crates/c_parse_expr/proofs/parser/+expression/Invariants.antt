@@ -1,6 +1,7 @@
 use Rattle.std.proofs.Common.{◌≡◌, ◌<◌, ◌≤◌, ◌+◌, ◌*◌, ◌-◌, length}
 use Rattle.c_parse_expr.specs.Reading.Expressions.{arguments, tier, under}
-use Rattle.c_parse_expr.specs.Laws.Code.{rest_arguments, more_suffixes, more_operations}
+use Rattle.c_parse_base.specs.Laws.LoopLaws.{left}
+use Rattle.c_parse_expr.specs.Laws.Code.{further_argument, more_suffixes, further_operation}
 use Rattle.c_parse_expr.proofs.parser.+expression.Given as goal
 
 abbrev pub decreases-operation : goal.decreases-operation
@@ -27,7 +28,7 @@ decreases-binary l = 64 * l.depth + l.tier + 7
 -- the arguments that are left are read from here on
 abbrev pub invariant-arguments-loop-alloc : goal.invariant-arguments-loop-alloc
 invariant-arguments-loop-alloc l = record {
-  reads : arguments l.fn.depth (under l.fn.depth) l.fn.cursor ≡ rest_arguments l.depth l.read l.cursor;
+  reads : arguments l.fn.depth (under l.fn.depth) l.fn.cursor ≡ left (further_argument l.depth) l.read l.cursor;
   low : l.read.height < l.depth;
 }
 
@@ -47,7 +48,7 @@ decreases-suffixes-loop-alloc l = length l.cursor
 -- what is left of the tier is read from here on
 abbrev pub invariant-binary-loop-operator : goal.invariant-binary-loop-operator
 invariant-binary-loop-operator l = record {
-  reads : tier l.fn.depth (under l.fn.depth) l.fn.tier l.fn.cursor ≡ more_operations l.depth (l.tier - 1) l.left l.cursor;
+  reads : tier l.fn.depth (under l.fn.depth) l.fn.tier l.fn.cursor ≡ left (further_operation l.depth (l.tier - 1)) l.left l.cursor;
   low : l.left.height ≤ l.depth;
 }
 

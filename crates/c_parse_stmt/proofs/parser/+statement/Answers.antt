@@ -1,8 +1,16 @@
 use Rattle.std.proofs.Common.{◌-◌, arith, sym, ◌∙◌, ap, refl}
 use Rattle.c_parse_base.specs.Laws.AnswerLaws.{answers_on, answers_by, answers_stop, answers_next, answers_made, passed}
 use Rattle.c_grammar.specs.Statements.{InLoop}
+use Rattle.c_parse_base.specs.Reading.Answer.{Read, and_then}
+use Rattle.c_parse_base.specs.Laws.LoopLaws.{left, loop_end, loop_deep, loop_stops, loop_read, loop_takes}
+use Rattle.c_parse_stmt.specs.Reading.Nodes.{no_items, with_item}
+use Rattle.c_parse_stmt.specs.Laws.Room.{has_room, no_room}
 use Rattle.c_parse_stmt.specs.Reading.Statements.{placed, for_head}
-use Rattle.c_parse_stmt.specs.Laws.Code.{lower, headed, headed_is, alone, if_is, else_none, else_wrong, else_read, while_is, do_is, for_is, item_local, item_statement, more_items, items_chain, items_first, items_end, items_deep, items_turn, items_read, item_takes, block_in_is, compound_is, statement_brace, statement_if, statement_if_deep, statement_other, or_while, or_while_deep, or_do, or_do_deep, or_for, or_for_deep, or_return, or_last}
+use Rattle.c_parse_stmt.specs.Laws.Code.{lower, headed, headed_is, alone, if_is, else_none, else_wrong, else_read, while_is, do_is}
+use Rattle.c_parse_stmt.specs.Laws.Code.{for_is, item_local, item_statement, further_item, items_chain, item_good, may_item, further_is}
+use Rattle.c_parse_stmt.specs.Laws.Code.{further_read, block_in_is, compound_is, statement_brace, statement_if, statement_if_deep}
+use Rattle.c_parse_stmt.specs.Laws.Code.{statement_other, or_while, or_while_deep, or_do, or_do_deep, or_for, or_for_deep, or_return}
+use Rattle.c_parse_stmt.specs.Laws.Code.{or_last}
 use Rattle.c_parse_stmt.proofs.parser.+statement.Goals as goal
 
 pub headed-returns-in_err-inner-clause-answers : goal.headed-returns-in_err-inner-clause-answers
@@ -152,48 +160,52 @@ items-returns-in_err-expect-clause-answers t c =
     (answers_stop _ (answers_stop _ c.in_err-expect.ensures)))
 
 pub items-loop-alloc-init : goal.items-loop-alloc-init
-items-loop-alloc-init t c =
-    record {
-      reads = items_first c.args.depth (placed c.args.in_loop) c.args.cursor.now c.expect.new.self _ c.in_ok-expect.ensures.is
-          ∙ ap (λ a. more_items c.args.depth (placed c.args.in_loop) a c.expect.new.self) (sym c.no_items-read.ensures);
-      low = omega (arith, ap (λ a. a.height) c.no_items-read.ensures);
-    }
+items-loop-alloc-init t c = record {
+  reads = items_chain c.args.depth (placed c.args.in_loop) c.args.cursor.now
+      ∙ ap (λ o. and_then (and_then o (λ p us. Read (no_items p) us)) (left (further_item c.args.depth (placed c.args.in_loop))))
+      c.in_ok-expect.ensures.is
+      ∙ ap (λ a. left (further_item c.args.depth (placed c.args.in_loop)) a c.expect.new.self) (sym c.no_items-read.ensures);
+  low = omega (arith, ap (λ a. a.height) c.no_items-read.ensures);
+}
 
 pub items-returns-then-depth-eq0-clause-answers : goal.items-returns-then-depth-eq0-clause-answers
-items-returns-then-depth-eq0-clause-answers t c =
-    record {
-      is = c.loop-alloc.invariant.reads ∙ items_deep c.args.depth (placed c.args.in_loop) c.loop-alloc.read c.loop-alloc.cursor
-          (sym c.begins_item.ensures ∙ c.loop-alloc-test.true) (omega arith);
-    }
+items-returns-then-depth-eq0-clause-answers t c = record {
+  is = c.loop-alloc.invariant.reads ∙ loop_deep (further_item c.args.depth (placed c.args.in_loop)) c.loop-alloc.read c.loop-alloc.cursor
+      (sym c.begins_item.ensures ∙ c.loop-alloc-test.true) (no_room c.args.depth (omega arith));
+}
 
 pub items-returns-in_err-next-clause-answers : goal.items-returns-in_err-next-clause-answers
 items-returns-in_err-next-clause-answers t c =
     answers_on _ c.from_residual-in_err-next.ensures.1
-    (answers_by (c.loop-alloc.invariant.reads ∙ items_turn c.args.depth (placed c.args.in_loop) c.loop-alloc.read c.loop-alloc.cursor
-    (sym c.begins_item.ensures ∙ c.loop-alloc-test.true) (omega arith))
-    (answers_stop _ (answers_stop _ c.in_err-next.ensures.answers)))
+    (answers_by c.loop-alloc.invariant.reads (loop_stops (further_item c.args.depth (placed c.args.in_loop)) c.loop-alloc.read
+    c.loop-alloc.cursor (sym c.begins_item.ensures ∙ c.loop-alloc-test.true) (has_room c.args.depth (omega arith))
+    (answers_by (further_is c.args.depth (placed c.args.in_loop) c.loop-alloc.read c.loop-alloc.cursor)
+    (answers_stop _ c.in_err-next.ensures.answers))))
 
 pub items-loop-alloc-smaller : goal.items-loop-alloc-smaller
-items-loop-alloc-smaller t c =
-    item_takes c.args.depth (placed c.args.in_loop) c.loop-alloc.read c.in_ok-next.next c.loop-alloc.cursor c.item.new.cursor
-    (omega arith) c.loop-alloc.invariant.low c.in_ok-next.ensures.answers.is
+items-loop-alloc-smaller t c = loop_takes (further_item c.args.depth (placed c.args.in_loop)) c.loop-alloc.read c.loop-alloc.cursor
+    (item_good c.args.depth (placed c.args.in_loop)) (may_item c.args.depth c.loop-alloc.read (omega arith) c.loop-alloc.invariant.low)
+    (with_item c.loop-alloc.read c.in_ok-next.next) c.item.new.cursor
+    (further_read c.args.depth (placed c.args.in_loop) c.loop-alloc.read c.in_ok-next.next c.loop-alloc.cursor c.item.new.cursor
+    c.in_ok-next.ensures.answers.is)
 
 pub items-loop-alloc-preserved : goal.items-loop-alloc-preserved
-items-loop-alloc-preserved t c =
-    record {
-      reads = c.loop-alloc.invariant.reads
-          ∙ items_read c.args.depth (placed c.args.in_loop) c.loop-alloc.read c.in_ok-next.next c.loop-alloc.cursor c.item.new.cursor
-          (sym c.begins_item.ensures ∙ c.loop-alloc-test.true) (omega arith) c.loop-alloc.invariant.low c.in_ok-next.ensures.answers.is
-          ∙ ap (λ a. more_items c.args.depth (placed c.args.in_loop) a c.item.new.cursor) (sym c.in_ok-read.ensures);
-      low = omega (arith, ap (λ a. a.height) c.in_ok-read.ensures, c.in_ok-next.ensures.low, c.loop-alloc.invariant.low);
-    }
+items-loop-alloc-preserved t c = record {
+  reads = c.loop-alloc.invariant.reads
+      ∙ loop_read (further_item c.args.depth (placed c.args.in_loop)) c.loop-alloc.read c.loop-alloc.cursor
+      (item_good c.args.depth (placed c.args.in_loop)) (may_item c.args.depth c.loop-alloc.read (omega arith) c.loop-alloc.invariant.low)
+      (with_item c.loop-alloc.read c.in_ok-next.next) c.item.new.cursor
+      (further_read c.args.depth (placed c.args.in_loop) c.loop-alloc.read c.in_ok-next.next c.loop-alloc.cursor c.item.new.cursor
+      c.in_ok-next.ensures.answers.is) (sym c.begins_item.ensures ∙ c.loop-alloc-test.true)
+      ∙ ap (λ a. left (further_item c.args.depth (placed c.args.in_loop)) a c.item.new.cursor) (sym c.in_ok-read.ensures);
+  low = omega (arith, ap (λ a. a.height) c.in_ok-read.ensures, c.in_ok-next.ensures.low, c.loop-alloc.invariant.low);
+}
 
 pub items-returns-clause-answers : goal.items-returns-clause-answers
-items-returns-clause-answers t c =
-    record {
-      is = c.loop-alloc.invariant.reads ∙ items_end c.args.depth (placed c.args.in_loop) c.loop-alloc.read c.loop-alloc.cursor
-          (sym c.begins_item.ensures ∙ c.loop-alloc-test.false);
-    }
+items-returns-clause-answers t c = record {
+  is = c.loop-alloc.invariant.reads ∙ loop_end (further_item c.args.depth (placed c.args.in_loop)) c.loop-alloc.read c.loop-alloc.cursor
+      (sym c.begins_item.ensures ∙ c.loop-alloc-test.false);
+}
 
 pub block_in-returns-in_err-read-clause-answers : goal.block_in-returns-in_err-read-clause-answers
 block_in-returns-in_err-read-clause-answers t c =

@@ -1,6 +1,7 @@
 use Rattle.std.proofs.Common.{◌≡◌, ◌≤◌, ◌+◌, ◌*◌, ◌-◌, length}
 use Rattle.c_parse_stmt.specs.Reading.Statements.{placed, items, under}
-use Rattle.c_parse_stmt.specs.Laws.Code.{more_items}
+use Rattle.c_parse_base.specs.Laws.LoopLaws.{left}
+use Rattle.c_parse_stmt.specs.Laws.Code.{further_item}
 use Rattle.c_parse_stmt.proofs.parser.+statement.Given as goal
 
 abbrev pub decreases-headed : goal.decreases-headed
@@ -39,7 +40,7 @@ decreases-statement l = 64 * l.depth + 4
 -- the parts of the block that are left are read from here on
 abbrev pub invariant-items-loop-alloc : goal.invariant-items-loop-alloc
 invariant-items-loop-alloc l = record {
-  reads : items l.fn.depth (under l.fn.depth) (placed l.fn.in_loop) l.fn.cursor ≡ more_items l.depth (placed l.in_loop) l.read l.cursor;
+  reads : items l.fn.depth (under l.fn.depth) (placed l.fn.in_loop) l.fn.cursor ≡ left (further_item l.depth (placed l.in_loop)) l.read l.cursor;
   low : l.read.height ≤ l.depth;
 }
 

@@ -1,9 +1,12 @@
-use Rattle.std.proofs.Common.{arith, sym, ◌∙◌, ap, ◌-◌, refl}
+use Rattle.std.proofs.Common.{arith, sym, ◌∙◌, ap, refl}
 use Rattle.c_ast.specs.declared.punctuator.Punctuator.TheVariants as mark
 use Rattle.c_parse_base.specs.Reading.Words.{punct}
 use Rattle.c_parse_base.specs.Laws.AnswerLaws.{answers_on, answers_by, answers_stop, answers_next, answers_behind, answers_made}
-use Rattle.c_parse_decl.specs.Reading.Initializers.{closed, under}
-use Rattle.c_parse_decl.specs.Laws.Initializers.Code.{rest_items, turn_item, turn_comma, items_is, items_first, items_end, items_turn, items_read, turn_takes, closed_is, initial_value, initial_deep, initial_braces}
+use Rattle.c_parse_base.specs.Reading.Answer.{Read, and_then}
+use Rattle.c_parse_base.specs.Laws.LoopLaws.{left, loop_end, loop_stops, loop_read, loop_takes}
+use Rattle.c_parse_decl.specs.Reading.Initializers.{one_item, closed, under}
+use Rattle.c_parse_decl.specs.Laws.Initializers.Code.{further_turn, further_good, turn_item, turn_comma, items_is, closed_is}
+use Rattle.c_parse_decl.specs.Laws.Initializers.Code.{initial_value, initial_deep, initial_braces}
 use Rattle.c_parse_decl.proofs.initializers.parser.+initializer.Goals as goal
 
 pub turn-returns-in_err-expect-clause-answers : goal.turn-returns-in_err-expect-clause-answers
@@ -35,37 +38,37 @@ items-returns-in_err-first-clause-answers t c =
 
 pub items-loop-alloc-init : goal.items-loop-alloc-init
 items-loop-alloc-init t c = record {
-  reads = items_first c.args.depth c.args.cursor.now c.initial.new.cursor c.in_ok-first.first c.requires c.in_ok-first.ensures.answers.is
-      ∙ ap (λ a. rest_items c.args.depth a c.initial.new.cursor) (sym c.in_ok-read.ensures);
+  reads = items_is c.args.depth c.args.cursor.now c.requires
+      ∙ ap (λ o. and_then (and_then o (λ a us. Read (one_item a) us)) (left (further_turn c.args.depth))) c.in_ok-first.ensures.answers.is
+      ∙ ap (λ a. left (further_turn c.args.depth) a c.initial.new.cursor) (sym c.in_ok-read.ensures);
   low = omega (arith, ap (λ a. a.height) c.in_ok-read.ensures, c.in_ok-first.ensures.low, c.requires);
 }
 
 pub items-returns-in_err-read-2-clause-answers : goal.items-returns-in_err-read-2-clause-answers
 items-returns-in_err-read-2-clause-answers t c =
     answers_on _ c.from_residual-in_err-read-2.ensures.1
-    (answers_by (c.loop-alloc.invariant.reads ∙ items_turn c.args.depth c.loop-alloc.read c.loop-alloc.cursor
-    (sym c.goes_on.ensures ∙ c.loop-alloc-test.true))
-    (answers_stop _ c.in_err-read-2.ensures.answers))
+    (answers_by c.loop-alloc.invariant.reads (loop_stops (further_turn c.args.depth) c.loop-alloc.read c.loop-alloc.cursor
+    (sym c.goes_on.ensures ∙ c.loop-alloc-test.true) refl c.in_err-read-2.ensures.answers))
 
 pub items-loop-alloc-smaller : goal.items-loop-alloc-smaller
-items-loop-alloc-smaller t c = turn_takes c.args.depth c.loop-alloc.read c.in_ok-read-2.read c.loop-alloc.cursor c.turn.new.cursor
-    c.requires c.loop-alloc.invariant.low c.in_ok-read-2.ensures.answers.is
+items-loop-alloc-smaller t c = loop_takes (further_turn c.args.depth) c.loop-alloc.read c.loop-alloc.cursor
+    (further_good c.args.depth c.requires) (record { fits = c.loop-alloc.invariant.low; has_room = refl }) c.in_ok-read-2.read
+    c.turn.new.cursor c.in_ok-read-2.ensures.answers.is
 
 pub items-loop-alloc-preserved : goal.items-loop-alloc-preserved
 items-loop-alloc-preserved t c = record {
   reads = c.loop-alloc.invariant.reads
-      ∙ items_read c.args.depth c.loop-alloc.read c.in_ok-read-2.read c.loop-alloc.cursor c.turn.new.cursor c.requires
-      c.loop-alloc.invariant.low (sym c.goes_on.ensures ∙ c.loop-alloc-test.true)
-      c.in_ok-read-2.ensures.answers.is;
+      ∙ loop_read (further_turn c.args.depth) c.loop-alloc.read c.loop-alloc.cursor (further_good c.args.depth c.requires)
+      (record { fits = c.loop-alloc.invariant.low; has_room = refl }) c.in_ok-read-2.read c.turn.new.cursor
+      c.in_ok-read-2.ensures.answers.is (sym c.goes_on.ensures ∙ c.loop-alloc-test.true);
   low = c.in_ok-read-2.ensures.low;
 }
 
 pub items-returns-clause-answers : goal.items-returns-clause-answers
-items-returns-clause-answers t c =
-    record {
-      is = c.loop-alloc.invariant.reads ∙ items_end c.args.depth c.loop-alloc.read c.loop-alloc.cursor
-          (sym c.goes_on.ensures ∙ c.loop-alloc-test.false);
-    }
+items-returns-clause-answers t c = record {
+  is = c.loop-alloc.invariant.reads ∙ loop_end (further_turn c.args.depth) c.loop-alloc.read c.loop-alloc.cursor
+      (sym c.goes_on.ensures ∙ c.loop-alloc-test.false);
+}
 
 pub closed-returns-in_err-read-clause-answers : goal.closed-returns-in_err-read-clause-answers
 closed-returns-in_err-read-clause-answers t c =

@@ -1,12 +1,13 @@
 use Rattle.std.proofs.Common.{◌≡◌, ◌≤◌, length}
+use Rattle.c_parse_base.specs.Laws.LoopLaws.{left}
 use Rattle.c_parse_decl.specs.Reading.Members as spec
-use Rattle.c_parse_decl.specs.Laws.Members.Code.{more_members}
+use Rattle.c_parse_decl.specs.Laws.Members.Code.{further_member}
 use Rattle.c_parse_decl.proofs.members.parser.members.Given as goal
 
 -- the members that are left are read from here on
 abbrev pub invariant-loop-alloc : goal.invariant-loop-alloc
 invariant-loop-alloc l = record {
-  reads : spec.members l.fn.depth l.fn.cursor ≡ more_members l.depth l.read l.cursor;
+  reads : spec.members l.fn.depth l.fn.cursor ≡ left (further_member l.depth) l.read l.cursor;
   low : l.read.height ≤ l.depth;
 }
 
