@@ -4,4 +4,3 @@ mod Listing
 mod Examples
 mod EffectExamples
 mod AccessExamples
-mod CarriedExamples

@@ -8,13 +8,14 @@ use Rattle.a64_code.specs.declared.instr.Reg.{Reg}
 use Rattle.a64_code.specs.declared.end.MachineEnd.TheVariants.{TagFault}
 use Rattle.a64_code.specs.State.{State}
 use Rattle.a64_code.specs.Stepped.{Leads, Ends}
-use Rattle.a64_code.specs.Laws.Open.{IsOpen}
+use Rattle.a64_laws.specs.Laws.Effects.Open.{IsOpen}
 use Rattle.a64_code.specs.Effect.{effect}
 use Rattle.a64_laws.specs.Forms.{Points, Whole, StoreByte, puts_register}
 use Rattle.a64_laws.specs.Laws.Pointers.{Points-start, Points-on}
 use Rattle.a64_laws.specs.Laws.OpenMemory.{IsOpen-part}
 use Rattle.a64_laws.specs.Laws.Loads.{load_through}
-use Rattle.a64_laws.specs.Laws.PairsThrough.{pair_on, pair_store_caught}
+use Rattle.a64_laws.specs.Laws.Pairs.{pair_on}
+use Rattle.a64_laws.specs.Laws.PairsThrough.{pair_store_caught}
 use Rattle.a64_laws.specs.Laws.Stores.{store_caught}
 
 abbrev x0 : Reg
@@ -34,6 +35,7 @@ record Slots (a : ℕ) (s : State) : Type 0 where
 
 -- the number at 8 behind the start is loaded
 own_is_read : (a : ℕ) (s : State) → Slots a s → effect (Ldr true 1 x1 x0) s ≡ Leads (puts_register x0 (load 8 s.byte (a + 8)) s)
+unfolding puts_register
 own_is_read a s slots =
     load_through Whole 1 (a + 8) 3 x1 x0 s (omega arith) (omega arith)
     (subst (λ (p : ℕ). Points ((p + 8) % 2 ^ 64) (a + 8) 3) (sym slots.pointer) (Points-on 8 (omega (arith, slots.below))

@@ -4,7 +4,7 @@ use Rattle.std.proofs.Common.{arith}
 use Rattle.a64_code.specs.declared.instr.Instr.{Instr}
 use Rattle.a64_code.specs.declared.instr.Instr.TheVariants.{SubImm, AddImm, Stp, Ldp}
 use Rattle.a64_code.specs.State.{State}
-use Rattle.a64_laws.specs.Forms.{stack_pointer, SameRegions, puts_sp}
+use Rattle.a64_laws.specs.Forms.{stack_pointer, SameRegions, puts_registers, puts_sp, puts_bytes}
 use Rattle.a64_laws.specs.Frames.{frame_pointer, link_register, HasRoom, HasPair}
 use Rattle.a64_laws.specs.Runs.{Runs}
 use Rattle.a64_laws.specs.Laws.Frames.{HasPair-stored}
@@ -27,6 +27,7 @@ record Framed (s t : State) : Type 0 where
 
 entered : (s : State) → HasRoom 32 s → s.register 29 < 2 ^ 64 → s.register 30 < 2 ^ 64 → s.pc + 8 < 2 ^ 64 →
     (t : State) × Runs entry 2 s t × Framed s t
+unfolding puts_registers puts_sp puts_bytes
 entered s room fits fits_too pc = (
   _,
   Runs-two (sp_lowered 0 32 32 s refl room.within (omega (arith, room.below)) (omega arith)) refl
@@ -43,6 +44,7 @@ entered s room fits fits_too pc = (
 -- from any state in the frame all three are as they were
 left : (s t : State) → HasRoom 32 s → Framed s t → t.pc + 8 < 2 ^ 64 →
     (u : State) × Runs leave 2 t u × (u.sp ≡ s.sp) × (u.register 29 ≡ s.register 29) × (u.register 30 ≡ s.register 30)
+unfolding puts_registers puts_sp puts_bytes
 left s t room framed pc = (
   _,
   Runs-two (pair_loaded 0 (s.sp - 32) link_register frame_pointer t (omega arith) (omega arith) (omega arith) (omega (arith, framed.sp))

@@ -5,7 +5,7 @@ use Rattle.mt_base.specs.Granules.{granule_of}
 use Rattle.mt_base.specs.Memory.{load}
 use Rattle.a64_code.specs.declared.instr.Instr.TheVariants.{Ldr}
 use Rattle.a64_code.specs.State.{State}
-use Rattle.a64_code.specs.Laws.Open.{IsReadable}
+use Rattle.a64_laws.specs.Laws.Effects.Open.{IsReadable}
 use Rattle.a64_laws.specs.Forms.{Points, Whole, x0, puts_register}
 use Rattle.a64_laws.specs.Runs.{Runs}
 use Rattle.a64_laws.specs.Sequences.{got_instrs, IsPageNear}
@@ -25,6 +25,7 @@ record IsWord (s : State) (at tag : ℕ) : Type 0 where
 loaded : (slot at tag : ℕ) (s : State) → IsWord s slot 0 → IsWord s at tag → tag < 16 → load 8 s.byte slot ≡ at + tag * 2 ^ 56 →
     IsPageNear s.pc slot → s.pc + 12 < 2 ^ 64 →
     (t : State) × Runs (got_instrs s.pc slot x0 ++ (Ldr true 0 x0 x0 ∷ [])) 3 s t × (t.register 0 ≡ load 8 s.byte at)
+unfolding puts_register
 loaded slot at tag s is_slot is_global small holds near pc =
     let got = got_loaded slot x0 s (omega arith) (omega (arith, is_slot.below)) is_slot.aligned is_slot.memory is_slot.tagged
     (omega (arith, pc)) near in

@@ -4,3 +4,8 @@ mod Lists
 mod Touched
 mod Divides
 mod Global
+mod Carried
+mod ReadBack
+mod Clamped
+mod Extended
+mod Fields

@@ -1,13 +1,12 @@
 -- Branches to an instruction so many on or back: their fields, and where they go (this project's own).
 use Rattle.std.specs.Prelude.{ℕ, ◌+◌, ◌-◌, ◌*◌, ◌^◌, ◌<◌, ◌≤◌, ◌==◌, Bool, true, false, not}
-use Rattle.mt_base.specs.Wrapping.{wrapping_add}
 use Rattle.a64_alu.specs.Condition.{condition_holds}
 use Rattle.a64_code.specs.declared.instr.Instr.{Instr}
 use Rattle.a64_code.specs.declared.instr.Instr.TheVariants.{Cbz, Cbnz, B, Bl, BCond}
 use Rattle.a64_code.specs.declared.instr.Reg.{Reg}
-use Rattle.a64_code.specs.State.{State, with_general}
+use Rattle.a64_code.specs.State.{State}
 use Rattle.a64_code.specs.Results.{number}
-use Rattle.a64_code.specs.Shape.{link_register}
+use Rattle.a64_laws.specs.Forms.{puts_pc, puts_link}
 
 -- to the instruction so many on, or back
 pub data Way : Type 0 where
@@ -66,7 +65,7 @@ is_taken (OnZero wide rt) s = number false wide s rt == 0
 is_taken (OnOther wide rt) s = not (number false wide s rt == 0)
 is_taken (OnCondition cond) s = condition_holds cond s.flags
 
--- and leaves the address behind it, or nothing
-abbrev pub with_link : Branch → State → State
-with_link Linked s = with_general link_register (wrapping_add 64 s.pc 4) s
-with_link _ s = s
+-- the state there, where a branch with the link leaves the address behind it in X30
+abbrev pub jumped : Branch → ℕ → State → State
+jumped Linked address s = puts_link address s
+jumped _ address s = puts_pc address s

@@ -1,5 +1,5 @@
 -- The states that instructions lead to, and the kinds of loads and stores (this project's own).
-use Rattle.std.specs.Prelude.{◌≡◌, ◌≢◌, ◌⊎◌, ℕ, ◌+◌, ◌%◌, ◌^◌, Bool, true, false, bit_and, bit_or, bit_xor}
+use Rattle.std.specs.Prelude.{◌≡◌, ◌≢◌, ◌⊎◌, ℕ, ◌+◌, ◌%◌, ◌^◌, Bool, true, false, length, bit_and, bit_or, bit_xor}
 use Rattle.mt_base.specs.Wrapping.{wrapping_add, wrapping_sub}
 use Rattle.mt_base.specs.Granules.{granule_of}
 use Rattle.mt_base.specs.Pointers.{tag_of, address_of}
@@ -11,6 +11,7 @@ use Rattle.a64_code.specs.declared.instr.Reg.{Reg}
 use Rattle.a64_code.specs.Outside.{Outside}
 use Rattle.a64_code.specs.State.{State, with_value}
 use Rattle.a64_code.specs.Effect.{on_bits}
+use Rattle.a64_alu.specs.declared.flags.Flags.{Flags}
 use Rattle.a64_alu.specs.Dividing.{divide_unsigned, divide_signed}
 use Rattle.a64_alu.specs.Shifting.{shift_left_by, shift_right_by, arithmetic_shift_right_by}
 
@@ -28,37 +29,49 @@ zero_register = record { 0 = 31 }
 abbrev pub x0 : Reg
 x0 = record { 0 = 0 }
 
--- ---- states
+-- ---- states, as closed words: goals show them by name, and `Laws.Fields` says what each field is
 
--- PC at the next instruction
-abbrev pub next : State → State
+-- PC at the next instruction, and all else as it was
+unfoldable pub next : State → State
 next s = record s { pc = (s.pc + 4) % 2 ^ 64 }
 
 -- this number in one of X0 to X30, and PC at the next instruction
-abbrev pub puts_register : Reg → ℕ → State → State
+unfoldable pub puts_register : Reg → ℕ → State → State
 puts_register r value s = record s { register = with_value s.register r.0 value; pc = (s.pc + 4) % 2 ^ 64 }
 
 -- two numbers, where the second stays if both registers are one
-abbrev pub puts_registers : Reg → ℕ → Reg → ℕ → State → State
+unfoldable pub puts_registers : Reg → ℕ → Reg → ℕ → State → State
 puts_registers r value q other s = record s { register = with_value (with_value s.register r.0 value) q.0 other; pc = (s.pc + 4) % 2 ^ 64 }
 
--- the same of SP, of the bytes of memory and of its tags
-abbrev pub puts_sp : ℕ → State → State
+-- the same of SP, of the flags, of the bytes of memory and of its tags
+unfoldable pub puts_sp : ℕ → State → State
 puts_sp value s = record s { sp = value; pc = (s.pc + 4) % 2 ^ 64 }
 
-abbrev pub puts_bytes : (ℕ → ℕ) → State → State
+unfoldable pub puts_flags : Flags → State → State
+puts_flags flags s = record s { flags = flags; pc = (s.pc + 4) % 2 ^ 64 }
+
+unfoldable pub puts_bytes : (ℕ → ℕ) → State → State
 puts_bytes byte s = record s { byte = byte; pc = (s.pc + 4) % 2 ^ 64 }
 
-abbrev pub puts_tags : (ℕ → ℕ) → State → State
+unfoldable pub puts_tags : (ℕ → ℕ) → State → State
 puts_tags tag s = record s { tag = tag; pc = (s.pc + 4) % 2 ^ 64 }
 
--- other tags of memory, with PC left as it is
-abbrev pub with_tags : (ℕ → ℕ) → State → State
+-- PC at an address, with nothing else changed or with the address behind the branch in X30
+unfoldable pub puts_pc : ℕ → State → State
+puts_pc address s = record s { pc = address }
+
+unfoldable pub puts_link : ℕ → State → State
+puts_link address s = record s { register = with_value s.register 30 ((s.pc + 4) % 2 ^ 64); pc = address }
+
+-- other tags of memory, another outside, and a choice drawn, with PC left as it is
+unfoldable pub with_tags : (ℕ → ℕ) → State → State
 with_tags tag s = record s { tag = tag }
 
--- another outside
-abbrev pub with_outside : Outside → State → State
+unfoldable pub with_outside : Outside → State → State
 with_outside outside s = record s { outside = outside }
+
+unfoldable pub draws_choice : State → State
+draws_choice s = record s { drawn = (s.drawn + 1) % length s.choices }
 
 -- ---- pointers and memory
 

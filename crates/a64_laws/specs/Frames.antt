@@ -3,7 +3,7 @@ use Rattle.std.specs.Prelude.{◌≡◌, ℕ, ◌+◌, ◌-◌, ◌%◌, ◌^◌
 use Rattle.mt_base.specs.Memory.{load}
 use Rattle.a64_code.specs.declared.instr.Reg.{Reg}
 use Rattle.a64_code.specs.State.{State}
-use Rattle.a64_code.specs.Laws.Open.{IsOpen}
+use Rattle.a64_laws.specs.Laws.Effects.Open.{IsOpen}
 
 -- X29 and X30
 abbrev pub frame_pointer : Reg

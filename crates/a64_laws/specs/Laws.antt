@@ -1,3 +1,5 @@
+pub mod Effects
+pub mod Fields
 pub mod Numbers
 pub mod Pointers
 pub mod OpenMemory
@@ -7,6 +9,7 @@ pub mod Pairs
 pub mod PairsThrough
 pub mod Results
 pub mod Comparing
+pub mod Extending
 pub mod Branches
 pub mod Frames
 pub mod Services
@@ -16,6 +19,7 @@ pub mod Runs
 pub mod Addresses
 pub mod Comparisons
 pub mod Remainders
+pub mod TouchedPlaces
 pub mod Touches
 pub mod Constants
 pub mod Tagging

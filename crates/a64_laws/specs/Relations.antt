@@ -1,8 +1,6 @@
 -- How two numbers compare, and the conditions that tell it (this project's own).
-use Rattle.std.specs.Prelude.{ℕ, ◌+◌, ◌%◌, ◌^◌, ◌==◌, nat_le, nat_lt, int_le, int_lt, Bool, not, if◌then◌else◌}
+use Rattle.std.specs.Prelude.{ℕ, ◌==◌, nat_le, nat_lt, int_le, int_lt, Bool, not, if◌then◌else◌}
 use Rattle.mt_base.specs.TwosComplement.{to_signed}
-use Rattle.a64_alu.specs.declared.flags.Flags.{Flags}
-use Rattle.a64_code.specs.State.{State}
 
 -- the last four are of signed numbers
 pub data Relation : Type 0 where
@@ -42,10 +40,6 @@ holds AtLeast k x y = int_le (to_signed k y) (to_signed k x)
 holds Less k x y = int_lt (to_signed k x) (to_signed k y)
 holds Greater k x y = int_lt (to_signed k y) (to_signed k x)
 holds AtMost k x y = int_le (to_signed k x) (to_signed k y)
-
--- other flags, and PC at the next instruction
-abbrev pub puts_flags : Flags → State → State
-puts_flags flags s = record s { flags = flags; pc = (s.pc + 4) % 2 ^ 64 }
 
 -- what CSINC of two zeros makes of a condition
 abbrev pub with_bool : Bool → ℕ

@@ -7,7 +7,7 @@ use Rattle.a64_code.specs.declared.instr.Instr.TheVariants.{Movz, AddImm, SubImm
 use Rattle.a64_code.specs.declared.instr.Reg.{Reg}
 use Rattle.a64_code.specs.State.{State}
 use Rattle.a64_code.specs.State.{general_or_sp, tagged}
-use Rattle.a64_code.specs.Laws.Open.{IsOpen}
+use Rattle.a64_laws.specs.Laws.Effects.Open.{IsOpen}
 use Rattle.mt_base.specs.Pointers.{tag_of}
 use Rattle.a64_laws.specs.Forms.{Points}
 use Rattle.a64_laws.specs.Runs.{Runs}

@@ -7,7 +7,7 @@ use Rattle.a64_code.specs.declared.end.MachineEnd.TheVariants.{Exited}
 use Rattle.a64_code.specs.State.{State}
 use Rattle.a64_code.specs.Stepped.{Ends}
 use Rattle.a64_code.specs.Step.{step}
-use Rattle.a64_code.specs.Laws.Open.{IsOpen}
+use Rattle.a64_laws.specs.Laws.Effects.Open.{IsOpen}
 use Rattle.a64_laws.specs.Forms.{stack_pointer, zero_register}
 use Rattle.code_runs.specs.Outcome.{Finishes, Unsaid, Meaning, gives, then, spends}
 use Rattle.code_runs.specs.Bounded.{Setting}

@@ -3,7 +3,7 @@ use Rattle.std.specs.Prelude.{◌≡◌, ℕ, zero, suc, ◌≤◌, [], ◌∷�
 use Rattle.std.proofs.Common.{arith, sym, ◌∙◌, subst}
 use Rattle.a64_code.specs.State.{State}
 use Rattle.a64_code.specs.declared.end.MachineEnd.TheVariants.{Exited}
-use Rattle.mte_machine.specs.Laws.CodeAt.{step-at}
+use Rattle.code_runs.specs.Laws.CodeAt.{step-at}
 use Rattle.a64_laws.specs.Forms.{puts_register}
 use Rattle.a64_laws.specs.Laws.Results.{constant_moved}
 use Rattle.a64_laws.specs.Laws.Services.{exited}
@@ -55,6 +55,7 @@ loop loaded at (suc fuel) a now s has related bounds = ticks spent (λ (n : Now)
 exits : (loaded : State) (at : ℕ) (a : Account) (now : Now) (s : State) → HasAt loaded at items →
     Relates loaded at 8 now.cell now.output s → Stands (setting at) a (sparing 6) now →
     Bounded (setting at) a (λ (value : Unit {0}). just) s (λ value _ t. Unit {0}) (Finishes 0 now)
+unfolding puts_register
 exits loaded at a now s has related bounds =
     after (step 8 (omega arith) has related refl (constant_moved 0 x0 s (omega arith)))
     (finishes (record { least = omega (arith, bounds.least); most = omega (arith, bounds.most) })

@@ -6,10 +6,10 @@ use Rattle.std.proofs.lemmas.Bool.{ne_eqb}
 use Rattle.mt_base.specs.Memory.{load, store}
 use Rattle.mt_base.specs.Laws.Memory.{load-store_same, store_bytes_below}
 use Rattle.a64_code.specs.Outside.{after_put}
-use Rattle.a64_code.specs.State.{State, at_pc, advanced}
+use Rattle.a64_code.specs.State.{State}
 use Rattle.a64_code.specs.Stepped.{Leads}
 use Rattle.a64_code.specs.Effect.{effect}
-use Rattle.a64_laws.specs.Forms.{Whole, StoreWhole, puts_register, puts_bytes, with_outside}
+use Rattle.a64_laws.specs.Forms.{Whole, StoreWhole, next, puts_register, puts_bytes, puts_pc, with_outside}
 use Rattle.a64_laws.specs.Laws.OpenMemory.{IsOpen-kept}
 use Rattle.a64_laws.specs.Laws.Loads.{load_at_sp}
 use Rattle.a64_laws.specs.Laws.Stores.{store_at_sp}
@@ -30,6 +30,7 @@ Inside at = (setting at).Inside
 pub step : {loaded s t : State} {at : ℕ} {number : ℕ} {bytes : List ℕ} {item : Item} (k : ℕ) → k < 10 → HasAt loaded at items →
     Relates loaded at k number bytes s → item_at items k ≡ Some item →
     effect (instr_of item) s ≡ Leads t → StepsWithin (Inside at) 1 s t
+unfolding next puts_register puts_bytes puts_pc with_outside
 step k small has related is leads =
     StepsWithin-one (Steps-item k has related.is_at is leads) (omega (arith, related.is_at.pc), omega (arith, related.is_at.pc, small))
 
@@ -38,6 +39,7 @@ step k small has related is leads =
 pub after_register : {loaded : State} {at : ℕ} {number : ℕ} {bytes : List ℕ} (k r value : ℕ) (s : State) → k < 10 →
     HasAt loaded at items → Relates loaded at k number bytes s →
     Relates loaded at (k + 1) number bytes (puts_register (record { 0 = r }) value s)
+unfolding next puts_register puts_bytes puts_pc with_outside
 after_register k r value s small has related = record {
   is_at = IsAt-next has related.is_at small (record { regions = refl; bytes = λ a from to. refl }) refl;
   aligned = related.aligned;
@@ -52,7 +54,8 @@ after_register k r value s small has related = record {
 
 -- PC elsewhere among the items
 moved_to : {loaded : State} {at : ℕ} {number : ℕ} {bytes : List ℕ} (k to address : ℕ) (s : State) → Relates loaded at k number bytes s →
-    address ≡ at + 4 * to → Relates loaded at to number bytes (at_pc address s)
+    address ≡ at + 4 * to → Relates loaded at to number bytes (puts_pc address s)
+unfolding next puts_register puts_bytes puts_pc with_outside
 moved_to k to address s related is = record {
   is_at = record { code = record { regions = related.is_at.code.regions; bytes = related.is_at.code.bytes }; pc = is };
   aligned = related.aligned;
@@ -68,6 +71,7 @@ moved_to k to address s related is = record {
 after_put_byte : {loaded : State} {at : ℕ} {number : ℕ} {bytes : List ℕ} (byte : ℕ) (s : State) → HasAt loaded at items →
     Relates loaded at 3 number bytes s →
     Relates loaded at 4 number (bytes ++ byte ∷ []) (puts_register x0 byte (with_outside (after_put byte s.outside) s))
+unfolding next puts_register puts_bytes puts_pc with_outside
 after_put_byte byte s has related = record {
   is_at = IsAt-next has related.is_at (omega arith) (record { regions = refl; bytes = λ a from to. refl }) refl;
   aligned = related.aligned;
@@ -83,6 +87,7 @@ after_put_byte byte s has related = record {
 after_store : {loaded : State} {at : ℕ} {number : ℕ} {bytes : List ℕ} (value : ℕ) (s : State) → value < 2 ^ 64 → HasAt loaded at items →
     Relates loaded at 6 number bytes s →
     Relates loaded at 7 value bytes (puts_bytes (store 8 s.byte s.sp value) s)
+unfolding next puts_register puts_bytes puts_pc with_outside
 after_store {at = at} value s fits has related = record {
   is_at = IsAt-next has related.is_at (omega arith)
       (record { regions = refl; bytes = λ a from to. store_bytes_below s.byte s.sp _ a (omega (arith, to, related.above)) }) refl;
@@ -107,6 +112,7 @@ pub record Tested (loaded : State) (at number : ℕ) (bytes : List ℕ) (s : Sta
 
 pub tested : {loaded s : State} {at number : ℕ} {bytes : List ℕ} → HasAt loaded at items → Relates loaded at 0 number bytes s →
     Tested loaded at number bytes s
+unfolding next puts_register puts_bytes puts_pc with_outside
 tested {s = s} has related = record {
   to = _;
   led = step 0 (omega arith) has related refl (load_at_sp Whole 0 s.sp x1 s (omega arith)
@@ -124,6 +130,7 @@ pub record Gets (loaded : State) (at steps position number : ℕ) (bytes : List 
 -- where it is zero the branch goes to the end
 pub left : {loaded s : State} {at : ℕ} {bytes : List ℕ} → HasAt loaded at items → Relates loaded at 1 0 bytes s → s.register 1 ≡ 0 →
     Gets loaded at 1 8 0 bytes s
+unfolding next puts_register puts_bytes puts_pc with_outside
 left {s = s} has related zero_in_x1 = record {
   to = _;
   led = step 1 (omega arith) has related refl
@@ -136,6 +143,7 @@ left {s = s} has related zero_in_x1 = record {
 pub put : {loaded s : State} {at less : ℕ} {bytes : List ℕ} → HasAt loaded at items → Relates loaded at 1 (suc less) bytes s →
     s.register 1 ≡ suc less →
     Gets loaded at 3 4 (suc less) (bytes ++ suc less % 256 ∷ []) s
+unfolding next puts_register puts_bytes puts_pc with_outside
 put {loaded} {s} {at} {less} {bytes} has related in_x1 = record {
   to = _;
   led = StepsWithin-add (StepsWithin-add first second) third;
@@ -143,7 +151,7 @@ put {loaded} {s} {at} {less} {bytes} has related in_x1 = record {
 }
   where
     t : State
-    t = advanced s
+    t = next s
 
     u : State
     u = puts_register x0 (t.register 1) t
@@ -169,6 +177,7 @@ put {loaded} {s} {at} {less} {bytes} has related in_x1 = record {
 -- and the cell is lowered
 pub lowered : {loaded s : State} {at less : ℕ} {bytes : List ℕ} → HasAt loaded at items → Relates loaded at 4 (suc less) bytes s →
     Gets loaded at 4 0 less bytes s
+unfolding next puts_register puts_bytes puts_pc with_outside
 lowered {loaded} {s} {at} {less} {bytes} has related = record {
   to = _;
   led = StepsWithin-add (StepsWithin-add (StepsWithin-add first second) third) fourth;
@@ -207,6 +216,6 @@ lowered {loaded} {s} {at} {less} {bytes} has related = record {
     third = step 6 (omega arith) has at_6 refl (store_at_sp StoreWhole 0 u.sp x1 u
         (omega arith) related.below related.aligned at_6.memory)
 
-    fourth : StepsWithin (Inside at) 1 v (at_pc (v.pc - 4 * 7) v)
+    fourth : StepsWithin (Inside at) 1 v (puts_pc (v.pc - 4 * 7) v)
     fourth = step 7 (omega arith) has at_7 refl
         (jump-taken Always (Back 7) v (omega (arith, at_7.is_at.pc, has.below)) (item-there 7 has at_7.is_at refl).reach refl)

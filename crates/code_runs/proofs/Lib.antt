@@ -3,3 +3,4 @@ mod CountdownSteps
 mod CountdownRuns
 mod Called
 mod Beside
+mod Pointed

@@ -2,7 +2,7 @@
 use Rattle.std.specs.Prelude.{◌≡◌, ℕ, zero, suc, ◌+◌, ◌*◌, ◌^◌, ◌<◌, List, [], ◌∷◌, length, Option, Some, None}
 use Rattle.a64_code.specs.declared.instr.Instr.{Instr}
 use Rattle.a64_code.specs.State.{State}
-use Rattle.mte_machine.specs.Laws.CodeAt.{instruction_at, SameAt}
+use Rattle.code_runs.specs.Laws.CodeAt.{instruction_at, SameAt}
 use Rattle.a64_laws.specs.Branches.{Way, Branch, field_bits, jump_instr, IsInReach}
 
 pub data Item : Type 0 where

@@ -1,3 +1,12 @@
+pub mod StepsAmong
+pub mod Fixed
+pub mod CodeAt
+pub mod Straight
+pub mod CodeWords
+pub mod Outputs
+pub mod Failures
+pub mod Inputs
+pub mod Ranges
 pub mod Within
 pub mod Bounded
 pub mod Told

@@ -56,3 +56,7 @@ end_of_answer Protected at = Some (MemoryFault at)
 -- how the tags of an access end the run, where it is checked and all else about it is in order
 abbrev pub end_of_tags : Bool → State → ℕ → ℕ → Option MachineEnd
 end_of_tags checked s pointer bytes = if checked then tag_end s pointer (address_of pointer) bytes else None
+
+-- one granule, or two
+abbrev pub granules : Bool → ℕ
+granules two = if two then 2 else 1

@@ -1,11 +1,2 @@
 pub mod Steps
-pub mod StepsAmong
-pub mod Fixed
-pub mod CodeAt
-pub mod Straight
-pub mod CodeWords
-pub mod Outputs
-pub mod Failures
-pub mod Inputs
-pub mod Ranges
 pub mod OutOfSteps

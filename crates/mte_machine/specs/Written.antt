@@ -12,6 +12,10 @@ abbrev pub base_is_sp : RegisterField → Bool
 base_is_sp Rn = true
 base_is_sp _ = false
 
+-- of those of a store of tags, both may be
+abbrev pub each_is_sp : RegisterField → Bool
+each_is_sp _ = true
+
 -- what follows a write that was answered so: the next instruction, or the end of the run
 abbrev pub FollowsWrite : Result (Unit {0}) MachineEnd → State → Step → State → Type 0
 FollowsWrite (Ok done) old answer new = (answer ≡ Ran) × (new ≡ advanced old)

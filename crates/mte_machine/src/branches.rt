@@ -11,6 +11,7 @@ ghost use Rattle.mte_machine.specs.Machine.{state_of, Executes};
 use crate::machine::Machine;
 use crate::step::Step;
 use a64_alu::condition_holds;
+use a64_code::Instr::{B, BCond, Bl, Cbnz, Cbz, Ret};
 use a64_code::{Instr, Reg};
 use mt_base::sext;
 use tag_mem::TagMemory;
@@ -25,20 +26,12 @@ impl<M: TagMemory> Machine<M> {
         ensures { Executes M.TagMemory (effect instr) self.old result self.new }
     {
         match instr {
-            Instr::Cbz { wide, imm19, rt } => self.branch_if(self.number(wide, rt) == 0, 19, imm19),
-            Instr::Cbnz { wide, imm19, rt } => self.branch_if(
-                self.number(wide, rt) != 0,
-                19,
-                imm19,
-            ),
-            Instr::B { imm26 } => self.branch(26, imm26),
-            Instr::Bl { imm26 } => self.branch_with_link(26, imm26),
-            Instr::BCond { imm19, cond } => self.branch_if(
-                condition_holds(cond, self.flags),
-                19,
-                imm19,
-            ),
-            Instr::Ret => self.branch_to_link(),
+            Cbz { wide, imm19, rt } => self.branch_if(self.number(wide, rt) == 0, 19, imm19),
+            Cbnz { wide, imm19, rt } => self.branch_if(self.number(wide, rt) != 0, 19, imm19),
+            B { imm26 } => self.branch(26, imm26),
+            Bl { imm26 } => self.branch_with_link(26, imm26),
+            BCond { imm19, cond } => self.branch_if(condition_holds(cond, self.flags), 19, imm19),
+            Ret => self.branch_to_link(),
             _ => unreachable!(),
         }
     }

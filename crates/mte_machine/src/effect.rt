@@ -8,6 +8,12 @@ ghost use Rattle.mte_machine.specs.Machine.{Executes};
 use crate::machine::Machine;
 use crate::step::Step;
 use a64_code::Instr;
+use a64_code::Instr::{
+    AddImm, AddReg, Addg, Adrp, AndReg, Asrv, B, BCond, Bl, Cbnz, Cbz, Csinc, EorReg, Irg, Ldg,
+    Ldp, Ldr, Ldrb, Ldrh, Ldrsb, Ldrsh, Ldrsw, Lslv, Lsrv, Madd, Movk, Movn, Movz, Msub, Nop,
+    OrrReg, Ret, Sbfm, Sdiv, St2g, Stg, Stp, Str, Strb, Strh, Stz2g, Stzg, SubImm, SubReg, Subg,
+    SubsImm, SubsReg, Svc, Ubfm, Udiv,
+};
 use tag_mem::TagMemory;
 
 impl<M: TagMemory> Machine<M> {
@@ -18,45 +24,28 @@ impl<M: TagMemory> Machine<M> {
         ensures { Executes M.TagMemory (effect instr) self.old result self.new }
     {
         match instr {
-            Instr::Movz { .. } | Instr::Movk { .. } | Instr::Movn { .. } | Instr::Adrp { .. } =>
-                self.move_number(instr),
-            Instr::AddImm { .. } | Instr::SubImm { .. } | Instr::SubsImm { .. } => self.add_number(
+            Movz { .. } | Movk { .. } | Movn { .. } | Adrp { .. } => self.move_number(instr),
+            AddImm { .. } | SubImm { .. } | SubsImm { .. } => self.add_number(instr),
+            AddReg { .. } | SubReg { .. } | SubsReg { .. } => self.add_register(instr),
+            AndReg { .. } | OrrReg { .. } | EorReg { .. } | Csinc { .. } => self.combine(instr),
+            Lslv { .. } | Lsrv { .. } | Asrv { .. } | Sbfm { .. } | Ubfm { .. } => self.shift(
                 instr,
             ),
-            Instr::AddReg { .. } | Instr::SubReg { .. } | Instr::SubsReg { .. } =>
-                self.add_register(instr),
-            Instr::AndReg { .. }
-            | Instr::OrrReg { .. }
-            | Instr::EorReg { .. }
-            | Instr::Csinc { .. } => self.combine(instr),
-            Instr::Lslv { .. }
-            | Instr::Lsrv { .. }
-            | Instr::Asrv { .. }
-            | Instr::Sbfm { .. }
-            | Instr::Ubfm { .. } => self.shift(instr),
-            Instr::Udiv { .. } | Instr::Sdiv { .. } | Instr::Madd { .. } | Instr::Msub { .. } =>
-                self.multiply(instr),
-            Instr::Cbz { .. }
-            | Instr::Cbnz { .. }
-            | Instr::B { .. }
-            | Instr::Bl { .. }
-            | Instr::BCond { .. }
-            | Instr::Ret => self.go(instr),
-            Instr::Ldr { .. }
-            | Instr::Ldrb { .. }
-            | Instr::Ldrh { .. }
-            | Instr::Ldrsw { .. }
-            | Instr::Ldrsb { .. }
-            | Instr::Ldrsh { .. }
-            | Instr::Ldp { .. }
-            | Instr::Ldg { .. } => self.load(instr),
-            Instr::Str { .. } | Instr::Strb { .. } | Instr::Strh { .. } | Instr::Stp { .. } =>
-                self.store(instr),
-            Instr::Addg { .. } | Instr::Subg { .. } | Instr::Irg { .. } => self.tag_pointer(instr),
-            Instr::Stg { .. } | Instr::Stzg { .. } | Instr::St2g { .. } | Instr::Stz2g { .. } =>
-                self.tag_granules(instr),
-            Instr::Nop => self.advance(),
-            Instr::Svc { .. } => unreachable!(),
+            Udiv { .. } | Sdiv { .. } | Madd { .. } | Msub { .. } => self.multiply(instr),
+            Cbz { .. } | Cbnz { .. } | B { .. } | Bl { .. } | BCond { .. } | Ret => self.go(instr),
+            Ldr { .. }
+            | Ldrb { .. }
+            | Ldrh { .. }
+            | Ldrsw { .. }
+            | Ldrsb { .. }
+            | Ldrsh { .. }
+            | Ldp { .. }
+            | Ldg { .. } => self.load(instr),
+            Str { .. } | Strb { .. } | Strh { .. } | Stp { .. } => self.store(instr),
+            Addg { .. } | Subg { .. } | Irg { .. } => self.tag_pointer(instr),
+            Stg { .. } | Stzg { .. } | St2g { .. } | Stz2g { .. } => self.tag_granules(instr),
+            Nop => self.advance(),
+            Svc { .. } => unreachable!(),
         }
     }
 }

@@ -1,12 +1,17 @@
 // Instructions that load and store the tags of granules.
 ghost use Rattle.std.specs.Prelude.{◌≡◌};
+ghost use Rattle.a64_code.specs.Shape.{done};
+ghost use Rattle.a64_code.specs.TagInstructions.{stores_tag, clears};
 ghost use Rattle.a64_code.specs.Effect.{effect};
+ghost use Rattle.mte_machine.specs.Accesses.{granules};
+ghost use Rattle.mte_machine.specs.Written.{each_is_sp};
 ghost use Rattle.mte_machine.specs.Groups.{TagsGranules};
 ghost use Rattle.mte_machine.specs.Machine.{Executes};
 
 use crate::machine::Machine;
-use crate::memory::{clear_granule, clear_two_granules, load_tag, tag_granule, tag_two_granules};
+use crate::memory::{clear_granules, load_tag, tag_granules};
 use crate::step::Step;
+use a64_code::Instr::{St2g, Stg, Stz2g, Stzg};
 use a64_code::{Instr, Reg};
 use mt_base::{tag_of, with_tag};
 use tag_mem::TagMemory;
@@ -18,10 +23,10 @@ impl<M: TagMemory> Machine<M> {
         ensures { Executes M.TagMemory (effect instr) self.old result self.new }
     {
         match instr {
-            Instr::Stg { simm9, rn, rt } => self.store_tag(simm9, rn, rt),
-            Instr::Stzg { simm9, rn, rt } => self.store_tag_and_zeros(simm9, rn, rt),
-            Instr::St2g { simm9, rn, rt } => self.store_two_tags(simm9, rn, rt),
-            Instr::Stz2g { simm9, rn, rt } => self.store_two_tags_and_zeros(simm9, rn, rt),
+            Stg { simm9, rn, rt } => self.store_tags(false, simm9, rn, rt),
+            Stzg { simm9, rn, rt } => self.clear(false, simm9, rn, rt),
+            St2g { simm9, rn, rt } => self.store_tags(true, simm9, rn, rt),
+            Stz2g { simm9, rn, rt } => self.clear(true, simm9, rn, rt),
             _ => unreachable!(),
         }
     }
@@ -37,43 +42,23 @@ impl<M: TagMemory> Machine<M> {
         }
     }
 
-    // STG: a granule gets the tag of Rt.
-    pub(crate) fn store_tag(&mut self, simm9: u16, rn: Reg, rt: Reg) -> Step
-        ensures { Executes M.TagMemory (effect (Instr.Stg simm9 rn rt)) self.old result self.new }
+    // STG and ST2G: one granule, or two, get the tag of Rt.
+    pub(crate) fn store_tags(&mut self, two: bool, simm9: u16, rn: Reg, rt: Reg) -> Step
+        ensures { Executes M.TagMemory (λ s. done (stores_tag each_is_sp (granules two) simm9 rn rt s) s) self.old result self.new }
     {
         let pointer = self.beside(rn, 9, 16, simm9);
         let tag = tag_of(self.general_or_sp(rt));
-        let answer = tag_granule(&mut self.memory, pointer, tag);
+        let answer = tag_granules(&mut self.memory, pointer, two, tag);
         self.go_on(answer)
     }
 
-    // STZG: a granule gets it and zeros for bytes.
-    pub(crate) fn store_tag_and_zeros(&mut self, simm9: u16, rn: Reg, rt: Reg) -> Step
-        ensures { Executes M.TagMemory (effect (Instr.Stzg simm9 rn rt)) self.old result self.new }
+    // STZG and STZ2G: they get it and zeros for bytes.
+    pub(crate) fn clear(&mut self, two: bool, simm9: u16, rn: Reg, rt: Reg) -> Step
+        ensures { Executes M.TagMemory (λ s. done (clears each_is_sp (granules two) simm9 rn rt s) s) self.old result self.new }
     {
         let pointer = self.beside(rn, 9, 16, simm9);
         let tag = tag_of(self.general_or_sp(rt));
-        let answer = clear_granule(&mut self.memory, pointer, tag);
-        self.go_on(answer)
-    }
-
-    // ST2G: two granules get it.
-    pub(crate) fn store_two_tags(&mut self, simm9: u16, rn: Reg, rt: Reg) -> Step
-        ensures { Executes M.TagMemory (effect (Instr.St2g simm9 rn rt)) self.old result self.new }
-    {
-        let pointer = self.beside(rn, 9, 16, simm9);
-        let tag = tag_of(self.general_or_sp(rt));
-        let answer = tag_two_granules(&mut self.memory, pointer, tag);
-        self.go_on(answer)
-    }
-
-    // STZ2G: two granules get it and zeros for bytes.
-    pub(crate) fn store_two_tags_and_zeros(&mut self, simm9: u16, rn: Reg, rt: Reg) -> Step
-        ensures { Executes M.TagMemory (effect (Instr.Stz2g simm9 rn rt)) self.old result self.new }
-    {
-        let pointer = self.beside(rn, 9, 16, simm9);
-        let tag = tag_of(self.general_or_sp(rt));
-        let answer = clear_two_granules(&mut self.memory, pointer, tag);
+        let answer = clear_granules(&mut self.memory, pointer, two, tag);
         self.go_on(answer)
     }
 }

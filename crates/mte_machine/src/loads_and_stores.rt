@@ -12,6 +12,7 @@ ghost use Rattle.mte_machine.specs.Machine.{state_of, Executes};
 use crate::machine::Machine;
 use crate::memory::{load, load_pair, store, store_pair};
 use crate::step::Step;
+use a64_code::Instr::{Ldg, Ldp, Ldr, Ldrb, Ldrh, Ldrsb, Ldrsh, Ldrsw, Stp, Str, Strb, Strh};
 use a64_code::{Instr, MachineEnd, Reg};
 use mt_base::sext;
 use tag_mem::TagMemory;
@@ -23,19 +24,19 @@ impl<M: TagMemory> Machine<M> {
         ensures { Executes M.TagMemory (effect instr) self.old result self.new }
     {
         match instr {
-            Instr::Ldr {
+            Ldr {
                 wide,
                 imm12,
                 rn,
                 rt,
             } => self.load_register(register_bytes(wide), imm12, rn, rt),
-            Instr::Ldrb { imm12, rn, rt } => self.load_register(1, imm12, rn, rt),
-            Instr::Ldrh { imm12, rn, rt } => self.load_register(2, imm12, rn, rt),
-            Instr::Ldrsw { imm12, rn, rt } => self.load_signed(4, imm12, rn, rt),
-            Instr::Ldrsb { imm12, rn, rt } => self.load_signed(1, imm12, rn, rt),
-            Instr::Ldrsh { imm12, rn, rt } => self.load_signed(2, imm12, rn, rt),
-            Instr::Ldp { imm7, rt2, rn, rt } => self.load_two_registers(imm7, rt2, rn, rt),
-            Instr::Ldg { simm9, rn, rt } => self.load_granule_tag(simm9, rn, rt),
+            Ldrb { imm12, rn, rt } => self.load_register(1, imm12, rn, rt),
+            Ldrh { imm12, rn, rt } => self.load_register(2, imm12, rn, rt),
+            Ldrsw { imm12, rn, rt } => self.load_signed(4, imm12, rn, rt),
+            Ldrsb { imm12, rn, rt } => self.load_signed(1, imm12, rn, rt),
+            Ldrsh { imm12, rn, rt } => self.load_signed(2, imm12, rn, rt),
+            Ldp { imm7, rt2, rn, rt } => self.load_two_registers(imm7, rt2, rn, rt),
+            Ldg { simm9, rn, rt } => self.load_granule_tag(simm9, rn, rt),
             _ => unreachable!(),
         }
     }
@@ -46,15 +47,15 @@ impl<M: TagMemory> Machine<M> {
         ensures { Executes M.TagMemory (effect instr) self.old result self.new }
     {
         match instr {
-            Instr::Str {
+            Str {
                 wide,
                 imm12,
                 rn,
                 rt,
             } => self.store_register(register_bytes(wide), imm12, rn, rt),
-            Instr::Strb { imm12, rn, rt } => self.store_register(1, imm12, rn, rt),
-            Instr::Strh { imm12, rn, rt } => self.store_register(2, imm12, rn, rt),
-            Instr::Stp { imm7, rt2, rn, rt } => self.store_two_registers(imm7, rt2, rn, rt),
+            Strb { imm12, rn, rt } => self.store_register(1, imm12, rn, rt),
+            Strh { imm12, rn, rt } => self.store_register(2, imm12, rn, rt),
+            Stp { imm7, rt2, rn, rt } => self.store_two_registers(imm7, rt2, rn, rt),
             _ => unreachable!(),
         }
     }

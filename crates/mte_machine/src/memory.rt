@@ -8,4 +8,4 @@ mod tag;
 
 pub(crate) use pair::{load_pair, store_pair};
 pub(crate) use single::{load, store};
-pub(crate) use tag::{clear_granule, clear_two_granules, load_tag, tag_granule, tag_two_granules};
+pub(crate) use tag::{clear_granules, load_tag, tag_granules};

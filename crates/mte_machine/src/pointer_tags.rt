@@ -17,6 +17,7 @@ ghost use Rattle.mte_machine.specs.Machine.{state_of, Executes};
 use crate::machine::Machine;
 use crate::step::Step;
 use a64_alu::{add, subtract};
+use a64_code::Instr::{Addg, Irg, Subg};
 use a64_code::{Instr, Reg};
 use mt_base::{Exclude, Tag, next_tag, tag_of, with_tag};
 use tag_mem::TagMemory;
@@ -32,7 +33,7 @@ impl<M: TagMemory> Machine<M> {
         ensures { Executes M.TagMemory (effect instr) self.old result self.new }
     {
         match instr {
-            Instr::Addg {
+            Addg {
                 uimm6,
                 uimm4,
                 rn,
@@ -42,7 +43,7 @@ impl<M: TagMemory> Machine<M> {
                 let address = add(true, pointer, 16 * u64::from(uimm6));
                 self.put_with_next_tag(rd, address, pointer, uimm4)
             }
-            Instr::Subg {
+            Subg {
                 uimm6,
                 uimm4,
                 rn,
@@ -52,7 +53,7 @@ impl<M: TagMemory> Machine<M> {
                 let address = subtract(true, pointer, 16 * u64::from(uimm6));
                 self.put_with_next_tag(rd, address, pointer, uimm4)
             }
-            Instr::Irg { rm, rn, rd } => self.insert_random_tag(rm, rn, rd),
+            Irg { rm, rn, rd } => self.insert_random_tag(rm, rn, rd),
             _ => unreachable!(),
         }
     }

@@ -15,6 +15,10 @@ use a64_alu::{
     shift_arithmetic, shift_left, shift_right, signed_bitfield, subtract, unsigned_bitfield,
 };
 use a64_code::Instr;
+use a64_code::Instr::{
+    AddImm, AddReg, Adrp, AndReg, Asrv, Csinc, EorReg, Lslv, Lsrv, Madd, Movk, Movn, Movz, Msub,
+    OrrReg, Sbfm, Sdiv, SubImm, SubReg, SubsImm, SubsReg, Ubfm, Udiv,
+};
 use tag_mem::TagMemory;
 
 impl<M: TagMemory> Machine<M> {
@@ -25,13 +29,13 @@ impl<M: TagMemory> Machine<M> {
         ensures { Executes M.TagMemory (effect instr) self.old result self.new }
     {
         match instr {
-            Instr::Movz {
+            Movz {
                 wide,
                 hw,
                 imm16,
                 rd,
             } => self.put(wide, rd, halfword_at(wide, hw, imm16)),
-            Instr::Movk {
+            Movk {
                 wide,
                 hw,
                 imm16,
@@ -40,13 +44,13 @@ impl<M: TagMemory> Machine<M> {
                 let old = self.number(wide, rd);
                 self.put(wide, rd, with_halfword(old, hw, imm16))
             }
-            Instr::Movn {
+            Movn {
                 wide,
                 hw,
                 imm16,
                 rd,
             } => self.put(wide, rd, invert(wide, halfword_at(wide, hw, imm16))),
-            Instr::Adrp { immlo, immhi, rd } => self.put(true, rd, self.page_target(immhi, immlo)),
+            Adrp { immlo, immhi, rd } => self.put(true, rd, self.page_target(immhi, immlo)),
             _ => unreachable!(),
         }
     }
@@ -58,7 +62,7 @@ impl<M: TagMemory> Machine<M> {
         ensures { Executes M.TagMemory (effect instr) self.old result self.new }
     {
         match instr {
-            Instr::AddImm {
+            AddImm {
                 wide,
                 sh,
                 imm12,
@@ -68,7 +72,7 @@ impl<M: TagMemory> Machine<M> {
                 let y = shifted_immediate(sh, imm12);
                 self.put_or_sp(wide, rd, add(wide, self.general_or_sp(rn), y))
             }
-            Instr::SubImm {
+            SubImm {
                 wide,
                 sh,
                 imm12,
@@ -78,7 +82,7 @@ impl<M: TagMemory> Machine<M> {
                 let y = shifted_immediate(sh, imm12);
                 self.put_or_sp(wide, rd, subtract(wide, self.general_or_sp(rn), y))
             }
-            Instr::SubsImm {
+            SubsImm {
                 wide,
                 sh,
                 imm12,
@@ -98,17 +102,17 @@ impl<M: TagMemory> Machine<M> {
         ensures { Executes M.TagMemory (effect instr) self.old result self.new }
     {
         match instr {
-            Instr::AddReg { wide, rm, rn, rd } => self.put(
+            AddReg { wide, rm, rn, rd } => self.put(
                 wide,
                 rd,
                 add(wide, self.general(rn), self.general(rm)),
             ),
-            Instr::SubReg { wide, rm, rn, rd } => self.put(
+            SubReg { wide, rm, rn, rd } => self.put(
                 wide,
                 rd,
                 subtract(wide, self.general(rn), self.general(rm)),
             ),
-            Instr::SubsReg { wide, rm, rn, rd } => self.put_difference(
+            SubsReg { wide, rm, rn, rd } => self.put_difference(
                 wide,
                 rd,
                 self.general(rn),
@@ -124,22 +128,22 @@ impl<M: TagMemory> Machine<M> {
         ensures { Executes M.TagMemory (effect instr) self.old result self.new }
     {
         match instr {
-            Instr::AndReg { wide, rm, rn, rd } => self.put(
+            AndReg { wide, rm, rn, rd } => self.put(
                 wide,
                 rd,
                 self.number(wide, rn) & self.number(wide, rm),
             ),
-            Instr::OrrReg { wide, rm, rn, rd } => self.put(
+            OrrReg { wide, rm, rn, rd } => self.put(
                 wide,
                 rd,
                 self.number(wide, rn) | self.number(wide, rm),
             ),
-            Instr::EorReg { wide, rm, rn, rd } => self.put(
+            EorReg { wide, rm, rn, rd } => self.put(
                 wide,
                 rd,
                 self.number(wide, rn) ^ self.number(wide, rm),
             ),
-            Instr::Csinc {
+            Csinc {
                 wide,
                 rm,
                 cond,
@@ -162,22 +166,22 @@ impl<M: TagMemory> Machine<M> {
         ensures { Executes M.TagMemory (effect instr) self.old result self.new }
     {
         match instr {
-            Instr::Lslv { wide, rm, rn, rd } => self.put(
+            Lslv { wide, rm, rn, rd } => self.put(
                 wide,
                 rd,
                 shift_left(wide, self.general(rn), self.general(rm)),
             ),
-            Instr::Lsrv { wide, rm, rn, rd } => self.put(
+            Lsrv { wide, rm, rn, rd } => self.put(
                 wide,
                 rd,
                 shift_right(wide, self.general(rn), self.general(rm)),
             ),
-            Instr::Asrv { wide, rm, rn, rd } => self.put(
+            Asrv { wide, rm, rn, rd } => self.put(
                 wide,
                 rd,
                 shift_arithmetic(wide, self.general(rn), self.general(rm)),
             ),
-            Instr::Sbfm {
+            Sbfm {
                 wide,
                 immr,
                 imms,
@@ -188,7 +192,7 @@ impl<M: TagMemory> Machine<M> {
                 rd,
                 signed_bitfield(wide, immr, imms, self.general(rn)),
             ),
-            Instr::Ubfm {
+            Ubfm {
                 wide,
                 immr,
                 imms,
@@ -209,17 +213,17 @@ impl<M: TagMemory> Machine<M> {
         ensures { Executes M.TagMemory (effect instr) self.old result self.new }
     {
         match instr {
-            Instr::Udiv { wide, rm, rn, rd } => self.put(
+            Udiv { wide, rm, rn, rd } => self.put(
                 wide,
                 rd,
                 divide_unsigned(wide, self.general(rn), self.general(rm)),
             ),
-            Instr::Sdiv { wide, rm, rn, rd } => self.put(
+            Sdiv { wide, rm, rn, rd } => self.put(
                 wide,
                 rd,
                 divide_signed(wide, self.general(rn), self.general(rm)),
             ),
-            Instr::Madd {
+            Madd {
                 wide,
                 rm,
                 ra,
@@ -230,7 +234,7 @@ impl<M: TagMemory> Machine<M> {
                 let y = self.general(rm);
                 self.put(wide, rd, multiply_add(wide, x, y, self.general(ra)))
             }
-            Instr::Msub {
+            Msub {
                 wide,
                 rm,
                 ra,

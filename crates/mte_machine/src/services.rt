@@ -33,7 +33,8 @@ impl<M: TagMemory> Machine<M> {
         sink: &mut K,
     ) -> Step
         ensures { StepAnswers
-            (λ w. service number (state_of M.TagMemory self.old w)) (λ w. state_of M.TagMemory self.old w) (λ w. state_of M.TagMemory self.new w)
+            (λ w. service number (state_of M.TagMemory self.old w)) (λ w. state_of M.TagMemory self.old w)
+            (λ w. state_of M.TagMemory self.new w)
             (objects S.Source K.Sink source.old sink.old) (objects S.Source K.Sink source.new sink.new) result }
     {
         match number {

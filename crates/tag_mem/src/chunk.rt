@@ -1,4 +1,5 @@
-ghost use Rattle.std.specs.Prelude.{◌≡◌, ℕ, ◌+◌, ◌*◌, ◌<◌, ◌≤◌, ◌^◌, ◌↔◌, IsTrue, IfSome, IfNone, true, false, length, slice_index, slice_index_or, take, drop};
+ghost use Rattle.std.specs.Prelude.{◌≡◌, ℕ, ◌+◌, ◌*◌, ◌<◌, ◌≤◌, ◌^◌, ◌↔◌, IsTrue, IfSome, IfNone, true, false, length, slice_index};
+ghost use Rattle.std.specs.Prelude.{slice_index_or, take, drop};
 ghost use Rattle.std.specs.List.{All, AllPairs};
 ghost use Rattle.mt_base.specs.Memory.{is_mapped, bytes_at};
 ghost use Rattle.tag_mem.specs.Regions.{extents_of, byte_in, AreApart, IsWhole, IsHeldBy, IsChunk};

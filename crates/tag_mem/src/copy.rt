@@ -17,7 +17,8 @@ fn put_chunk(regions: &mut [Region], chunk: Chunk, source: &[u8])
     requires within { (d : Region) → chunk.offset + chunk.count ≤ length (slice_index_or regions.old chunk.region d).bytes.items }
     requires len { length source.now ≡ chunk.count }
     ensures extents { extents_of regions.new ≡ extents_of regions.old }
-    ensures bytes { (at most : ℕ) → IsChunk regions.old at most chunk → byte_in regions.new ≡ store_bytes (byte_in regions.old) at source.now }
+    ensures bytes { (at most : ℕ) → IsChunk regions.old at most chunk →
+        byte_in regions.new ≡ store_bytes (byte_in regions.old) at source.now }
 {
     regions[chunk.region].put(chunk.offset, source);
 }

@@ -8,8 +8,8 @@ use Rattle.a64_code.specs.declared.instr.Reg.{Reg}
 use Rattle.a64_code.specs.State.{State, with_value}
 use Rattle.a64_code.specs.Stepped.{Leads}
 use Rattle.a64_code.specs.Effect.{effect}
-use Rattle.a64_code.specs.Laws.Open.{IsReadable}
-use Rattle.a64_code.specs.Laws.Registers.{with_value-same, with_value-other}
+use Rattle.a64_laws.specs.Laws.Effects.Open.{IsReadable}
+use Rattle.a64_laws.specs.Laws.Effects.Registers.{with_value-same, with_value-other}
 use Rattle.a64_laws.specs.Forms.{Points, Whole, puts_register}
 use Rattle.a64_laws.specs.Constants.{PutsConstant}
 use Rattle.a64_laws.specs.Sequences.{page_field, page_instr, address_instrs, got_instrs, IsPageNear}
@@ -32,6 +32,7 @@ page_placed address rd s small fits pc near =
 -- two steps put one number and then another into a register
 puts_second : (rd : Reg) (first second : ℕ) {instrs : List Instr} (s : State) → length instrs ≡ 2 →
     Runs instrs 2 s (puts_register rd second (puts_register rd first s)) → PutsConstant rd second instrs s
+unfolding puts_register
 puts_second rd first second {instrs} s two runs = record {
   to = t;
   runs = subst (λ (n : ℕ). Runs instrs n s t) (sym two) runs;
@@ -57,6 +58,7 @@ puts_second rd first second {instrs} s two runs = record {
 -- any address less than 2 ^ 20 pages away
 pub address_put : (address : ℕ) (rd : Reg) (s : State) → rd.0 < 31 → address < 2 ^ 64 → s.pc + 8 < 2 ^ 64 → IsPageNear s.pc address →
     PutsConstant rd address (address_instrs s.pc address rd) s
+unfolding puts_register
 address_put address rd s small fits pc near =
     puts_second rd page address s refl (Runs-cons (page_placed address rd s small fits (omega (arith, pc)) near) refl (omega (arith, pc))
     (Runs-one (number_added 0 (address % 4096) (address % 4096) rd rd t small small (omega arith)
@@ -75,6 +77,7 @@ address_put address rd s small fits pc near =
 pub got_loaded : (slot : ℕ) (rd : Reg) (s : State) → rd.0 < 31 → slot < 2 ^ 56 → slot % 8 ≡ 0 → IsReadable s slot 8 →
     s.tag (granule_of slot) ≡ 0 → s.pc + 8 < 2 ^ 64 → IsPageNear s.pc slot →
     PutsConstant rd (load 8 s.byte slot) (got_instrs s.pc slot rd) s
+unfolding puts_register
 got_loaded slot rd s small below aligned memory untagged pc near =
     puts_second rd page (load 8 s.byte slot) s refl
     (Runs-cons (page_placed slot rd s small (omega (arith, below)) (omega (arith, pc)) near) refl (omega (arith, pc))

@@ -6,13 +6,13 @@ use Rattle.a64_alu.specs.Width.{width, of_width}
 use Rattle.a64_alu.specs.Adding.{subtract_with_flags}
 use Rattle.a64_alu.specs.Condition.{condition_holds}
 use Rattle.a64_code.specs.declared.instr.Reg.{Reg}
-use Rattle.a64_code.specs.State.{State, at_pc, advanced}
+use Rattle.a64_code.specs.State.{State}
 use Rattle.a64_code.specs.Stepped.{Leads}
 use Rattle.a64_code.specs.Effect.{effect}
-use Rattle.a64_laws.specs.Forms.{puts_register}
+use Rattle.a64_laws.specs.Forms.{next, puts_register, puts_flags, puts_pc}
 use Rattle.a64_laws.specs.Branches.{Way, OnCondition, goes_to, IsInReach}
 use Rattle.a64_laws.specs.Relations.{Relation, Equal, Unequal, HigherOrSame, Lower, Higher, LowerOrSame, AtLeast, Less, Greater, AtMost}
-use Rattle.a64_laws.specs.Relations.{code_of, holds, puts_flags, with_bool}
+use Rattle.a64_laws.specs.Relations.{code_of, holds, with_bool}
 use Rattle.a64_laws.specs.Runs.{RunsFrom, Runs}
 use Rattle.a64_laws.specs.Sequences.{contrary, Compared, With, WithNumber, compare_instr, second_number, IsComparable, comparison_instrs}
 use Rattle.a64_laws.specs.Sequences.{bit_of, comparison_branch}
@@ -74,6 +74,7 @@ pub comparison_put : (r : Relation) (wide : Bool) (second : Compared) (rn rd : R
     rd.0 < 31 → s.register rn.0 < 2 ^ 64 → s.pc + 8 < 2 ^ 64 →
     Runs (comparison_instrs r wide second rn rd) 2 s
     (puts_register rd (bit_of (compares r wide second rn s)) (puts_flags (compared_flags wide second rn s) s))
+unfolding next puts_register puts_flags puts_pc
 comparison_put r wide second rn rd s can first small fits pc =
     Runs-cons (flags_put wide second rn s can first) refl (omega (arith, pc))
     (Runs-one (condition_put (code_of (contrary r)) rd t small
@@ -94,14 +95,15 @@ pub comparison-taken : (r : Relation) (wide : Bool) (second : Compared) (rn : Re
     rn.0 < 31 → s.register rn.0 < 2 ^ 64 → s.pc + 8 < 2 ^ 64 → IsInReach 19 (s.pc + 4) way →
     compares r wide second rn s ≡ true →
     RunsFrom (comparison_branch r wide second rn way) s.pc 2 s
-    (at_pc (goes_to (s.pc + 4) way) (puts_flags (compared_flags wide second rn s) s))
+    (puts_pc (goes_to (s.pc + 4) way) (puts_flags (compared_flags wide second rn s) s))
+unfolding next puts_register puts_flags puts_pc
 comparison-taken r wide second rn way s can first fits pc reach is =
-    RunsFrom-add (comparison_branch r wide second rn way) s.pc 1 1 s t (at_pc (goes_to (s.pc + 4) way) t)
+    RunsFrom-add (comparison_branch r wide second rn way) s.pc 1 1 s t (puts_pc (goes_to (s.pc + 4) way) t)
     (RunsFrom-one_at 0 _ (omega arith) refl (flags_put wide second rn s can first))
     (RunsFrom-one_at 1 _ (omega (arith, pc)) refl
     (jump-taken (OnCondition (code_of r)) way t (omega (arith, pc)) (rw (branch_pc s.pc pc) reach)
     (flags_tell r wide second rn s can fits ∙ is)
-    ∙ ap (λ (at : ℕ). Leads (at_pc (goes_to at way) t)) (branch_pc s.pc pc)))
+    ∙ ap (λ (at : ℕ). Leads (puts_pc (goes_to at way) t)) (branch_pc s.pc pc)))
   where
     t : State
     t = puts_flags (compared_flags wide second rn s) s
@@ -109,7 +111,8 @@ comparison-taken r wide second rn way s can first fits pc reach is =
 -- it does not hold: PC is behind the branch
 pub comparison-passed : (r : Relation) (wide : Bool) (second : Compared) (rn : Reg) (way : Way) (s : State) → IsComparable second s →
     rn.0 < 31 → s.register rn.0 < 2 ^ 64 → s.pc + 8 < 2 ^ 64 → compares r wide second rn s ≡ false →
-    Runs (comparison_branch r wide second rn way) 2 s (advanced (puts_flags (compared_flags wide second rn s) s))
+    Runs (comparison_branch r wide second rn way) 2 s (next (puts_flags (compared_flags wide second rn s) s))
+unfolding next puts_register puts_flags puts_pc
 comparison-passed r wide second rn way s can first fits pc is =
     Runs-cons (flags_put wide second rn s can first) refl (omega (arith, pc))
     (Runs-one (jump-passed (OnCondition (code_of r)) way t (flags_tell r wide second rn s can fits ∙ is)) refl (omega (arith, pc)))

@@ -8,7 +8,7 @@ use Rattle.a64_code.specs.declared.instr.Instr.TheVariants.{Movz, Movk}
 use Rattle.a64_code.specs.declared.instr.Reg.{Reg}
 use Rattle.a64_code.specs.State.{State}
 use Rattle.a64_code.specs.Stepped.{Leads}
-use Rattle.a64_code.specs.Laws.Registers.{with_value-same, with_value-other}
+use Rattle.a64_laws.specs.Laws.Effects.Registers.{with_value-same, with_value-other}
 use Rattle.a64_code.specs.Effect.{effect}
 use Rattle.a64_laws.specs.Forms.{puts_register}
 use Rattle.a64_laws.specs.Runs.{Runs}
@@ -19,16 +19,19 @@ use Rattle.a64_laws.specs.Laws.Runs.{Runs-one, Runs-append}
 -- one halfword of a register whose bits from there on are clear
 pub halfword_1 : (bits : ℕ) (rd : Reg) (s : State) → rd.0 < 31 → bits < 2 ^ 16 → s.register rd.0 < 2 ^ 16 →
     effect (Movk true 1 bits rd) s ≡ Leads (puts_register rd (s.register rd.0 + bits * 2 ^ 16) s)
+unfolding puts_register
 halfword_1 bits rd s small fits clear =
     rw (lt-ltb rd.0 31 small) (ap (λ (value : ℕ). Leads (puts_register rd value s)) (omega (arith, fits, clear)))
 
 pub halfword_2 : (bits : ℕ) (rd : Reg) (s : State) → rd.0 < 31 → bits < 2 ^ 16 → s.register rd.0 < 2 ^ 32 →
     effect (Movk true 2 bits rd) s ≡ Leads (puts_register rd (s.register rd.0 + bits * 2 ^ 32) s)
+unfolding puts_register
 halfword_2 bits rd s small fits clear =
     rw (lt-ltb rd.0 31 small) (ap (λ (value : ℕ). Leads (puts_register rd value s)) (omega (arith, fits, clear)))
 
 pub halfword_3 : (bits : ℕ) (rd : Reg) (s : State) → rd.0 < 31 → bits < 2 ^ 16 → s.register rd.0 < 2 ^ 48 →
     effect (Movk true 3 bits rd) s ≡ Leads (puts_register rd (s.register rd.0 + bits * 2 ^ 48) s)
+unfolding puts_register
 halfword_3 bits rd s small fits clear =
     rw (lt-ltb rd.0 31 small) (ap (λ (value : ℕ). Leads (puts_register rd value s)) (omega (arith, fits, clear)))
 
@@ -52,6 +55,7 @@ and_halfword : {instrs : List Instr} {rd : Reg} {value : ℕ} {s : State} (hw bi
     ((t : State) → t.register rd.0 ≡ value → effect (Movk true hw bits rd) t ≡ Leads (puts_register rd (t.register rd.0 + bits * 2 ^
     (16 * hw)) t)) →
     s.pc + 4 * length instrs + 4 < 2 ^ 64 → PutsConstant rd value instrs s → PutsConstant rd next (instrs ++ kept_halfword hw bits rd) s
+unfolding puts_register
 and_halfword {instrs} {rd} {value} {s} hw zero next is moves fits puts =
     subst (λ (list : List Instr). PutsConstant rd next list s) (sym (append-nil instrs))
     (subst (λ (n : ℕ). PutsConstant rd n instrs s) (let e : value ≡ next = omega (arith, is) in e) puts)
@@ -80,6 +84,7 @@ and_halfword {instrs} {rd} {value} {s} hw (suc bits) next is moves fits puts = r
 }
 
 first_halfword : (bits : ℕ) (rd : Reg) (s : State) → rd.0 < 31 → s.pc + 4 < 2 ^ 64 → PutsConstant rd bits (Movz true 0 bits rd ∷ []) s
+unfolding puts_register
 first_halfword bits rd s small fits = record {
   to = puts_register rd bits s;
   runs = Runs-one (constant_moved bits rd s small) refl fits;
@@ -105,6 +110,7 @@ kept_few hw (suc bits) rd = omega arith
 -- the constant is in the register, and the other registers and all else are as before
 pub constant_put : (value : ℕ) (rd : Reg) (s : State) → rd.0 < 31 → value < 2 ^ 64 → s.pc + 16 < 2 ^ 64 → PutsConstant rd value
     (constant_moves rd value) s
+unfolding puts_register
 constant_put value rd s small fits room =
     and_halfword 3 (value / 2 ^ 48) value (omega arith) (λ t is. halfword_3 (value / 2 ^ 48) rd t small (omega (arith, fits)) (omega
     (arith, is)))

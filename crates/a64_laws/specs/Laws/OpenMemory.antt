@@ -4,7 +4,7 @@ use Rattle.std.proofs.Common.{arith, ap, ◌∙◌}
 use Rattle.mt_base.specs.Memory.{is_in_span, is_mapped, is_protected}
 use Rattle.a64_code.specs.State.{State}
 use Rattle.a64_laws.specs.Forms.{SameRegions}
-use Rattle.a64_code.specs.Laws.Open.{IsReadable, IsOpen}
+use Rattle.a64_laws.specs.Laws.Effects.Open.{IsReadable, IsOpen}
 
 pub IsReadable-part : {s : State} {start bytes : ℕ} (first fewer : ℕ) → start ≤ first → first + fewer ≤ start + bytes →
     IsReadable s start bytes → IsReadable s first fewer

@@ -49,6 +49,7 @@ pub page_put : (address immlo immhi : ℕ) (rd : Reg) (s : State) → rd.0 < 31 
     address < 2 ^ 64 → s.pc < 2 ^ 64 →
     address / 4096 < s.pc / 4096 + 2 ^ 20 → s.pc / 4096 ≤ address / 4096 + 2 ^ 20 →
     effect (Adrp immlo immhi rd) s ≡ Leads (puts_register rd (address / 4096 * 4096) s)
+unfolding puts_register
 page_put address immlo immhi rd s small field fits pc_fits on back =
     rw (lt-ltb rd.0 31 small) (ap (λ (value : ℕ). Leads (puts_register rd value s)) (ap (λ (pages : ℕ). page_target pages s) field
     ∙ page_is address s fits pc_fits on back))

@@ -1,9 +1,8 @@
 -- Stores and loads of a pair of registers through a pointer, whose tag has to be that of each granule touched (this project's own).
-use Rattle.std.specs.Prelude.{◌≡◌, ℕ, ◌+◌, ◌-◌, ◌*◌, ◌%◌, ◌^◌, ◌<◌, ◌≤◌, Bool, true, false, Some, refl}
+use Rattle.std.specs.Prelude.{◌≡◌, ℕ, ◌+◌, ◌-◌, ◌*◌, ◌%◌, ◌^◌, ◌<◌, Bool, true, false, Some, refl}
 use Rattle.std.proofs.Common.{arith, ap, ◌∙◌, inl, inr}
 use Rattle.std.proofs.lemmas.Bool.{lt-ltb}
 use Rattle.mt_base.specs.Extension.{sign_extend}
-use Rattle.mt_base.specs.Laws.Extension.{sign_extend_low, sign_extend_high}
 use Rattle.mt_base.specs.Memory.{load, store}
 use Rattle.mt_base.specs.Pointers.{address_of}
 use Rattle.a64_code.specs.declared.instr.Instr.TheVariants.{Stp, Ldp}
@@ -12,19 +11,11 @@ use Rattle.a64_code.specs.declared.end.MachineEnd.TheVariants.{TagFault}
 use Rattle.a64_code.specs.State.{State, general}
 use Rattle.a64_code.specs.Stepped.{Leads, Ends}
 use Rattle.a64_code.specs.Access.{pair, access_end}
-use Rattle.a64_code.specs.Laws.Accesses.{IsAdmitted, IsAllowed, access_end-tag, access_end-second_tag}
+use Rattle.a64_laws.specs.Laws.Effects.Accesses.{IsAdmitted, IsAllowed, access_end-tag, access_end-second_tag}
 use Rattle.a64_code.specs.Results.{result_of}
-use Rattle.a64_code.specs.Laws.Open.{IsReadable, IsOpen, in_readable, in_open, loads_pair-done, stores_pair-done}
+use Rattle.a64_laws.specs.Laws.Effects.Open.{IsReadable, IsOpen, in_readable, in_open, loads_pair-done, stores_pair-done}
 use Rattle.a64_code.specs.Effect.{effect}
 use Rattle.a64_laws.specs.Forms.{Points, PairAgrees, PairDiffers, puts_bytes, puts_registers}
-
--- ---- the field of an offset in units of 8 bytes, on or back
-
-pub pair_on : (n : ℕ) → n < 64 → sign_extend 7 64 n ≡ n
-pair_on n small = sign_extend_low 7 64 n (omega arith) (omega (arith, small)) ∙ omega (arith, small)
-
-pub pair_back : (n : ℕ) → 1 ≤ n → n ≤ 64 → sign_extend 7 64 (128 - n) ≡ 2 ^ 64 - n
-pair_back n some small = omega (arith, some, small, sign_extend_high 7 64 (128 - n) (omega arith) (omega (arith, some, small)))
 
 -- ---- what both have in common
 
@@ -67,6 +58,7 @@ caught writes pointer at tag found s points admitted (inr differs) =
 pub pair_stored_through : (imm7 at tag : ℕ) (rt2 rn rt : Reg) (s : State) → rn.0 < 31 →
     Points ((s.register rn.0 + 8 * sign_extend 7 64 imm7) % 2 ^ 64) at tag → at % 8 ≡ 0 → IsOpen s at 16 → PairAgrees s at tag →
     effect (Stp imm7 rt2 rn rt) s ≡ Leads (puts_bytes (store 8 (store 8 s.byte at (general s rt)) (at + 8) (general s rt2)) s)
+unfolding puts_bytes
 pair_stored_through imm7 at tag rt2 rn rt s base points aligned memory agrees =
     rw (lt-ltb rn.0 31 base) (stores_pair-done pointer true (general s rt) (general s rt2) s
     (allowed true pointer at tag s points (writable pointer at tag s points aligned memory) agrees)
@@ -87,6 +79,7 @@ pair_store_caught imm7 at tag found rt2 rn rt s base points aligned memory diffe
 pub pair_loaded_through : (imm7 at tag : ℕ) (rt2 rn rt : Reg) (s : State) → rn.0 < 31 → rt.0 < 31 → rt2.0 < 31 →
     Points ((s.register rn.0 + 8 * sign_extend 7 64 imm7) % 2 ^ 64) at tag → at % 8 ≡ 0 → IsReadable s at 16 → PairAgrees s at tag →
     effect (Ldp imm7 rt2 rn rt) s ≡ Leads (puts_registers rt (load 8 s.byte at) rt2 (load 8 s.byte (at + 8)) s)
+unfolding puts_registers
 pair_loaded_through imm7 at tag rt2 rn rt s base first second points aligned memory agrees =
     rw (lt-ltb rn.0 31 base) (loads_pair-done (pair pointer false true) (result_of false true rt (load 8 s.byte (address_of pointer)))
     (result_of false true rt2 (load 8 s.byte (address_of pointer + 8))) s

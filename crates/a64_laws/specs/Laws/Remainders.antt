@@ -13,7 +13,7 @@ use Rattle.a64_code.specs.declared.instr.Reg.{Reg}
 use Rattle.a64_code.specs.State.{State}
 use Rattle.a64_code.specs.Stepped.{Leads}
 use Rattle.a64_code.specs.Effect.{effect}
-use Rattle.a64_code.specs.Laws.Registers.{with_value-same, with_value-other}
+use Rattle.a64_laws.specs.Laws.Effects.Registers.{with_value-same, with_value-other}
 use Rattle.a64_laws.specs.Forms.{DivideUnsigned, DivideSigned, puts_register}
 use Rattle.a64_laws.specs.Runs.{Runs}
 use Rattle.a64_laws.specs.Sequences.{Sign, Unsigned, Signed, divide_instr, remainder_instrs, quotient, remainder}
@@ -68,6 +68,7 @@ divided : (sign : Sign) (wide : Bool) (rm rn rq : Reg) (s : State) → rm.0 < 31
     s.register rn.0 < 2 ^ 64 → of_width wide (s.register rm.0) ≢ 0 →
     effect (divide_instr sign wide rm rn rq) s
     ≡ Leads (puts_register rq (quotient sign (width wide) (of_width wide (s.register rn.0)) (of_width wide (s.register rm.0))) s)
+unfolding puts_register
 divided Unsigned wide rm rn rq s second first small fits some =
     operated DivideUnsigned wide rm rn rq s second first small
     ∙ ap (λ (value : ℕ). Leads (puts_register rq value s)) (ap (of_width wide) (rw (ne_eqb (of_width wide (s.register rm.0)) 0 some) refl)
@@ -84,6 +85,7 @@ pub remainder_put : (sign : Sign) (wide : Bool) (rm rn rq rd : Reg) (s : State) 
     let y = of_width wide (s.register rm.0) in
     Runs (remainder_instrs sign wide rm rn rq rd) 2 s
     (puts_register rd (remainder sign (width wide) x y) (puts_register rq (quotient sign (width wide) x y) s))
+unfolding puts_register
 remainder_put sign wide rm rn rq rd s second first between small other_second other_first fits some pc =
     Runs-cons (divided sign wide rm rn rq s second first between fits some) refl (omega (arith, pc))
     (Runs-one (multiplied_and_taken wide rm rn rq rd t second first between small

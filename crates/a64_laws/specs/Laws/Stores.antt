@@ -10,9 +10,9 @@ use Rattle.a64_code.specs.declared.end.MachineEnd.TheVariants.{TagFault}
 use Rattle.a64_code.specs.State.{State, general}
 use Rattle.a64_code.specs.Stepped.{Stepped, Leads, Ends}
 use Rattle.a64_code.specs.Access.{single}
-use Rattle.a64_code.specs.Laws.Accesses.{IsSize, IsAdmitted, IsAllowed}
+use Rattle.a64_laws.specs.Laws.Effects.Accesses.{IsSize, IsAdmitted, IsAllowed}
 use Rattle.a64_code.specs.Shape.{Stores, done}
-use Rattle.a64_code.specs.Laws.Open.{IsOpen, in_open, allowed_unchecked, allowed_single, stores-done, stores-caught}
+use Rattle.a64_laws.specs.Laws.Effects.Open.{IsOpen, in_open, allowed_unchecked, allowed_single, stores-done, stores-caught}
 use Rattle.a64_code.specs.Effect.{effect}
 use Rattle.a64_laws.specs.Forms.{Points, Store, StoreWhole, StoreWord, StoreHalf, StoreByte, store_size, store_instr, stack_pointer}
 use Rattle.a64_laws.specs.Forms.{puts_bytes}
@@ -30,6 +30,7 @@ stored n pointer checked rt s = done (Stores n pointer checked (general s rt)) s
 
 single_done : (n pointer at : ℕ) (checked : Bool) (rt : Reg) (s : State) → IsAllowed s (single n pointer true checked) →
     address_of pointer ≡ at → stored n pointer checked rt s ≡ Leads (puts_bytes (store n s.byte at (general s rt)) s)
+unfolding puts_bytes
 single_done n pointer at checked rt s allowed same = stores-done n pointer checked (general s rt) s allowed ∙ rw same refl
 
 admitted_at : (n pointer at : ℕ) (checked : Bool) (s : State) → address_of pointer ≡ at → at % n ≡ 0 → IsOpen s at n →
@@ -40,12 +41,14 @@ admitted_at n pointer at checked s same aligned memory =
 
 at_sp : (n pointer at : ℕ) (rt : Reg) (s : State) → address_of pointer ≡ at → at % n ≡ 0 → IsOpen s at n →
     stored n pointer false rt s ≡ Leads (puts_bytes (store n s.byte at (general s rt)) s)
+unfolding puts_bytes
 at_sp n pointer at rt s same aligned memory =
     single_done n pointer at false rt s
     (allowed_unchecked s (single n pointer true false) (admitted_at n pointer at false s same aligned memory) refl) same
 
 through : (n pointer at tag : ℕ) (rt : Reg) (s : State) → IsSize n → Points pointer at tag → at % n ≡ 0 → IsOpen s at n →
     s.tag (granule_of at) ≡ tag → stored n pointer true rt s ≡ Leads (puts_bytes (store n s.byte at (general s rt)) s)
+unfolding puts_bytes
 through n pointer at tag rt s size points aligned memory agrees =
     single_done n pointer at true rt s
     (allowed_single s n pointer true true size (admitted_at n pointer at true s points.is_at aligned memory)
@@ -87,6 +90,7 @@ pub store_through : (k : Store) (imm12 at tag : ℕ) (rn rt : Reg) (s : State) �
     Points ((s.register rn.0 + imm12 * store_size k) % 2 ^ 64) at tag → at % store_size k ≡ 0 →
     IsOpen s at (store_size k) → s.tag (granule_of at) ≡ tag →
     effect (store_instr k imm12 rn rt) s ≡ Leads (puts_bytes (store (store_size k) s.byte at (general s rt)) s)
+unfolding puts_bytes
 store_through StoreWhole imm12 at tag rn rt s base points aligned memory agrees =
     rw (lt-ltb rn.0 31 base) (through (store_size StoreWhole)
     ((s.register rn.0 + imm12 * store_size StoreWhole) % 2 ^ 64) at tag rt s (store_is_size StoreWhole) points aligned memory agrees)

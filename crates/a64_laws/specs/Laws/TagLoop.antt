@@ -5,12 +5,12 @@ use Rattle.std.proofs.lemmas.Bool.{cases_eq, cases_Bool, ne_eqb, lt-ltb}
 use Rattle.mt_base.specs.Pointers.{tag_of}
 use Rattle.a64_code.specs.declared.instr.Instr.TheVariants.{AddImm, SubImm, Cbnz}
 use Rattle.a64_code.specs.declared.instr.Reg.{Reg}
-use Rattle.a64_code.specs.State.{State, with_value, general_or_sp, at_pc}
+use Rattle.a64_code.specs.State.{State, with_value, general_or_sp}
 use Rattle.a64_code.specs.Stepped.{Leads}
-use Rattle.a64_code.specs.Laws.Registers.{with_value-same, with_value-other}
+use Rattle.a64_laws.specs.Laws.Effects.Registers.{with_value-same, with_value-other}
 use Rattle.a64_code.specs.State.{tagged}
 use Rattle.a64_code.specs.Effect.{effect}
-use Rattle.a64_laws.specs.Forms.{Points, puts_register}
+use Rattle.a64_laws.specs.Forms.{Points, next, puts_register, puts_tags, puts_pc}
 use Rattle.a64_laws.specs.Branches.{Back, OnOther}
 use Rattle.a64_laws.specs.Runs.{RunsFrom}
 use Rattle.a64_laws.specs.Tagging.{tags_from, loop_end, tag_loop, SameButTags, LoopRegisters, IsAhead}
@@ -70,6 +70,7 @@ abbrev after_branch : ℕ → ℕ → ℕ → State → State
 after_branch pairs more base s = record s { pc = if more == 0 then base + 4 * (pairs + 3) else base }
 
 count_kept : (rn count : Reg) (pairs : ℕ) (s : State) → count.0 ≢ rn.0 → (after_add rn pairs s).register count.0 ≡ s.register count.0
+unfolding puts_register
 count_kept rn count pairs s apart = with_value-other s.register rn.0 ((s.register rn.0 + 32 * pairs) % 2 ^ 64) count.0 apart
 
 add_done : (rn : Reg) (pairs : ℕ) (s : State) → rn.0 < 31 → effect (AddImm true 0 (32 * pairs) rn rn) s ≡ Leads (after_add rn pairs s)
@@ -77,6 +78,7 @@ add_done rn pairs s small = number_added 0 (32 * pairs) (32 * pairs) rn rn s sma
 
 sub_done : (rn count : Reg) (pairs more : ℕ) (s : State) → LoopRegisters rn rn count → s.register count.0 ≡ suc more → suc more < 2 ^ 64 →
     effect (SubImm true 0 1 count count) (after_add rn pairs s) ≡ Leads (after_sub rn count pairs more s)
+unfolding puts_register puts_tags puts_pc
 sub_done rn count pairs more s regs counts fits =
     number_taken 0 1 1 count count (after_add rn pairs s) regs.counter regs.counter refl (omega (arith, kept, counts)) (omega
     (arith, kept, counts, fits))
@@ -90,9 +92,10 @@ sub_done rn count pairs more s regs counts fits =
 branch_done : (rn count : Reg) (pairs more base : ℕ) (s : State) → count.0 < 31 → pairs < 128 → s.register count.0 ≡ more →
     s.pc ≡ base + 4 * (pairs + 2) → base + 4 * (pairs + 3) < 2 ^ 64 →
     effect (Cbnz true (2 ^ 19 - (pairs + 2)) count) s ≡ Leads (after_branch pairs more base s)
+unfolding next puts_register puts_tags puts_pc
 branch_done rn count pairs zero base s small reach counts pc fits =
     jump-passed (OnOther true count) (Back (pairs + 2)) s (rw (lt-ltb count.0 31 small, counts) refl)
-    ∙ ap (λ (a : ℕ). Leads (at_pc a s)) (let e : (s.pc + 4) % 2 ^ 64 ≡ base + 4 * (pairs + 3) = omega (arith, pc, fits) in e)
+    ∙ ap (λ (a : ℕ). Leads (puts_pc a s)) (let e : (s.pc + 4) % 2 ^ 64 ≡ base + 4 * (pairs + 3) = omega (arith, pc, fits) in e)
 branch_done rn count pairs (suc more) base s small reach counts pc fits =
     jump-taken (OnOther true count) (Back (pairs + 2)) s (omega (arith, pc, fits)) (
       omega arith,
@@ -100,7 +103,7 @@ branch_done rn count pairs (suc more) base s small reach counts pc fits =
       omega
           (arith, pc),
     ) (rw (lt-ltb count.0 31 small, counts, ne_eqb (suc more) 0 (λ is. absurd (omega (arith, is)))) refl)
-    ∙ rw (ne_eqb (suc more) 0 (λ is. absurd (omega (arith, is)))) (ap (λ (a : ℕ). Leads (at_pc a s)) (let e : s.pc - 4 *
+    ∙ rw (ne_eqb (suc more) 0 (λ is. absurd (omega (arith, is)))) (ap (λ (a : ℕ). Leads (puts_pc a s)) (let e : s.pc - 4 *
     (pairs + 2) ≡ base = omega (arith, pc) in e))
 
 abbrev round_end : Reg → Reg → ℕ → ℕ → ℕ → ℕ → State → State
@@ -109,6 +112,7 @@ round_end rn count pairs more at value s = after_branch pairs more s.pc (after_s
 round_steps : (rt rn count : Reg) (pairs more at tag value : ℕ) (s : State) → LoopRegisters rt rn count → IsAhead rt rn count pairs
     (suc more) at tag value s →
     RunsFrom (tag_loop rt rn count pairs) s.pc (pairs + 3) s (round_end rn count pairs more at value s)
+unfolding puts_register puts_tags puts_pc
 round_steps rt rn count pairs more at tag value s regs ahead =
     RunsFrom-add (tag_loop rt rn count pairs) s.pc pairs 3 s u (round_end rn count pairs more at value s)
     (tags_done rt rn count pairs more at tag value s regs ahead)
@@ -149,6 +153,7 @@ round_steps rt rn count pairs more at tag value s regs ahead =
 source_kept : (rt rn count : Reg) (pairs more at tag value : ℕ) (s : State) → LoopRegisters rt rn count → IsAhead rt rn count pairs
     (suc more) at tag value s →
     tag_of (general_or_sp (round_end rn count pairs more at value s) rt) ≡ value
+unfolding puts_register puts_tags puts_pc
 source_kept rt rn count pairs more at tag value s regs ahead = elim (cases_Bool (nat_lt rt.0 31)) [
   | inl small ↦ rw small (elim (cases_eq rt.0 rn.0) [
     | inl is ↦
@@ -175,6 +180,7 @@ source_kept rt rn count pairs more at tag value s regs ahead = elim (cases_Bool 
 one_round : (rt rn count : Reg) (pairs more at tag value : ℕ) (s : State) → LoopRegisters rt rn count → IsAhead rt rn count pairs
     (suc more) at tag value s →
     Round rt rn count pairs more at tag value s (round_end rn count pairs more at value s)
+unfolding puts_register puts_tags puts_pc
 one_round rt rn count pairs more at tag value s regs ahead = record {
   steps = round_steps rt rn count pairs more at tag value s regs ahead;
   pc = refl;

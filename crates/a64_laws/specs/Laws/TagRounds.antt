@@ -7,10 +7,10 @@ use Rattle.mt_base.specs.Pointers.{tag_of}
 use Rattle.a64_code.specs.declared.instr.Instr.{Instr}
 use Rattle.a64_code.specs.declared.instr.Reg.{Reg}
 use Rattle.a64_code.specs.State.{State, general_or_sp}
-use Rattle.a64_code.specs.Laws.Registers.{with_value-other, with_value-same}
+use Rattle.a64_laws.specs.Laws.Effects.Registers.{with_value-other, with_value-same}
 use Rattle.a64_code.specs.State.{tagged}
-use Rattle.a64_code.specs.Laws.Open.{IsOpen}
-use Rattle.a64_laws.specs.Forms.{Points, puts_register}
+use Rattle.a64_laws.specs.Laws.Effects.Open.{IsOpen}
+use Rattle.a64_laws.specs.Forms.{Points, puts_register, puts_tags}
 use Rattle.a64_laws.specs.Runs.{RunsFrom, Runs}
 use Rattle.a64_laws.specs.Tagging.{tags_from, loop_end, tag_loop, SameButTags, TagsGranules, tags_in_rounds, tag_quickly, tag_shortly}
 use Rattle.a64_laws.specs.Tagging.{base_or_count}
@@ -40,6 +40,7 @@ pub record Tagged (instrs : List Instr) (steps n at value : ℕ) (is_scratch : �
 pub tags_short : (rt rn count : Reg) (n at tag value : ℕ) (s : State) → CanTag rt rn count n at tag value s → n ≤ 256 → s.pc + 4 *
     ((n + 1) / 2) < 2 ^ 64 →
     Tagged (tags_from rt rn 0 n) ((n + 1) / 2) n at value (base_or_count rn count) s
+unfolding puts_register puts_tags
 tags_short rt rn count n at tag value s can reach fits = record {
   to = tagged_to n (at + 16 * 0) value ((n + 1) / 2) s;
   tagged = record {
@@ -79,6 +80,7 @@ counted : (rt rn count : Reg) (pairs more n at tag value : ℕ) (s : State) → 
     suc more < 2 ^ 16 →
     2 * (suc more * pairs) ≤ n → s.pc + 4 + 4 * (pairs + 3) < 2 ^ 64 → IsAhead rt rn count pairs (suc more) at tag value
     (puts_register count (suc more) s)
+unfolding puts_register puts_tags
 counted rt rn count pairs more n at tag value s can reach small within fits = record {
   points = subst (λ (pointer : ℕ). Points pointer at tag) (sym (with_value-other s.register count.0 (suc more) rn.0
       (λ same. can.registers.apart (sym same)))) can.points;
@@ -137,6 +139,7 @@ pub tags_rounds : (rt rn count : Reg) (pairs more rest n at tag value : ℕ) (s 
     n ≡ 2 * (suc more * pairs) + rest →
     pairs < 128 → suc more < 2 ^ 16 → rest ≤ 256 → s.pc + 4 * (pairs + 4 + (rest + 1) / 2) < 2 ^ 64 →
     Tagged (tags_in_rounds rt rn count pairs (suc more) rest) (round_steps pairs (suc more) rest) n at value (base_or_count rn count) s
+unfolding puts_register puts_tags
 tags_rounds rt rn count pairs more rest n at tag value s can whole reach small few fits = record {
   to = tagged_to rest place value ((rest + 1) / 2) looped.to;
   tagged = record {

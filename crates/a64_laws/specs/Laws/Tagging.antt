@@ -10,7 +10,7 @@ use Rattle.a64_code.specs.Stepped.{Leads}
 use Rattle.a64_code.specs.State.{tagged}
 use Rattle.a64_code.specs.declared.instr.Instr.TheVariants.{St2g}
 use Rattle.a64_code.specs.Effect.{effect}
-use Rattle.a64_code.specs.Laws.Open.{IsOpen}
+use Rattle.a64_laws.specs.Laws.Effects.Open.{IsOpen}
 use Rattle.a64_laws.specs.Forms.{puts_tags}
 use Rattle.a64_laws.specs.Runs.{Runs}
 use Rattle.a64_laws.specs.Tagging.{tags_from}
@@ -49,6 +49,7 @@ pub record MayTag (rt rn : Reg) (first n at value : ℕ) (s : State) : Type 0 wh
 pub Runs-tags_from : (rt rn : Reg) (first n at value : ℕ) (s : State) → MayTag rt rn first n at value s → s.pc + 4 *
     ((n + 1) / 2) < 2 ^ 64 →
     Runs (tags_from rt rn first n) ((n + 1) / 2) s (tagged_to n (at + 16 * first) value ((n + 1) / 2) s)
+unfolding puts_tags
 Runs-tags_from rt rn first zero at value s may fits =
     subst (λ (t : State). Runs [] 0 s t) (ap (λ (pc : ℕ). record s { pc = pc }) (omega arith)) (Runs-nil s)
 Runs-tags_from rt rn first (suc zero) at value s may fits =

@@ -6,13 +6,13 @@ use Rattle.mt_base.specs.Memory.{is_between}
 use Rattle.a64_code.specs.declared.instr.Instr.{Instr}
 use Rattle.a64_code.specs.declared.end.MachineEnd.{MachineEnd}
 use Rattle.a64_code.specs.State.{State}
-use Rattle.a64_code.specs.Laws.EffectLeaves.{effect-led}
-use Rattle.a64_code.specs.Laws.Kept.{keeps_same}
-use Rattle.a64_code.specs.Laws.Leaves.{Keeps}
+use Rattle.a64_laws.specs.Laws.Effects.EffectLeaves.{effect-led}
+use Rattle.a64_laws.specs.Laws.Effects.Kept.{keeps_same}
+use Rattle.a64_laws.specs.Laws.Effects.Leaves.{Keeps}
 use Rattle.a64_code.specs.Laws.Reach.{reach}
-use Rattle.a64_code.specs.Laws.Reaches.{Keeps-then}
+use Rattle.a64_laws.specs.Laws.Effects.Reaches.{Keeps-then}
 use Rattle.mte_machine.specs.Run.{Stopped, run}
-use Rattle.mte_machine.specs.Laws.CodeAt.{HasCode, SameAt}
+use Rattle.code_runs.specs.Laws.CodeAt.{HasCode, SameAt}
 use Rattle.a64_laws.specs.Runs.{Moves, Runs, RunsInto}
 use Rattle.a64_laws.specs.Touches.{Touch, touches_only, reach_from}
 use Rattle.a64_laws.specs.Laws.Touches.{RunsFrom-keeps}

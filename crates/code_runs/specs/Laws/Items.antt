@@ -7,8 +7,8 @@ use Rattle.a64_code.specs.State.{State}
 use Rattle.a64_code.specs.Stepped.{Leads}
 use Rattle.a64_code.specs.Effect.{effect}
 use Rattle.mte_machine.specs.Run.{Steps}
-use Rattle.mte_machine.specs.Laws.CodeAt.{instruction_at, HasCode, HasCode-first, HasCode-rest, HasCode-kept, SameAt, SameAt-within}
-use Rattle.mte_machine.specs.Laws.CodeAt.{Steps-at}
+use Rattle.code_runs.specs.Laws.CodeAt.{instruction_at, HasCode, HasCode-first, HasCode-rest, HasCode-kept, SameAt, SameAt-within}
+use Rattle.code_runs.specs.Laws.CodeAt.{Steps-at}
 use Rattle.code_runs.specs.Items.{Item, instr_of, JumpsInReach, AllInReach, StandAt, HasAt, item_at, IsAt}
 
 -- ---- in pieces

@@ -6,9 +6,9 @@ use Rattle.a64_code.specs.declared.end.MachineEnd.{MachineEnd}
 use Rattle.a64_code.specs.State.{State}
 use Rattle.mte_machine.specs.Run.{Stopped, run}
 use Rattle.mte_machine.specs.Laws.Steps.{run-ends}
-use Rattle.mte_machine.specs.Laws.Fixed.{Fixed, Fixed-same, Fixed-then, Fixed-effect}
-use Rattle.mte_machine.specs.Laws.CodeAt.{instruction_at, HasCode, HasCode-first, HasCode-rest, HasCode-kept, SameAt, SameAt-within}
-use Rattle.mte_machine.specs.Laws.CodeAt.{SameAt-fixed, CannotBeWritten, step-at, Steps-at}
+use Rattle.code_runs.specs.Laws.Fixed.{Fixed, Fixed-same, Fixed-then, Fixed-effect}
+use Rattle.code_runs.specs.Laws.CodeAt.{instruction_at, HasCode, HasCode-first, HasCode-rest, HasCode-kept, SameAt, SameAt-within}
+use Rattle.code_runs.specs.Laws.CodeAt.{SameAt-fixed, CannotBeWritten, step-at, Steps-at}
 use Rattle.a64_laws.specs.Runs.{instr_at, IsNext, Moves, RunsFrom, Runs, RunsInto}
 use Rattle.code_runs.specs.Within.{StepsWithin}
 use Rattle.code_runs.specs.Laws.Within.{StepsWithin-none, StepsWithin-one, StepsWithin-add}

@@ -7,7 +7,7 @@ use Rattle.a64_code.specs.Step.{step}
 use Rattle.a64_code.specs.declared.end.MachineEnd.{MachineEnd}
 use Rattle.mte_machine.specs.Run.{Running, Stopped, run, Steps}
 use Rattle.mte_machine.specs.Laws.Steps.{Steps-same, Steps-split, run-ends}
-use Rattle.mte_machine.specs.Laws.Outputs.{IsPrefix, Grows-Steps}
+use Rattle.code_runs.specs.Laws.Outputs.{IsPrefix, Grows-Steps}
 use Rattle.code_runs.specs.Outcome.{Finishes, Lacks}
 use Rattle.code_runs.specs.Within.{StepsWithin}
 use Rattle.code_runs.specs.Bounded.{Setting, Room, IsOver, Bounded}

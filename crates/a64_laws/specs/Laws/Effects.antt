@@ -1,0 +1,17 @@
+pub mod Accesses
+pub mod Leaves
+pub mod Stores
+pub mod Kept
+pub mod EffectLeaves
+pub mod Carried
+pub mod Reaches
+pub mod OtherOutside
+pub mod Unfailing
+pub mod Open
+pub mod Registers
+pub mod Grows
+pub mod Takes
+pub mod Branches
+pub mod InRange
+pub mod EffectRange
+pub mod StepRange
