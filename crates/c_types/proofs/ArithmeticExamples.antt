@@ -5,7 +5,7 @@ use Rattle.c_ast.specs.declared.operator.BinaryOperator.TheVariants as binary
 use Rattle.c_ast.specs.declared.operator.UnaryOperator.TheVariants as unary
 use Rattle.c_types.specs.Conversions.{promoted, usual, wrap}
 use Rattle.c_types.specs.Arithmetic.{binary_value, unary_value}
-use Rattle.c_types.specs.Known.{DividesByZero, Is}
+use Rattle.c_types.specs.declared.known.Constancy.TheVariants.{DividesByZero, Is}
 use Rattle.c_types.specs.Operators.{constant_of, chosen}
 
 char_is_promoted : promoted int.Char ≡ int.Int

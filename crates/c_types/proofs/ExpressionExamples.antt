@@ -10,14 +10,17 @@ use Rattle.c_types.specs.declared.ty.Ty.TheVariants as ty
 use Rattle.c_types.specs.declared.expr.TNode.TheVariants as tnode
 use Rattle.c_types.specs.declared.expr.Callee.TheVariants as callee
 use Rattle.c_types.specs.Faults.{fault}
-use Rattle.c_types.specs.Environment.{Env, MeansObject, MeansFunction, binds}
-use Rattle.c_types.specs.Known.{Varies, Is, texpr, plain, designates}
+use Rattle.c_types.specs.declared.scopes.Meaning.TheVariants as means
+use Rattle.c_types.specs.declared.scopes.Place.TheVariants as place
+use Rattle.c_types.specs.Environment.{Env, binds}
+use Rattle.c_types.specs.declared.known.Constancy.TheVariants.{Varies, Is}
+use Rattle.c_types.specs.Known.{texpr, plain, designates}
 use Rattle.c_types.specs.Expressions.{expression}
 use Rattle.c_types.specs.Laws.SaidLaws.{said-constant, said-variable, said-unary, said-binary, said-call, said-sizeof, said-index, said-member}
 use Rattle.c_types.specs.Laws.SizeLaws.{size-int, complete-int}
 use Rattle.c_types.specs.Laws.TypeLaws.{same-int}
 use Rattle.c_types.specs.Laws.Opened.{given_types}
-use Rattle.c_types.proofs.Written.{span, constant, name}
+use Rattle.c_types.proofs.GivenTrees.{span, constant, name}
 
 abbrev int_ty : ty.the_data
 int_ty = ty.Int int.Int
@@ -26,10 +29,10 @@ abbrev here : Env
 here = record {
   structs = [];
   scopes = (
-      binds (codes "x") (MeansObject (tnode.Local 0) None (Some int_ty)) ∷
-      binds (codes "p") (MeansObject (tnode.Local 1) None (Some (ty.Pointer int_ty))) ∷
-      binds (codes "c") (MeansObject (tnode.Local 2) None (Some (ty.Int int.Char))) ∷ []) ∷ (
-      binds (codes "f") (MeansFunction (callee.Function 0) (Some (record { result = int_ty; params = int_ty ∷ [] }))) ∷ []) ∷ [];
+      binds (codes "x") (means.Object (place.Local 0) (Some int_ty)) ∷
+      binds (codes "p") (means.Object (place.Local 1) (Some (ty.Pointer int_ty))) ∷
+      binds (codes "c") (means.Object (place.Local 2) (Some (ty.Int int.Char))) ∷ []) ∷ (
+      binds (codes "f") (means.Function (callee.Function 0) (Some (record { result = int_ty; params = int_ty ∷ [] }))) ∷ []) ∷ [];
   texts = 0;
   locals = 3;
   result = Some int_ty;

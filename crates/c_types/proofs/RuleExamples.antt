@@ -25,7 +25,7 @@ use Rattle.c_types.specs.Laws.SaidLaws.{written-void, written-int, written-struc
 use Rattle.c_types.specs.Laws.SizeLaws.{size-int, size-pointer, size-array, size-struct, complete-int, complete-pointer, complete-array, complete-struct}
 use Rattle.c_types.specs.Laws.TypeLaws.{same-int}
 use Rattle.c_types.specs.Laws.Opened.{given_types}
-use Rattle.c_types.proofs.Written.{span, int_type, constant, name, decl, main_at, program, returns}
+use Rattle.c_types.proofs.GivenTrees.{span, int_type, constant, name, decl, main_at, program, returns}
 
 -- ---- functions
 

@@ -13,20 +13,22 @@ use Rattle.c_ast.specs.declared.declaration.Decl.{Decl}
 use Rattle.c_ast.specs.declared.declaration.Init.{Init}
 use Rattle.c_ast.specs.declared.declaration.Init.TheVariants as init
 use Rattle.c_types.specs.declared.ty.Ty.TheVariants as ty
-use Rattle.c_types.specs.declared.expr.TNode.TheVariants as tnode
 use Rattle.c_types.specs.declared.expr.Callee.TheVariants as callee
 use Rattle.c_types.specs.declared.typed.StructInfo.{StructInfo}
-use Rattle.c_types.specs.declared.typed.Target.TheVariants as target
 use Rattle.std.proofs.lemmas.List.Elements.{All-cons}
 use Rattle.c_ast.specs.declared.declaration.Storage.TheVariants as storage
 use Rattle.c_ast.specs.declared.program.Program.{Program}
 use Rattle.c_ast.specs.declared.program.External.TheVariants as external
-use Rattle.c_types.specs.Faults.{Fault, fault, NoLater, smaller, IsFirst}
+use Rattle.c_types.specs.declared.fault.Fault.{Fault}
+use Rattle.c_types.specs.Faults.{fault, NoLater, smaller, IsFirst}
 use Rattle.c_types.specs.Units.{judged}
 use Rattle.c_types.specs.WellTyped.{FirstBroken}
 use Rattle.c_types.specs.Laws.FirstLaws.{no_later-itself}
 use Rattle.c_types.specs.Layout.{first_scalar}
-use Rattle.c_types.specs.Environment.{Env, Signature, MeansObject, MeansFunction, binds}
+use Rattle.c_types.specs.declared.scopes.Signature.{Signature}
+use Rattle.c_types.specs.declared.scopes.Meaning.TheVariants as means
+use Rattle.c_types.specs.declared.scopes.Place.TheVariants as place
+use Rattle.c_types.specs.Environment.{Env, binds}
 use Rattle.c_types.specs.Expressions.{expression, written}
 use Rattle.c_types.specs.Outcomes.{Outcome}
 use Rattle.c_types.specs.Initials.{Fitted, initialiser, piece}
@@ -38,7 +40,7 @@ use Rattle.c_types.specs.Laws.SizeLaws.{size-int, size-array, size-struct, compl
 use Rattle.c_types.specs.Laws.FirstScalarLaws.{first-int, first-array, first-struct}
 use Rattle.c_types.specs.Laws.TypeLaws.{same-struct}
 use Rattle.c_types.specs.Laws.Opened.{given_types}
-use Rattle.c_types.proofs.Written.{span, int_type, constant, name, decl, program}
+use Rattle.c_types.proofs.GivenTrees.{span, int_type, constant, name, decl, program}
 
 -- struct s{int a;}x; struct q; struct q*p; int f(void); void g(void);
 abbrev has_a : StructInfo
@@ -54,10 +56,10 @@ abbrev here : Env
 here = record {
   structs = has_a ∷ bare ∷ [];
   scopes = [] ∷ (
-      binds (codes "x") (MeansObject (tnode.Global 0) (Some (target.Global 0)) (Some (ty.Struct 0))) ∷
-      binds (codes "p") (MeansObject (tnode.Global 1) (Some (target.Global 1)) (Some (ty.Pointer (ty.Struct 1)))) ∷
-      binds (codes "f") (MeansFunction (callee.Function 0) (no_parameters (ty.Int int.Int))) ∷
-      binds (codes "g") (MeansFunction (callee.Function 1) (no_parameters ty.Void)) ∷ []) ∷ [];
+      binds (codes "x") (means.Object (place.Global 0) (Some (ty.Struct 0))) ∷
+      binds (codes "p") (means.Object (place.Global 1) (Some (ty.Pointer (ty.Struct 1)))) ∷
+      binds (codes "f") (means.Function (callee.Function 0) (no_parameters (ty.Int int.Int))) ∷
+      binds (codes "g") (means.Function (callee.Function 1) (no_parameters ty.Void)) ∷ []) ∷ [];
   texts = 0;
   locals = 0;
   result = Some (ty.Int int.Int);

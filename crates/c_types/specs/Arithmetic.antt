@@ -53,7 +53,19 @@ shifted_right t a count =
 abbrev pub divided : (ℕ → ℕ → ℕ) → ℕ → ℕ → Option ℕ
 divided by a b = (if nat_eq b 0 then None else Some (by a b))
 
--- an operator on two values of a type; `&&` and `||` on whether they are 0
+-- a comparison of two values of a type; `&&` and `||` ask whether they are 0
+abbrev pub comparison : BinaryOperator → IntType → ℕ → ℕ → Option ℕ
+comparison binary.Less t a b = Some (truth (is_below t a b))
+comparison binary.Greater t a b = Some (truth (is_below t b a))
+comparison binary.LessEqual t a b = Some (truth (if is_below t b a then false else true))
+comparison binary.GreaterEqual t a b = Some (truth (if is_below t a b then false else true))
+comparison binary.Equal t a b = Some (truth (nat_eq a b))
+comparison binary.NotEqual t a b = Some (truth (if nat_eq a b then false else true))
+comparison binary.And t a b = Some (truth (if nat_eq a 0 then false else (if nat_eq b 0 then false else true)))
+comparison binary.Or t a b = Some (truth (if nat_eq a 0 then (if nat_eq b 0 then false else true) else true))
+comparison _ t a b = None
+
+-- an operator on two values of a type
 abbrev pub binary_value : BinaryOperator → IntType → ℕ → ℕ → Option ℕ
 binary_value binary.BitAnd t a b = Some (bit_and a b)
 binary_value binary.BitOr t a b = Some (bit_or a b)
@@ -65,14 +77,7 @@ binary_value binary.Divide t a b = divided (quotient t) a b
 binary_value binary.Remainder t a b = divided (remainder t) a b
 binary_value binary.ShiftLeft t a b = Some (shifted_left t a b)
 binary_value binary.ShiftRight t a b = Some (shifted_right t a b)
-binary_value binary.Less t a b = Some (truth (is_below t a b))
-binary_value binary.Greater t a b = Some (truth (is_below t b a))
-binary_value binary.LessEqual t a b = Some (truth (if is_below t b a then false else true))
-binary_value binary.GreaterEqual t a b = Some (truth (if is_below t a b then false else true))
-binary_value binary.Equal t a b = Some (truth (nat_eq a b))
-binary_value binary.NotEqual t a b = Some (truth (if nat_eq a b then false else true))
-binary_value binary.And t a b = Some (truth (if nat_eq a 0 then false else (if nat_eq b 0 then false else true)))
-binary_value binary.Or t a b = Some (truth (if nat_eq a 0 then (if nat_eq b 0 then false else true) else true))
+binary_value o t a b = comparison o t a b
 
 -- an operator on a value of a type: `&` and `*` have none
 abbrev pub unary_value : UnaryOperator → IntType → ℕ → Option ℕ

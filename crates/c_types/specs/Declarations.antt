@@ -5,16 +5,18 @@ use Rattle.c_ast.specs.declared.token.Span.{Span}
 use Rattle.c_ast.specs.declared.declaration.Decl.{Decl}
 use Rattle.c_types.specs.declared.ty.Ty.{Ty}
 use Rattle.c_types.specs.declared.ty.Ty.TheVariants as ty
-use Rattle.c_types.specs.declared.expr.TNode.TheVariants as node
+use Rattle.c_types.specs.declared.scopes.Place.TheVariants as place
 use Rattle.c_types.specs.declared.statement.TDecl.{TDecl}
 use Rattle.c_types.specs.declared.typed.LocalInfo.{LocalInfo}
 use Rattle.c_types.specs.declared.typed.StructInfo.{StructInfo}
 use Rattle.c_types.specs.Sizes.{size, is_complete, largest}
 use Rattle.c_types.specs.Types.{is_char_type, is_there}
 use Rattle.c_types.specs.Faults.{Rule, rule, broken, all_kept}
-use Rattle.c_types.specs.Environment.{Env, MeansObject, binds, in_scope, innermost}
+use Rattle.c_types.specs.declared.scopes.Meaning.TheVariants as means
+use Rattle.c_types.specs.Environment.{Env, binds, in_scope, innermost}
 use Rattle.c_types.specs.Outcomes.{Judged, sure, not_known, on, behind, joined}
-use Rattle.c_types.specs.Said.{Written, Whole, Open}
+use Rattle.c_types.specs.declared.known.Written.{Written}
+use Rattle.c_types.specs.declared.known.Written.TheVariants.{Whole, Open}
 use Rattle.c_types.specs.Expressions.{written}
 use Rattle.c_types.specs.Initials.{InitSaid, Fitted, initialiser, tree_of}
 
@@ -95,7 +97,7 @@ declares_local name span rules t env = record {
   faults = broken span rules;
   texts = [];
   locals = local_info name span t;
-  names = binds name (MeansObject (node.Local env.locals) None t) ∷ [];
+  names = binds name (means.Object (place.Local env.locals) t) ∷ [];
   known = (if all_kept rules then t else None);
 }
 

@@ -4,26 +4,26 @@ use Rattle.std.specs.List.{find, position_from}
 use Rattle.std.specs.Str.{bytes_eq}
 use Rattle.c_types.specs.declared.ty.Ty.{Ty}
 use Rattle.c_types.specs.declared.expr.TNode.{TNode}
-use Rattle.c_types.specs.declared.expr.Callee.{Callee}
+use Rattle.c_types.specs.declared.expr.TNode.TheVariants as node
 use Rattle.c_types.specs.declared.typed.StructInfo.{StructInfo}
 use Rattle.c_types.specs.declared.typed.Target.{Target}
+use Rattle.c_types.specs.declared.typed.Target.TheVariants as target
+use Rattle.c_types.specs.declared.scopes.Place.{Place}
+use Rattle.c_types.specs.declared.scopes.Place.TheVariants as place
+use Rattle.c_types.specs.declared.scopes.Meaning.{Meaning}
+use Rattle.c_types.specs.declared.scopes.Binding.{Binding}
 
--- a function's type: its result and its parameters
-pub record Signature : Type 0 where
-  pub result : Ty
-  pub params : List Ty
+-- an object, in an expression
+abbrev pub node_at : Place → TNode
+node_at (place.Local n) = node.Local n
+node_at (place.Global n) = node.Global n
+node_at (place.Extern n) = node.Extern n
 
--- What a name stands for. A declaration that breaks a rule declares its name all the same, and may leave its type unknown.
-pub data Meaning : Type 0 where
-  -- an object: what names it in an expression, where it is in the image if it is there from the start, and its type
-  MeansObject : TNode → Option Target → Option Ty → Meaning
-  MeansFunction : Callee → Option Signature → Meaning
-  -- the constant of the include line
-  MeansEof : Meaning
-
-pub record Binding : Type 0 where
-  pub name : List ℕ
-  pub means : Meaning
+-- and in an address that is known before the run
+abbrev pub target_at : Place → Option Target
+target_at (place.Local n) = None
+target_at (place.Global n) = Some (target.Global n)
+target_at (place.Extern n) = Some (target.Extern n)
 
 abbrev pub binds : List ℕ → Meaning → Binding
 binds name means = record { name = name; means = means }

@@ -1,6 +1,6 @@
 -- Which rules an expression keeps, and what it is with its types (ISO C11 6.5). One case a construct: its parts are judged in order,
 -- and then its own rules.
-use Rattle.std.specs.Prelude.{ℕ, ◌++◌, Bool, true, false, ◌&&◌, ◌||◌, [], ◌∷◌, Option, Some, None, if◌then◌else◌}
+use Rattle.std.specs.Prelude.{ℕ, ◌%◌, ◌^◌, ◌++◌, Bool, true, false, ◌&&◌, ◌||◌, List, [], ◌∷◌, Option, Some, None, if◌then◌else◌}
 use Rattle.c_ast.specs.declared.token.Span.{Span}
 use Rattle.c_ast.specs.declared.int_type.IntType.{IntType}
 use Rattle.c_ast.specs.declared.int_type.IntType.TheVariants as int
@@ -23,18 +23,23 @@ use Rattle.c_types.specs.Types.{int_of, target_of, struct_of, is_integer, is_poi
 use Rattle.c_types.specs.Conversions.{promoted, usual}
 use Rattle.c_types.specs.Faults.{rule}
 use Rattle.c_types.specs.Outcomes.{Judged, sure, both, on, asked, ruled, only_kept}
-use Rattle.c_types.specs.Known.{Known, Varies, Is, Fixed, texpr, plain, designates, value, wrapped, converted, is_null, is_value, assignable, is_changeable}
-use Rattle.c_types.specs.Operators.{misfit, Sort, Integer, Points, Neither, sort_of, complete_target, binary_judged, signed_row, not_row, cond_judged}
-use Rattle.c_types.specs.Said.{Said, NodeSaid, said, computing, Written, type_step, whole, variable, text}
+use Rattle.c_types.specs.declared.known.Known.{Known}
+use Rattle.c_types.specs.declared.known.Fixed.{Fixed}
+use Rattle.c_types.specs.declared.known.Constancy.TheVariants.{Varies, Is}
+use Rattle.c_types.specs.Known.{texpr, plain, designates, value, wrapped, converted, is_null, is_value, assignable, is_changeable}
+use Rattle.c_types.specs.Operators.{misfit, converted_as, Sort, Integer, Points, Neither, sort_of, complete_target, binary_judged, signed_row, not_row, cond_judged}
+use Rattle.c_types.specs.declared.known.Written.{Written}
+use Rattle.c_types.specs.Said.{Said, NodeSaid, said, computing, type_step, whole, constant_known, variable, text}
 use Rattle.c_types.specs.Postfix.{index_row, member_row, struct_pointed, arrow_row, call}
 
 -- ---- unary operators (6.5.3)
 
 -- `& e` (6.5.3.2)
+abbrev pub address_known : Span → Known → Known
+address_known span e = record (plain (texpr span (ty.Pointer e.tree.ty) (node.Unary unary.AddressOf e.tree)) Varies) { fixed = e.fixed }
+
 abbrev pub address_row : Span → Known → Judged Known
-address_row span e =
-    ruled span (rule 11 e.lvalue ∷ [])
-    (record (plain (texpr span (ty.Pointer e.tree.ty) (node.Unary unary.AddressOf e.tree)) Varies) { fixed = e.fixed })
+address_row span e = ruled span (rule 11 e.lvalue ∷ []) (address_known span e)
 
 -- `* e` (6.5.3.2)
 abbrev pub target_row : Span → Known → Sort → Judged Known
@@ -56,30 +61,34 @@ castable t k = is_void t || (is_integer t && is_integer k.tree.ty) || (is_pointe
 abbrev pub cast_fixed : Ty → Known → Option Fixed
 cast_fixed t k = (if is_pointer t then (if is_null k then Some (record { target = None; offset = 0 }) else k.fixed) else None)
 
-abbrev pub cast_row : Span → Ty → Known → Judged Known
-cast_row span t k =
-    ruled span (rule 12 (castable t k) ∷ [])
-    (record (plain (texpr span t (node.Cast t k.tree)) (wrapped (int_of t) k.constant)) { fixed = cast_fixed t k })
+abbrev pub cast_known : Span → Ty → Known → Known
+cast_known span t k = record (plain (texpr span t (node.Cast t k.tree)) (wrapped (int_of t) k.constant)) { fixed = cast_fixed t k }
 
--- `sizeof` (6.5.3.4), a constant of type unsigned long; its value is not known where the type has no size
+abbrev pub cast_row : Span → Ty → Known → Judged Known
+cast_row span t k = ruled span (rule 12 (castable t k) ∷ []) (cast_known span t k)
+
+-- `sizeof` (6.5.3.4), a constant of type unsigned long, modulo 2^64; its value is not known where the type has no size
 abbrev pub size_known : Span → node.the_data → ℕ → Known
 size_known span n bytes = plain (texpr span (ty.Int int.ULong) n) (Is bytes)
 
 abbrev pub sizeof_row : Span → Known → Judged Known
 sizeof_row span e env =
     only_kept span (rule 12 (is_value e) ∷ rule 15 (is_complete env.structs e.tree.ty) ∷ [])
-    (size_known span (node.SizeofExpr e.tree) (size env.structs e.tree.ty)) env
+    (size_known span (node.SizeofExpr e.tree) (size env.structs e.tree.ty % 2 ^ 64)) env
 
 abbrev pub sizeof_type : Span → Ty → Judged Known
 sizeof_type span t env =
-    only_kept span (rule 15 (is_complete env.structs t) ∷ []) (size_known span (node.SizeofName t) (size env.structs t)) env
+    only_kept span (rule 15 (is_complete env.structs t) ∷ []) (size_known span (node.SizeofName t) (size env.structs t % 2 ^ 64)) env
 
 -- ---- assignment (6.5.16), and `++` and `--` (6.5.2.4, 6.5.3.1)
 
+-- the left side with what is assigned to it
+abbrev pub assigned : Option AssignOperator → Span → Known → Known → Known
+assigned o span a b = plain (texpr span a.tree.ty (node.Assign o a.tree b.tree)) Varies
+
 abbrev pub simple_row : Span → Known → Known → Judged Known
 simple_row span a b =
-    ruled span (rule 11 (is_changeable a) ∷ rule 12 (assignable a.tree.ty b) ∷ [])
-    (plain (texpr span a.tree.ty (node.Assign None a.tree (converted a.tree.ty b).tree)) Varies)
+    ruled span (rule 11 (is_changeable a) ∷ rule 12 (assignable a.tree.ty b) ∷ []) (assigned None span a (converted_as a b))
 
 abbrev pub binary_of : AssignOperator → BinaryOperator
 binary_of assign.Add = binary.Add
@@ -108,10 +117,10 @@ moves _ = false
 abbrev pub compound_row : AssignOperator → Span → Known → Known → Sort → Sort → Judged Known
 compound_row o span a b (Integer s) (Integer t) =
     ruled span (rule 11 (is_changeable a) ∷ [])
-    (plain (texpr span a.tree.ty (node.Assign (Some o) a.tree (converted (ty.Int (right_type (binary_of o) s t)) b).tree)) Varies)
+    (assigned (Some o) span a (converted (ty.Int (right_type (binary_of o) s t)) b))
 compound_row o span a b (Points u) (Integer t) = λ env.
     ruled span (rule 11 (is_changeable a) ∷ rule 12 (moves o) ∷ complete_target env.structs u ∷ [])
-    (plain (texpr span a.tree.ty (node.Assign (Some o) a.tree b.tree)) Varies) env
+    (assigned (Some o) span a b) env
 compound_row o span a b _ _ = asked span (rule 11 (is_changeable a) ∷ rule 12 false ∷ [])
 
 abbrev pub assign_row : Option AssignOperator → Span → Known → Known → Judged Known
@@ -138,8 +147,21 @@ computes_by unary.AddressOf = false
 computes_by unary.Dereference = false
 computes_by _ = true
 
+abbrev pub conditional : Said → Said → Said → Span → Judged Known
+conditional c a b span =
+    on (both c.judged (both a.judged b.judged)) (λ (x, y). cond_judged span (value x) (value y.0) (value y.1))
+
+abbrev pub cast_judged : (Span → Judged Written) → Said → Span → Judged Known
+cast_judged t e span = on (both (on (t span) (whole span)) e.judged) (λ (t, k). cast_row span t (value k))
+
+abbrev pub index_of : Span → Known → Known → Judged Known
+index_of span a i = index_row span (value a) (value i) (sort_of (value a)) (sort_of (value i))
+
+abbrev pub arrow_of : Span → Known → List ℕ → Judged Known
+arrow_of span e name = arrow_row span (value e) name (struct_pointed (target_of (value e).tree.ty))
+
 abbrev pub node_step : Node-F (Span → Judged Written) NodeSaid Said → NodeSaid
-node_step (Node-F.Constant n t) = computing (λ span. sure (plain (texpr span (ty.Int t) (node.Constant n t)) (Is n)))
+node_step (Node-F.Constant n t) = computing (λ span. sure (constant_known span n t))
 node_step (Node-F.Text bytes) = record { name = None; text = Some (bytes ++ 0 ∷ []); computes = false; judged = text (bytes ++ 0 ∷ []) }
 node_step (Node-F.Variable name) = record { name = Some name; text = None; computes = false; judged = variable name }
 node_step (Node-F.Paren e) =
@@ -148,17 +170,16 @@ node_step (Node-F.Unary o e) =
     record { name = None; text = None; computes = computes_by o; judged = λ span. on e.judged (unary_row o span) }
 node_step (Node-F.Binary o a b) = computing (λ span. on (both a.judged b.judged) (λ (x, y). binary_judged o span (value x) (value y)))
 node_step (Node-F.Assign o a b) = said (λ span. on (both a.judged b.judged) (λ (x, y). assign_row o span x y))
-node_step (Node-F.Cond c a b) =
-    computing (λ span. on (both c.judged (both a.judged b.judged)) (λ (x, y). cond_judged span (value x) (value y.0) (value y.1)))
-node_step (Node-F.Cast t e) = computing (λ span. on (both (on (t span) (whole span)) e.judged) (λ (t, k). cast_row span t (value k)))
+node_step (Node-F.Cond c a b) = computing (conditional c a b)
+node_step (Node-F.Cast t e) = computing (cast_judged t e)
 node_step (Node-F.SizeofExpr e) = computing (λ span. on e.judged (sizeof_row span))
 node_step (Node-F.SizeofName t) = computing (λ span. on (on (t span) (whole span)) (sizeof_type span))
 node_step (Node-F.Call function arguments) = said (call function arguments)
 node_step (Node-F.Index a i) =
-    said (λ span. on (both a.judged i.judged) (λ (x, y). index_row span (value x) (value y) (sort_of (value x)) (sort_of (value y))))
+    said (λ span. on (both a.judged i.judged) (λ (x, y). index_of span x y))
 node_step (Node-F.Member e name) = said (λ span. on e.judged (λ k. member_row span k name (struct_of k.tree.ty)))
 node_step (Node-F.Arrow e name) =
-    said (λ span. on e.judged (λ k. arrow_row span (value k) name (struct_pointed (target_of (value k).tree.ty))))
+    said (λ span. on e.judged (λ k. arrow_of span k name))
 node_step (Node-F.Step s e) = said (λ span. on e.judged (λ k. step_row s span k (sort_of k)))
 
 abbrev pub expr_step : Expr-F (Span → Judged Written) NodeSaid Said → Said

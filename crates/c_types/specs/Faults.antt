@@ -2,6 +2,7 @@
 use Rattle.std.specs.Prelude.{◌≡◌, ◌<◌, ◌≤◌, ℕ, Bool, true, ◌&&◌, List, [], ◌∷◌, All, if◌then◌else◌}
 use Rattle.std.specs.List.{Contains}
 use Rattle.c_ast.specs.declared.token.Span.{Span}
+use Rattle.c_types.specs.declared.fault.Fault.{Fault}
 
 -- a rule of a construct: its number, and whether the construct keeps it
 pub record Rule : Type 0 where
@@ -10,11 +11,6 @@ pub record Rule : Type 0 where
 
 abbrev pub rule : ℕ → Bool → Rule
 rule number kept = record { number = number; kept = kept }
-
--- a construct breaks a rule
-pub record Fault : Type 0 where
-  pub number : ℕ
-  pub span : Span
 
 abbrev pub fault : ℕ → Span → Fault
 fault number span = record { number = number; span = span }

@@ -8,12 +8,10 @@ use Rattle.c_ast.specs.declared.declaration.Storage.TheVariants as storage
 use Rattle.c_ast.specs.declared.program.Program.{Program}
 use Rattle.c_ast.specs.declared.program.External.{External}
 use Rattle.c_ast.specs.declared.program.External.TheVariants as external
-use Rattle.c_types.specs.declared.expr.TNode.{TNode}
-use Rattle.c_types.specs.declared.expr.TNode.TheVariants as node
 use Rattle.c_types.specs.declared.expr.Callee.{Callee}
 use Rattle.c_types.specs.declared.expr.Callee.TheVariants as callee
-use Rattle.c_types.specs.declared.typed.Target.{Target}
-use Rattle.c_types.specs.declared.typed.Target.TheVariants as target
+use Rattle.c_types.specs.declared.scopes.Place.{Place}
+use Rattle.c_types.specs.declared.scopes.Place.TheVariants as place
 use Rattle.c_types.specs.Types.{is_there}
 use Rattle.c_types.specs.Declarations.{no}
 
@@ -93,16 +91,11 @@ or_zero (Some n) = n
 abbrev pub number_in : List (List ℕ) → List ℕ → ℕ
 number_in names name = or_zero (number_among names name)
 
--- an object at file scope, in an expression and in an address
-abbrev pub object_node : FileNames → List ℕ → TNode
-object_node names name =
-    (if is_there (number_among names.globals name) then node.Global (number_in names.globals name)
-    else node.Extern (number_in names.externs name))
-
-abbrev pub object_target : FileNames → List ℕ → Target
-object_target names name =
-    (if is_there (number_among names.globals name) then target.Global (number_in names.globals name)
-    else target.Extern (number_in names.externs name))
+-- an object at file scope
+abbrev pub object_place : FileNames → List ℕ → Place
+object_place names name =
+    (if is_there (number_among names.globals name) then place.Global (number_in names.globals name)
+    else place.Extern (number_in names.externs name))
 
 -- a function: with the include line its two names are that line's, in the whole file
 abbrev pub function_callee : FileNames → List ℕ → Callee

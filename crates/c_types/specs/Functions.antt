@@ -11,9 +11,12 @@ use Rattle.c_types.specs.declared.typed.StructInfo.{StructInfo}
 use Rattle.c_types.specs.Sizes.{size, is_complete, largest}
 use Rattle.c_types.specs.Types.{TyLayer, same_type, is_void, is_scalar}
 use Rattle.c_types.specs.Faults.{Rule, rule}
-use Rattle.c_types.specs.Environment.{Env, Signature, opened}
+use Rattle.c_types.specs.declared.scopes.Signature.{Signature}
+use Rattle.c_types.specs.Environment.{Env, opened}
 use Rattle.c_types.specs.Outcomes.{Judged, on, each, behind, joined}
-use Rattle.c_types.specs.Said.{Written, Whole, Open, whole}
+use Rattle.c_types.specs.declared.known.Written.{Written}
+use Rattle.c_types.specs.declared.known.Written.TheVariants.{Whole, Open}
+use Rattle.c_types.specs.Said.{whole}
 use Rattle.c_types.specs.Expressions.{written}
 use Rattle.c_types.specs.Declarations.{no, is_new, declares_local}
 use Rattle.c_types.specs.Files.{is_static}

@@ -26,7 +26,11 @@ use Rattle.c_types.specs.Types.{TyLayer, same_int, is_char_type, is_array, is_st
 use Rattle.c_types.specs.Conversions.{wrap}
 use Rattle.c_types.specs.Faults.{rule, fault}
 use Rattle.c_types.specs.Outcomes.{Judged, sure, not_known, both, each, on, either, asked, ruled, known_as}
-use Rattle.c_types.specs.Known.{Known, Constancy, Is, Fixed, value, converted, is_null, is_value, assignable}
+use Rattle.c_types.specs.declared.known.Known.{Known}
+use Rattle.c_types.specs.declared.known.Constancy.{Constancy}
+use Rattle.c_types.specs.declared.known.Fixed.{Fixed}
+use Rattle.c_types.specs.declared.known.Constancy.TheVariants.{Is}
+use Rattle.c_types.specs.Known.{value, converted, is_null, is_value, assignable}
 use Rattle.c_types.specs.Operators.{breaks}
 use Rattle.c_types.specs.Said.{Said}
 use Rattle.c_types.specs.Expressions.{expression}

@@ -1,5 +1,5 @@
 -- What is known of an expression whose type can be told, its value (ISO C11 6.3.2.1), and its value in another type.
-use Rattle.std.specs.Prelude.{ℕ, Bool, true, false, ◌&&◌, ◌||◌, nat_eq, Option, Some, None, if◌then◌else◌}
+use Rattle.std.specs.Prelude.{Bool, true, false, ◌&&◌, ◌||◌, nat_eq, Option, Some, None, if◌then◌else◌}
 use Rattle.c_ast.specs.declared.token.Span.{Span}
 use Rattle.c_ast.specs.declared.int_type.IntType.{IntType}
 use Rattle.c_types.specs.declared.ty.Ty.{Ty}
@@ -7,32 +7,12 @@ use Rattle.c_types.specs.declared.ty.Ty.TheVariants as ty
 use Rattle.c_types.specs.declared.expr.TExpr.{TExpr}
 use Rattle.c_types.specs.declared.expr.TNode.{TNode}
 use Rattle.c_types.specs.declared.expr.TNode.TheVariants as node
-use Rattle.c_types.specs.declared.typed.Target.{Target}
+use Rattle.c_types.specs.declared.known.Constancy.{Constancy}
+use Rattle.c_types.specs.declared.known.Constancy.TheVariants.{Varies, Is}
+use Rattle.c_types.specs.declared.known.Fixed.{Fixed}
+use Rattle.c_types.specs.declared.known.Known.{Known}
 use Rattle.c_types.specs.Types.{same_type, is_integer, is_pointer, is_struct, is_array, is_void, element_of, int_of}
 use Rattle.c_types.specs.Conversions.{wrap}
-
--- whether an expression is an integer constant expression (6.6 paragraph 6), and its value modulo 2^64; one whose evaluation divides
--- by 0 is none
-pub data Constancy : Type 0 where
-  Varies : Constancy
-  DividesByZero : Constancy
-  Is : ℕ → Constancy
-
--- an address that is known before the run: so many bytes modulo 2^64 behind the start of an object, or of the null block where there is
--- none (6.6 paragraph 9)
-pub record Fixed : Type 0 where
-  pub target : Option Target
-  pub offset : ℕ
-
-pub record Known : Type 0 where
-  pub tree : TExpr
-  -- whether it designates an object (6.3.2.1 paragraph 1)
-  pub lvalue : Bool
-  pub constant : Constancy
-  -- of an lvalue its address, of a pointer the address that it is, where that is an address constant
-  pub fixed : Option Fixed
-  -- whether it is an element or member of an array or object that is fixed, by a path; then it may be taken further
-  pub path : Bool
 
 abbrev pub texpr : Span → Ty → TNode → TExpr
 texpr span ty node = record { span = span; ty = ty; node = node }
@@ -48,11 +28,15 @@ designates tree fixed = record { tree = tree; lvalue = true; constant = Varies; 
 abbrev pub read : Known → Known
 read k = plain (texpr k.tree.span k.tree.ty (node.Read k.tree)) Varies
 
-abbrev pub value_by : Option Ty → Known → Known
-value_by (Some element) k = record k {
+-- the pointer to the first element of an array
+abbrev pub decayed : Ty → Known → Known
+decayed element k = record k {
   tree = texpr k.tree.span (ty.Pointer element) (node.Decay k.tree);
   lvalue = false;
 }
+
+abbrev pub value_by : Option Ty → Known → Known
+value_by (Some element) k = decayed element k
 value_by None k = (if k.lvalue then read k else k)
 
 -- Outside `sizeof`, `&`, the left of `.` and of assignments, and the operand of `++` and `--`: an array is the pointer to its first
@@ -65,11 +49,12 @@ wrapped (Some t) (Is n) = Is (wrap t n)
 wrapped (Some t) other = other
 wrapped None other = Varies
 
+abbrev pub as_type : Ty → Known → Known
+as_type t k = record k { tree = texpr k.tree.span t (node.Convert k.tree); constant = wrapped (int_of t) k.constant; fixed = None }
+
 -- a value in a type, as by assignment (6.3.1.3, 6.3.2.3): without a node of its own where it has the type
 abbrev pub converted : Ty → Known → Known
-converted t k =
-    (if same_type k.tree.ty t then k
-    else record k { tree = texpr k.tree.span t (node.Convert k.tree); constant = wrapped (int_of t) k.constant; fixed = None })
+converted t k = (if same_type k.tree.ty t then k else as_type t k)
 
 abbrev pub is_zero : Constancy → Bool
 is_zero (Is n) = nat_eq n 0

@@ -4,6 +4,7 @@ pub mod LayoutLaws
 pub mod FirstScalarLaws
 pub mod StructLaws
 pub mod FirstLaws
+pub mod LeastLaws
 pub mod WellTypedLaws
 pub mod SaidLaws
 pub mod TypeLaws

@@ -20,4 +20,10 @@ pub mod Functions
 pub mod Structs
 pub mod Units
 pub mod WellTyped
+pub mod Names
+pub mod Scoping
+pub mod Least
+pub mod Walked
+pub mod Parts
+pub mod Sorted
 pub mod Laws

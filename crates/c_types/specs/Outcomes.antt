@@ -6,8 +6,10 @@
 use Rattle.std.specs.Prelude.{ℕ, ◌+◌, List, [], ◌∷◌, ◌++◌, length, Option, Some, None, if◌then◌else◌}
 use Rattle.c_ast.specs.declared.token.Span.{Span}
 use Rattle.c_types.specs.declared.typed.LocalInfo.{LocalInfo}
-use Rattle.c_types.specs.Faults.{Fault, Rule, broken, all_kept}
-use Rattle.c_types.specs.Environment.{Env, Binding, with_innermost}
+use Rattle.c_types.specs.declared.fault.Fault.{Fault}
+use Rattle.c_types.specs.Faults.{Rule, broken, all_kept}
+use Rattle.c_types.specs.declared.scopes.Binding.{Binding}
+use Rattle.c_types.specs.Environment.{Env, with_innermost}
 
 pub record Outcome (A : Type 0) : Type 0 where
   pub faults : List Fault

@@ -11,18 +11,29 @@ use Rattle.c_types.specs.declared.expr.TNode.TheVariants as node
 use Rattle.c_types.specs.declared.expr.Callee.{Callee}
 use Rattle.c_types.specs.declared.typed.StructInfo.{StructInfo}
 use Rattle.c_types.specs.declared.typed.MemberInfo.{MemberInfo}
+use Rattle.c_types.specs.declared.scopes.Called.{Called}
 use Rattle.c_types.specs.Sizes.{size, is_complete}
 use Rattle.c_types.specs.Layout.{members_of}
 use Rattle.c_types.specs.Types.{struct_of}
 use Rattle.c_types.specs.Faults.{rule}
-use Rattle.c_types.specs.Environment.{Env, Meaning, MeansFunction, Signature, in_scopes}
+use Rattle.c_types.specs.declared.scopes.Meaning.{Meaning}
+use Rattle.c_types.specs.declared.scopes.Signature.{Signature}
+use Rattle.c_types.specs.declared.scopes.Meaning.TheVariants as means
+use Rattle.c_types.specs.Environment.{Env, in_scopes}
 use Rattle.c_types.specs.Outcomes.{Judged, sure, both, each, on, asked, ruled}
-use Rattle.c_types.specs.Known.{Known, Varies, Fixed, texpr, plain, designates, value, converted, is_value, assignable}
+use Rattle.c_types.specs.declared.known.Known.{Known}
+use Rattle.c_types.specs.declared.known.Fixed.{Fixed}
+use Rattle.c_types.specs.declared.known.Constancy.TheVariants.{Varies}
+use Rattle.c_types.specs.Known.{texpr, plain, designates, value, converted, is_value, assignable}
 use Rattle.c_types.specs.Operators.{breaks, misfit, Sort, Integer, Points, complete_target, forward, moved}
 use Rattle.c_types.specs.Said.{Said, meaning_of}
 
+-- the address of the element of a pointer by an integer, by the bytes of an element
+abbrev pub index_fixed_by : ℕ → Known → Known → Option Fixed
+index_fixed_by bytes p i = (if p.path then moved forward bytes p.fixed i.constant else None)
+
 abbrev pub index_fixed : List StructInfo → Ty → Known → Known → Option Fixed
-index_fixed structs element p i = (if p.path then moved forward (size structs element) p.fixed i.constant else None)
+index_fixed structs element p i = index_fixed_by (size structs element) p i
 
 -- the element of a pointer by an integer
 abbrev pub element : Span → TNode → Known → Known → Ty → Judged Known
@@ -43,9 +54,12 @@ abbrev pub member_fixed : MemberInfo → Option Fixed → Option Fixed
 member_fixed m None = None
 member_fixed m (Some f) = Some (record f { offset = (f.offset + m.offset) % 2 ^ 64 })
 
+abbrev pub member_known : Span → Known → ℕ → MemberInfo → Known
+member_known span e k m =
+    record e { tree = texpr span m.ty (node.Member e.tree k); fixed = (if e.path then member_fixed m e.fixed else None) }
+
 abbrev pub member_found : Span → Known → Option ℕ → Option MemberInfo → Judged Known
-member_found span e (Some k) (Some m) =
-    sure (record e { tree = texpr span m.ty (node.Member e.tree k); fixed = (if e.path then member_fixed m e.fixed else None) })
+member_found span e (Some k) (Some m) = sure (member_known span e k m)
 member_found span e _ _ = breaks 18 span
 
 abbrev pub member_at : List MemberInfo → Option ℕ → Option MemberInfo
@@ -63,8 +77,11 @@ member_row span e name None = misfit span
 member_row span e name (Some number) = λ env.
     member_in span e (is_complete env.structs (ty.Struct number)) (members_of (slice_get env.structs number)) name env
 
+abbrev pub arrow_known : Span → Known → ℕ → MemberInfo → Known
+arrow_known span e k m = designates (texpr span m.ty (node.Arrow e.tree k)) None
+
 abbrev pub arrow_found : Span → Known → Option ℕ → Option MemberInfo → Judged Known
-arrow_found span e (Some k) (Some m) = sure (designates (texpr span m.ty (node.Arrow e.tree k)) None)
+arrow_found span e (Some k) (Some m) = sure (arrow_known span e k m)
 arrow_found span e _ _ = breaks 18 span
 
 -- likewise
@@ -98,23 +115,34 @@ abbrev pub all_values : List Known → Bool
 all_values [] = true
 all_values (k ∷ ks) = is_value k && all_values ks
 
+abbrev pub call_made : Span → Callee → Signature → List Known → Known
+call_made span callee s arguments = plain (texpr span s.result (node.Call callee (passed s.params arguments))) Varies
+
 abbrev pub call_known : Span → Callee → Signature → List Known → Judged Known
 call_known span callee s arguments =
     let fit = all_values arguments && all_assignable s.params arguments in
     ruled span (rule 12 fit ∷ rule 14 (nat_eq (length arguments) (length s.params)) ∷ [])
-    (plain (texpr span s.result (node.Call callee (passed s.params arguments))) Varies)
+    (call_made span callee s arguments)
 
 abbrev pub call_row : Span → Callee → Option Signature → List Known → Judged Known
 call_row span callee None arguments = asked span (rule 12 (all_values arguments) ∷ [])
 call_row span callee (Some s) arguments = call_known span callee s arguments
 
 -- the arguments of something that is no function's name
-abbrev pub not_called : Span → Judged Known → Judged (List Known) → Judged Known
-not_called span function arguments = on (both function arguments) (λ (k, ks). asked span (rule 12 (all_values ks) ∷ rule 13 false ∷ []))
+abbrev pub not_called_row : Span → Known → List Known → Judged Known
+not_called_row span function arguments = asked span (rule 12 (all_values arguments) ∷ rule 13 false ∷ [])
 
-abbrev pub call_by : Span → Option Meaning → Judged Known → Judged (List Known) → Judged Known
-call_by span (Some (MeansFunction callee signature)) function arguments = on arguments (call_row span callee signature)
-call_by span _ function arguments = not_called span function arguments
+abbrev pub not_called : Span → Judged Known → Judged (List Known) → Judged Known
+not_called span function arguments = on (both function arguments) (λ (k, ks). not_called_row span k ks)
+
+-- the function that a name means
+abbrev pub function_in : Option Meaning → Option Called
+function_in (Some (means.Function callee signature)) = Some (record { callee = callee; signature = signature })
+function_in _ = None
+
+abbrev pub call_by : Span → Option Called → Judged Known → Judged (List Known) → Judged Known
+call_by span (Some called) function arguments = on arguments (call_row span called.callee called.signature)
+call_by span None function arguments = not_called span function arguments
 
 abbrev pub meaning_by : Option (List ℕ) → Env → Option Meaning
 meaning_by None env = None
@@ -124,4 +152,4 @@ abbrev pub argument : Said → Judged Known
 argument e = on e.judged (λ k. sure (value k))
 
 abbrev pub call : Said → List Said → Span → Judged Known
-call function arguments span env = call_by span (meaning_by function.name env) function.judged (each (map argument arguments)) env
+call function arguments span env = call_by span (function_in (meaning_by function.name env)) function.judged (each (map argument arguments)) env

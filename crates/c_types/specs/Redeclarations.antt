@@ -7,7 +7,7 @@ use Rattle.c_ast.specs.declared.int_type.IntType.TheVariants as int
 use Rattle.c_types.specs.declared.ty.Ty.{Ty}
 use Rattle.c_types.specs.declared.ty.Ty.TheVariants as ty
 use Rattle.c_types.specs.Types.{same_type}
-use Rattle.c_types.specs.Environment.{Signature}
+use Rattle.c_types.specs.declared.scopes.Signature.{Signature}
 use Rattle.c_types.specs.Declarations.{no, eof_name}
 use Rattle.c_types.specs.Files.{FileNames, putchar_name, getchar_name}
 

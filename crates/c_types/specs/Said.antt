@@ -8,13 +8,23 @@ use Rattle.c_types.specs.declared.ty.Ty.{Ty}
 use Rattle.c_types.specs.declared.ty.Ty.TheVariants as ty
 use Rattle.c_types.specs.declared.expr.TNode.TheVariants as node
 use Rattle.c_types.specs.declared.typed.Target.TheVariants as target
+use Rattle.c_types.specs.declared.known.Written.{Written}
+use Rattle.c_types.specs.declared.known.Written.TheVariants.{Whole, Open}
 use Rattle.c_types.specs.Sizes.{is_complete, largest}
 use Rattle.c_types.specs.Types.{int_of, is_void}
 use Rattle.c_types.specs.Arithmetic.{is_negative}
 use Rattle.c_types.specs.Faults.{rule}
-use Rattle.c_types.specs.Environment.{Binding, Meaning, MeansObject, MeansFunction, MeansEof, in_scopes, tag_number}
+use Rattle.c_types.specs.declared.scopes.Place.{Place}
+use Rattle.c_types.specs.declared.scopes.Binding.{Binding}
+use Rattle.c_types.specs.declared.scopes.Meaning.{Meaning}
+use Rattle.c_types.specs.declared.scopes.Meaning.TheVariants as means
+use Rattle.c_types.specs.Environment.{node_at, target_at, in_scopes, tag_number}
 use Rattle.c_types.specs.Outcomes.{Judged, sure, not_known, both, on, either, asked, ruled, only_kept}
-use Rattle.c_types.specs.Known.{Known, Constancy, Is, Fixed, texpr, plain, designates}
+use Rattle.c_types.specs.declared.known.Known.{Known}
+use Rattle.c_types.specs.declared.known.Constancy.{Constancy}
+use Rattle.c_types.specs.declared.known.Fixed.{Fixed}
+use Rattle.c_types.specs.declared.known.Constancy.TheVariants.{Is}
+use Rattle.c_types.specs.Known.{texpr, plain, designates}
 use Rattle.c_types.specs.Operators.{breaks}
 
 -- ---- what is said of an expression, and of a type
@@ -42,11 +52,6 @@ said judged = record { name = None; text = None; computes = false; judged = judg
 abbrev pub computing : (Span → Judged Known) → NodeSaid
 computing judged = record { name = None; text = None; computes = true; judged = judged }
 
--- a type as it is written: whole, or an array whose length is left out
-pub data Written : Type 0 where
-  Whole : Ty → Written
-  Open : Ty → Written
-
 -- ---- types (6.7.6); a rule that one breaks belongs to the construct that has the type
 
 abbrev pub pointer_to : Span → Written → Judged Written
@@ -62,11 +67,13 @@ abbrev pub length_in : Constancy → ℕ
 length_in (Is n) = n
 length_in _ = 0
 
+abbrev pub length_known : Span → Known → Judged ℕ
+length_known span k = only_kept span (rule 12 (is_length (int_of k.tree.ty) k.constant) ∷ []) (length_in k.constant)
+
 -- The rule on a length belongs to the length's expression. That a name, a call or a member is none needs no type.
 abbrev pub judged_length : Said → Judged ℕ
 judged_length e =
-    either e.judged (asked e.span (rule 12 e.computes ∷ []))
-    (λ k. only_kept e.span (rule 12 (is_length (int_of k.tree.ty) k.constant) ∷ []) (length_in k.constant))
+    either e.judged (asked e.span (rule 12 e.computes ∷ [])) (length_known e.span)
 
 abbrev pub array_of : Span → Option ℕ → Written → Judged Written
 array_of span length (Open t) = breaks 15 span
@@ -78,10 +85,13 @@ abbrev pub tag_of : Span → ℕ → Option ℕ → Judged Written
 tag_of span next None = ruled span (rule 9 false ∷ []) (Whole (ty.Struct next))
 tag_of span next (Some number) = sure (Whole (ty.Struct number))
 
+abbrev pub struct_tag : Span → List ℕ → Judged Written
+struct_tag span tag env = tag_of span (length env.structs) (tag_number env.structs tag) env
+
 abbrev pub type_step : CType-F (Span → Judged Written) NodeSaid Said → Span → Judged Written
 type_step CType-F.Void span = sure (Whole ty.Void)
 type_step (CType-F.Int t) span = sure (Whole (ty.Int t))
-type_step (CType-F.Struct tag) span = λ env. tag_of span (length env.structs) (tag_number env.structs tag) env
+type_step (CType-F.Struct tag) span = struct_tag span tag
 type_step (CType-F.Pointer t) span = on (t span) (pointer_to span)
 type_step (CType-F.Array t None) span = on (t span) (array_of span None)
 type_step (CType-F.Array t (Some length)) span =
@@ -94,6 +104,10 @@ whole span (Open t) = breaks 15 span
 
 -- ---- names, constants and texts (6.5.1)
 
+-- an integer constant
+abbrev pub constant_known : Span → ℕ → IntType → Known
+constant_known span n t = plain (texpr span (ty.Int t) (node.Constant n t)) (Is n)
+
 -- an int of value -1
 abbrev pub eof_value : ℕ
 eof_value = 18446744073709551615
@@ -102,13 +116,17 @@ abbrev pub fixed_at : Option target.the_data → Option Fixed
 fixed_at None = None
 fixed_at (Some t) = Some (record { target = Some t; offset = 0 })
 
+-- an object by its name
+abbrev pub object_known : Span → Place → Ty → Known
+object_known span place t = designates (texpr span t (node_at place)) (fixed_at (target_at place))
+
 -- a name that is not called: rule 9 where nothing is declared, rule 13 where a function is
 abbrev pub name_row : Span → Option Meaning → Judged Known
 name_row span None = breaks 9 span
-name_row span (Some (MeansObject tree fixed (Some t))) = sure (designates (texpr span t tree) (fixed_at fixed))
-name_row span (Some (MeansObject tree fixed None)) = not_known
-name_row span (Some (MeansFunction callee signature)) = breaks 13 span
-name_row span (Some MeansEof) = sure (plain (texpr span (ty.Int int.Int) (node.Constant eof_value int.Int)) (Is eof_value))
+name_row span (Some (means.Object place (Some t))) = sure (object_known span place t)
+name_row span (Some (means.Object place None)) = not_known
+name_row span (Some (means.Function callee signature)) = breaks 13 span
+name_row span (Some means.Eof) = sure (constant_known span eof_value int.Int)
 
 abbrev pub meaning_of : Option Binding → Option Meaning
 meaning_of None = None
@@ -117,12 +135,13 @@ meaning_of (Some b) = Some b.means
 abbrev pub variable : List ℕ → Span → Judged Known
 variable name span env = name_row span (meaning_of (in_scopes name env.scopes)) env
 
-abbrev pub text_type : List ℕ → Ty
-text_type bytes = ty.Array (ty.Int int.Char) (length bytes)
+-- an array of char, by its length and its number among the texts
+abbrev pub text_known : Span → ℕ → ℕ → Known
+text_known span length number =
+    designates (texpr span (ty.Array (ty.Int int.Char) length) (node.Text number)) (fixed_at (Some (target.Text number)))
 
 -- an array of char with the final zero (6.4.5 paragraph 6)
 abbrev pub text : List ℕ → Span → Judged Known
 text bytes span env =
-    let t = designates (texpr span (text_type bytes) (node.Text env.texts)) (fixed_at (Some (target.Text env.texts))) in
-    let o = ruled span (rule 17 (leb (length bytes) largest) ∷ []) t env in
+    let o = ruled span (rule 17 (leb (length bytes) largest) ∷ []) (text_known span (length bytes) env.texts) env in
     record o { texts = bytes ∷ [] }

@@ -16,7 +16,8 @@ use Rattle.c_types.specs.Types.{is_scalar, is_void}
 use Rattle.c_types.specs.Faults.{rule}
 use Rattle.c_types.specs.Environment.{opened}
 use Rattle.c_types.specs.Outcomes.{Judged, sure, not_known, both, each, perhaps, on, ruled, enclosed}
-use Rattle.c_types.specs.Known.{Known, converted, assignable}
+use Rattle.c_types.specs.declared.known.Known.{Known}
+use Rattle.c_types.specs.Known.{converted, assignable}
 use Rattle.c_types.specs.Expressions.{judged_value}
 use Rattle.c_types.specs.Declarations.{option_map, no, local}
 

@@ -22,13 +22,17 @@ use Rattle.c_types.specs.declared.typed.TFunction.{TFunction}
 use Rattle.c_types.specs.declared.typed.ExternInfo.{ExternInfo}
 use Rattle.c_types.specs.declared.typed.LocalInfo.{LocalInfo}
 use Rattle.c_types.specs.Types.{is_there}
-use Rattle.c_types.specs.Faults.{rule, Fault, fault, broken}
-use Rattle.c_types.specs.Environment.{Env, Binding, MeansObject, MeansFunction, MeansEof, Signature, binds, tag_number}
+use Rattle.c_types.specs.declared.fault.Fault.{Fault}
+use Rattle.c_types.specs.Faults.{rule, fault, broken}
+use Rattle.c_types.specs.declared.scopes.Binding.{Binding}
+use Rattle.c_types.specs.declared.scopes.Signature.{Signature}
+use Rattle.c_types.specs.declared.scopes.Meaning.TheVariants as means
+use Rattle.c_types.specs.Environment.{Env, binds, tag_number}
 use Rattle.c_types.specs.Outcomes.{Outcome, behind}
 use Rattle.c_types.specs.Initials.{InitSaid, Fitted}
 use Rattle.c_types.specs.Declarations.{no, init_of, declared_type, object_rules, initialised, eof_name}
 use Rattle.c_types.specs.Statements.{statement}
-use Rattle.c_types.specs.Files.{FileNames, file_names, is_extern, is_static, object_node, object_target, function_callee, putchar_name, getchar_name}
+use Rattle.c_types.specs.Files.{FileNames, file_names, is_extern, is_static, object_place, function_callee, putchar_name, getchar_name}
 use Rattle.c_types.specs.Redeclarations.{AnObject, AFunction, Declared, may_stand, putchar_type, getchar_type}
 use Rattle.c_types.specs.Functions.{parameters, signature_of, head_rules, main_name, result_type}
 use Rattle.c_types.specs.Structs.{Member, members, struct_with, tag_alone, body_rules}
@@ -78,9 +82,9 @@ with_names j names =
 abbrev pub included : Judgement → Judgement
 included j =
     let named = with_names j (
-    binds eof_name MeansEof ∷
-    binds getchar_name (MeansFunction callee.Getchar (Some getchar_type)) ∷
-    binds putchar_name (MeansFunction callee.Putchar (Some putchar_type)) ∷ []) in
+    binds eof_name means.Eof ∷
+    binds getchar_name (means.Function callee.Getchar (Some getchar_type)) ∷
+    binds putchar_name (means.Function callee.Putchar (Some putchar_type)) ∷ []) in
     record named { env = record named.env { stdio = true } }
 
 -- ---- structs (6.7.2.1, 6.7.2.3)
@@ -140,7 +144,7 @@ abbrev pub object_judged : FileNames → Storage → Judgement → Decl → Judg
 object_judged names c j d =
     let t = declared_type d j.env in
     let typed = with_outcome j t in
-    let named = with_names typed (binds d.name (MeansObject (object_node names d.name) (Some (object_target names d.name)) t.known) ∷ []) in
+    let named = with_names typed (binds d.name (means.Object (object_place names d.name) t.known) ∷ []) in
     let i = initialised true t.known (init_of d) named.env in
     let this = object_declared c d t.known in
     let rules = rule 10 (may_stand names j.declared this) ∷ rule 19 (no (bytes_eq d.name main_name)) ∷ object_rules j.env.structs t.known in
@@ -187,7 +191,7 @@ function_judged names j f =
     let this = function_declared f s in
     let rules = head_rules f (may_stand names j.declared this) result.known in
     let headed = with_faults (with_outcome read (record params { names = [] })) (broken f.span rules) in
-    let named = with_names headed (binds f.name (MeansFunction (function_callee names f.name) s) ∷ []) in
+    let named = with_names headed (binds f.name (means.Function (function_callee names f.name) s) ∷ []) in
     with_function (record named { declared = this ∷ j.declared }) f result.known params f.body
 
 -- ---- all of it

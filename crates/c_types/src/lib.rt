@@ -1,11 +1,24 @@
 //! The types of the C profile: the typed program, and the sizes of its types.
 #![tactic(auto)]
 
+mod address;
+mod arithmetic;
+mod constant;
 mod expr;
+mod fault;
+mod kinds;
+mod known;
+mod length;
+mod parts;
+mod rows;
+mod scopes;
 mod size;
 mod statement;
 mod ty;
 mod typed;
+mod values;
+mod walk;
+mod written;
 
 pub use expr::{Callee, TExpr, TNode};
 pub use size::{align_of, member_offset, size_of};

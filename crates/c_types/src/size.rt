@@ -31,7 +31,7 @@ pub fn capped_size(ty: &Ty, structs: &[StructInfo]) -> u64
 }
 
 /// The bytes of a struct, if it is there.
-fn struct_size(info: Option<&StructInfo>) -> u64
+pub fn struct_size(info: Option<&StructInfo>) -> u64
     ensures { result ≡ bytes_of_struct (option_copied info.entry) }
 {
     match info {

@@ -4,7 +4,8 @@ use Rattle.std.specs.List.{Contains}
 use Rattle.std.proofs.lemmas.Bool.{cases_lt}
 use Rattle.std.proofs.lemmas.List.Elements.{All-contains, All-cons}
 use Rattle.std.proofs.Math.Nat.{eq-or-lt_of_le}
-use Rattle.c_types.specs.Faults.{Fault, NoLater, ends_first, starts_last, smaller, IsFirst}
+use Rattle.c_types.specs.declared.fault.Fault.{Fault}
+use Rattle.c_types.specs.Faults.{NoLater, ends_first, starts_last, smaller, IsFirst}
 
 pub no_later-itself : (f : Fault) → NoLater f f
 no_later-itself f = smaller refl refl (omega arith)

@@ -28,7 +28,8 @@ use Rattle.c_ast.specs.declared.statement.Item.TheOpen.{Item-F, Stmt-F}
 use Rattle.c_ast.specs.declared.statement.Item.TheFolds.{fold-Item, fold-roll-Item, fold-roll-Stmt}
 use Rattle.c_types.specs.declared.statement.TItem.{TItem}
 use Rattle.c_types.specs.Outcomes.{Judged}
-use Rattle.c_types.specs.Said.{Said, NodeSaid, Written, type_step}
+use Rattle.c_types.specs.declared.known.Written.{Written}
+use Rattle.c_types.specs.Said.{Said, NodeSaid, type_step}
 use Rattle.c_types.specs.Expressions.{node_step, expr_step, expression, written}
 use Rattle.c_types.specs.Initials.{InitSaid, init_step, initialiser}
 use Rattle.c_types.specs.Statements.{StmtSaid, stmt_step, item_step, statement}

@@ -4,7 +4,8 @@ use Rattle.std.proofs.Common.{◌≡◌, refl, sym, ◌∙◌, subst, ℕ, List,
 use Rattle.c_ast.specs.declared.token.Span.{Span}
 use Rattle.c_ast.specs.declared.program.Program.{Program}
 use Rattle.c_types.specs.declared.typed.Typed.{Typed}
-use Rattle.c_types.specs.Faults.{Fault, fault, IsFirst}
+use Rattle.c_types.specs.declared.fault.Fault.{Fault}
+use Rattle.c_types.specs.Faults.{fault, IsFirst}
 use Rattle.c_types.specs.Files.{file_names}
 use Rattle.c_types.specs.Units.{judged, typed_by}
 use Rattle.c_types.specs.WellTyped.{WellTyped, FirstBroken}
