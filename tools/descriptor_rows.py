@@ -3,6 +3,8 @@
 rules of docs/FILES.md by hand or by the few lines below, and by nothing of mtcc. Usage: descriptor_rows.py crates/file_rows"""
 import sys
 
+from file_row_sections import write_section
+
 LIMIT = 2**48
 rows = []
 
@@ -108,14 +110,10 @@ title('many intervals side by side, and far apart')
 good(*[(16 * i, 16) for i in range(12)])
 good(*[(4096 * i, 16 * (i + 1)) for i in range(12)])
 
-count = 0
-with open(sys.argv[1] + '/stdin', 'w') as out:
-    out.write('# Bytes that describe tagged intervals, and the intervals (start and bytes), or the fault and its place.\n')
-    for one in rows:
-        if isinstance(one, str):
-            out.write(f'\n# {one}\n')
-        else:
-            count += 1
-            out.write((' '.join(f'{b:02x}' for b in one[0]) + ' | ' + one[1]).strip() + '\n')
-with open(sys.argv[1] + '/stdout', 'w') as out:
-    out.write(f'{count} rows, 0 differ\n')
+lines = []
+for one in rows:
+    if isinstance(one, str):
+        lines.append(f'\n# {one}')
+    else:
+        lines.append((' '.join(f'{b:02x}' for b in one[0]) + ' | ' + one[1]).strip())
+write_section(sys.argv[1], 'Bytes that describe tagged intervals, and the intervals (start and bytes), or the fault and its place.', lines)

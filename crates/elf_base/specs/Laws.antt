@@ -4,3 +4,4 @@ pub mod LaidOut
 pub mod OneLayout
 pub mod Reads
 pub mod Standing
+pub mod RecordsStand

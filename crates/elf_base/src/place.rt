@@ -27,35 +27,35 @@ pub(crate) fn record_at(bytes: &[u8], at: u64, len: u64) -> Result<&[u8], Short>
     Ok(&bytes[start..start + len as usize])
 }
 
-// The number that is the byte at a place of a record.
-pub(crate) fn u8_at(part: &[u8], at: usize) -> u8
+/// The number that is the byte at a place of a record.
+pub fn u8_at(part: &[u8], at: usize) -> u8
     requires { at + 1 ≤ length part.now }
     ensures { result ≡ number_at 1 at part.now }
 {
     part[at]
 }
 
-// The number whose two bytes stand at a place of a record.
+/// The number whose two bytes stand at a place of a record.
 #[tactic(auto, unfolding(crate::specs::Place::number_at))]
-pub(crate) fn u16_at(part: &[u8], at: usize) -> u16
+pub fn u16_at(part: &[u8], at: usize) -> u16
     requires { at + 2 ≤ length part.now }
     ensures { result ≡ number_at 2 at part.now }
 {
     LittleEndian::read_u16(&part[at..])
 }
 
-// The number whose four bytes stand at a place of a record.
+/// The number whose four bytes stand at a place of a record.
 #[tactic(auto, unfolding(crate::specs::Place::number_at))]
-pub(crate) fn u32_at(part: &[u8], at: usize) -> u32
+pub fn u32_at(part: &[u8], at: usize) -> u32
     requires { at + 4 ≤ length part.now }
     ensures { result ≡ number_at 4 at part.now }
 {
     LittleEndian::read_u32(&part[at..])
 }
 
-// The number whose eight bytes stand at a place of a record.
+/// The number whose eight bytes stand at a place of a record.
 #[tactic(auto, unfolding(crate::specs::Place::number_at))]
-pub(crate) fn u64_at(part: &[u8], at: usize) -> u64
+pub fn u64_at(part: &[u8], at: usize) -> u64
     requires { at + 8 ≤ length part.now }
     ensures { result ≡ number_at 8 at part.now }
 {

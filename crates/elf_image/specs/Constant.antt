@@ -1,4 +1,4 @@
--- The images that are read today: the code of one constant, and nothing else.
+-- The images that run today: the code of one constant, and nothing else.
 use Rattle.std.specs.Prelude.{◌≡◌, ℕ, ◌+◌, ◌*◌, ◌/◌, ◌%◌, ◌≤◌, nat_lt, if◌then◌else◌, List, [], ◌∷◌}
 use Rattle.elf_image.specs.Image.{Image}
 use Rattle.elf_image.specs.ImageFile.{ImageFile}

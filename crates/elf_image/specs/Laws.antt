@@ -9,3 +9,16 @@ pub mod FirstWords
 pub mod ConstantLaws
 pub mod CodeBytes
 pub mod Loading
+pub mod Tests
+pub mod Holding
+pub mod Items
+pub mod Right
+pub mod ReadBack
+pub mod Holds
+pub mod Gaps
+pub mod NoFault
+pub mod OneAnswer
+pub mod Within
+pub mod ReadMemtag
+pub mod MemtagAnswers
+pub mod MemtagExamples

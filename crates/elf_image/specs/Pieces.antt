@@ -11,14 +11,18 @@ use Rattle.elf_image.specs.declared.parts.RelativeReloc.{RelativeReloc}
 use Rattle.elf_image.specs.Image.{Image}
 use Rattle.elf_image.specs.Places.{descriptors_place, rodata_place, rodata_end, code_place, dynamic_place, dynamic_count, filled_place, file_end, memory_end}
 
--- the file's header: ET_DYN for EM_AARCH64, four program headers at 64, no sections
-abbrev pub header : Image → Ehdr
-header p = record {
-  ident = 0x7f ∷ 0x45 ∷ 0x4c ∷ 0x46 ∷ 2 ∷ 1 ∷ 1 ∷ 0 ∷ 0 ∷ 0 ∷ 0 ∷ 0 ∷ 0 ∷ 0 ∷ 0 ∷ 0 ∷ [];
+-- the identification of an ELF file: its name, 64 bits, little-endian, version 1
+abbrev pub identification : List ℕ
+identification = 0x7f ∷ 0x45 ∷ 0x4c ∷ 0x46 ∷ 2 ∷ 1 ∷ 1 ∷ 0 ∷ 0 ∷ 0 ∷ 0 ∷ 0 ∷ 0 ∷ 0 ∷ 0 ∷ 0 ∷ []
+
+-- the file's header, with its entry: ET_DYN for EM_AARCH64, four program headers at 64, no sections
+abbrev pub header_with : ℕ → Ehdr
+header_with entry = record {
+  ident = identification;
   kind = 3;
   machine = 183;
   version = 1;
-  entry = p.entry;
+  entry = entry;
   phoff = 64;
   shoff = 0;
   flags = 0;
@@ -29,6 +33,9 @@ header p = record {
   shnum = 0;
   shstrndx = 0;
 }
+
+abbrev pub header : Image → Ehdr
+header p = header_with p.entry
 
 -- a part that is loaded, PT_LOAD, with its flags: 4 to read, 2 to write, 1 to execute
 abbrev pub load : ℕ → ℕ → ℕ → ℕ → Phdr

@@ -1,18 +1,25 @@
 //! Image files: what the linker writes and the start-up loads, as one ELF64 file for each list of parts.
 #![tactic(auto)]
 
+mod bytes;
 mod constant;
+mod constant_file;
+mod entries;
+mod heads;
+mod judge;
 mod layout;
+mod memtag;
 mod parts;
 mod put;
 mod read;
 mod refusal;
+mod same;
+mod segments;
 mod write;
 
+pub use constant_file::read_constant;
+pub use memtag::{MemtagInfo, read_memtag};
 pub use parts::{ImageParts, RelativeReloc};
 pub use read::read_image;
 pub use refusal::ImageRefusal;
 pub use write::{push_code, push_writable, read_only_bytes, write_image};
-
-#[cfg(test)]
-mod tests;

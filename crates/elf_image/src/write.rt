@@ -6,7 +6,7 @@ ghost use Rattle.elf_image.specs.ImageFile.{ImageFile};
 ghost use Rattle.elf_base.specs.Laying.{put, put_all};
 ghost use Rattle.elf_base.specs.Layout.{piece};
 ghost use Rattle.elf_image.specs.LoadedBytes.{read_only_bytes, code_bytes, writable_bytes};
-ghost use Rattle.elf_image.specs.Pieces.{header, load, dynamic_at, entries_bytes, header_pieces, table_pieces, table_entries, descriptor_entries};
+ghost use Rattle.elf_image.specs.Pieces.{header_with, load, dynamic_at, entries_bytes, header_pieces, table_pieces, table_entries, descriptor_entries};
 ghost use Rattle.elf_image.specs.Places.{IsValid, descriptors_place};
 
 use crate::layout::{RELOCS_PLACE, STRINGS_PLACE, SYMBOLS_PLACE};
@@ -69,7 +69,7 @@ fn put_headers(out: &mut Vec<u8>, parts: &ImageParts) -> Result<(), AllocError>
         ≡ put_all (header_pieces (image_of parts.now)) out.old.items) }
 {
     let mut bytes = [0; 64];
-    write_ehdr(&header_of(parts), &mut bytes);
+    write_ehdr(&header_with(parts.entry), &mut bytes);
     put_bytes(out, 0, &bytes)?;
     let read_only = parts.rodata_end();
     put_segment(out, 64, &load(4, 0, read_only, read_only))?;
@@ -83,15 +83,21 @@ fn put_headers(out: &mut Vec<u8>, parts: &ImageParts) -> Result<(), AllocError>
     Ok(())
 }
 
-fn header_of(parts: &ImageParts) -> Ehdr
-    ensures { result ≡ header (image_of parts.now) }
+// The identification of an ELF file: its name, 64 bits, little-endian, version 1.
+pub(crate) const IDENTIFICATION: [u8; 16] = [
+    0x7f, b'E', b'L', b'F', 2, 1, 1, 0, 0, 0, 0, 0, 0, 0, 0, 0,
+];
+
+// The file's header, with its entry.
+pub(crate) fn header_with(entry: u64) -> Ehdr
+    ensures { result ≡ header_with entry }
 {
     Ehdr {
-        ident: [0x7f, b'E', b'L', b'F', 2, 1, 1, 0, 0, 0, 0, 0, 0, 0, 0, 0],
+        ident: IDENTIFICATION,
         kind: 3,
         machine: 183,
         version: 1,
-        entry: parts.entry,
+        entry,
         phoff: 64,
         shoff: 0,
         flags: 0,
@@ -105,7 +111,7 @@ fn header_of(parts: &ImageParts) -> Ehdr
 }
 
 // A part that is loaded at its place.
-fn load(flags: u32, place: u64, filesz: u64, memsz: u64) -> Phdr
+pub(crate) fn load(flags: u32, place: u64, filesz: u64, memsz: u64) -> Phdr
     ensures { result ≡ load flags place filesz memsz }
 {
     Phdr {
@@ -121,7 +127,7 @@ fn load(flags: u32, place: u64, filesz: u64, memsz: u64) -> Phdr
 }
 
 // The part that the dynamic entries are.
-fn dynamic_segment(place: u64, bytes: u64) -> Phdr
+pub(crate) fn dynamic_segment(place: u64, bytes: u64) -> Phdr
     ensures { result ≡ dynamic_at place bytes }
 {
     Phdr {

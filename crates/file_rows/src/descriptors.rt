@@ -2,15 +2,11 @@ use memtag_desc::{DescRefusal, Interval, decode, encode};
 use std::alloc::{AllocError, Global};
 use std::fmt::Write;
 
-// What the bytes, written as hexadecimal numbers, are read as: intervals or a fault. Intervals have to be written as the same
-// bytes again.
-pub(crate) fn answer(alloc: Global, text: &str) -> Result<String, AllocError> {
-    let Some(bytes) = bytes_of(alloc, text)? else {
-        return String::from_str(alloc, "no bytes");
-    };
-    match decode(alloc, &bytes) {
+// What the bytes are read as: intervals or a fault. Intervals have to be written as the same bytes again.
+pub(crate) fn answer(alloc: Global, bytes: &[u8]) -> Result<String, AllocError> {
+    match decode(alloc, bytes) {
         Ok(intervals) => {
-            if encode(alloc, &intervals)?.as_slice() == bytes.as_slice() {
+            if encode(alloc, &intervals)?.as_slice() == bytes {
                 listed(alloc, &intervals)
             } else {
                 String::from_str(alloc, "written otherwise")
@@ -21,18 +17,6 @@ pub(crate) fn answer(alloc: Global, text: &str) -> Result<String, AllocError> {
         Err(DescRefusal::TooFar { at }) => format!(in alloc; "TooFar {at}"),
         Err(DescRefusal::NoMemory) => Err(AllocError),
     }
-}
-
-// The bytes of a row, or None where a word is no byte.
-fn bytes_of(alloc: Global, text: &str) -> Result<Option<Vec<u8>>, AllocError> {
-    let mut bytes = Vec::new(alloc);
-    for word in text.split_whitespace() {
-        let Ok(byte) = u8::from_str_radix(word, 16) else {
-            return Ok(None);
-        };
-        bytes.push(byte)?;
-    }
-    Ok(Some(bytes))
 }
 
 // Each interval as its start and its bytes.

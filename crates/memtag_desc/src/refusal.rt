@@ -23,7 +23,7 @@ pub enum DescRefusal {
 
 impl DescRefusal {
     ghost use Rattle.std.specs.Prelude.{◌≡◌};
-    ghost use Rattle.memtag_desc.specs.Refusal.{number_of};
+    ghost use Rattle.memtag_desc.specs.Refusal.{number_of, place_of};
 
     /// The refusal's number, 35 to 37 in the order above, and 0 for want of memory.
     pub fn number(&self) -> u8
@@ -33,6 +33,17 @@ impl DescRefusal {
             DescRefusal::Cut { .. } => 35,
             DescRefusal::LongForm { .. } => 36,
             DescRefusal::TooFar { .. } => 37,
+            DescRefusal::NoMemory => 0,
+        }
+    }
+
+    /// The place of the fault, and 0 where it has none.
+    pub fn place(&self) -> u64
+        ensures { result ≡ place_of self.now }
+    {
+        match self {
+            DescRefusal::Cut { at } | DescRefusal::LongForm { at } | DescRefusal::TooFar { at } =>
+                *at,
             DescRefusal::NoMemory => 0,
         }
     }

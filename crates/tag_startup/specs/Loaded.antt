@@ -7,7 +7,7 @@ use Rattle.a64_code.specs.State.{State}
 use Rattle.elf_image.specs.Image.{Image}
 use Rattle.elf_image.specs.Places.{rodata_end, code_place, code_end, dynamic_place, memory_end}
 use Rattle.elf_image.specs.Pieces.{pieces}
-use Rattle.elf_image.specs.Laws.FileBytes.{byte_among}
+use Rattle.elf_image.specs.FileByte.{byte_among}
 use Rattle.mte_machine.specs.Machine.{clear_flags}
 
 -- where an image is loaded, and where the stack ends, below which it grows

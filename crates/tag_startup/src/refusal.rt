@@ -16,6 +16,20 @@ pub enum StartRefusal {
     NoMemory,
 }
 
+impl StartRefusal {
+    ghost use Rattle.tag_startup.specs.Refusal.{number_of};
+
+    /// The refusal's number, and 0 for want of memory.
+    pub fn number(&self) -> u8
+        ensures { result ≡ number_of self.now }
+    {
+        match self {
+            StartRefusal::NotYet => 44,
+            StartRefusal::NoMemory => 0,
+        }
+    }
+}
+
 impl From<AllocError> for StartRefusal {
     ghost from_gives = { λ _ refusal. refusal ≡ NoMemory };
 

@@ -15,11 +15,11 @@ abbrev pub end_of : ℕ → List Piece → ℕ
 end_of at [] = at
 end_of at (p ∷ ps) = end_of (p.place + length p.bytes) ps
 
-length-pad : (place : ℕ) (out : List ℕ) → length out ≤ place → length (pad place out) ≡ place
+pub length-pad : (place : ℕ) (out : List ℕ) → length out ≤ place → length (pad place out) ≡ place
 unfolding pad
 length-pad place out h = omega (arith, length-append out (replicate (place - length out) 0), length-replicate {A = ℕ} (place - length out) 0)
 
-length-put : (p : Piece) (out : List ℕ) → length out ≤ p.place → length (put p out) ≡ p.place + length p.bytes
+pub length-put : (p : Piece) (out : List ℕ) → length out ≤ p.place → length (put p out) ≡ p.place + length p.bytes
 unfolding put
 length-put p out h = omega (arith, length-append (pad p.place out) p.bytes, length-pad p.place out h)
 

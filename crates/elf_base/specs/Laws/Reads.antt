@@ -49,12 +49,12 @@ bytes_of-fields_like (f ∷ fs) at xs fits h =
     rw (first, others, rest) (take-append-drop (width_of f) (drop at xs))
 
 -- a number is read again from its bytes
-number_at-little_bytes : (width at n : ℕ) (xs rest : List ℕ) → n < 256 ^ width → drop at xs ≡ little_bytes width n ++ rest → number_at width at xs ≡ n
+pub number_at-little_bytes : (width at n : ℕ) (xs rest : List ℕ) → n < 256 ^ width → drop at xs ≡ little_bytes width n ++ rest → number_at width at xs ≡ n
 unfolding number_at
 number_at-little_bytes width at n xs rest fits here = ap (little_number width) here ∙ little_number-reads_back width n rest fits
 
 -- a field is read again from its bytes
-read_like-field_bytes : (f : Field) (at : ℕ) (xs rest : List ℕ) → FieldFits f → drop at xs ≡ field_bytes f ++ rest → read_like f at xs ≡ f
+pub read_like-field_bytes : (f : Field) (at : ℕ) (xs rest : List ℕ) → FieldFits f → drop at xs ≡ field_bytes f ++ rest → read_like f at xs ≡ f
 unfolding field_bytes
 read_like-field_bytes (number width n) at xs rest fits here = ap (number width) (number_at-little_bytes width at n xs rest fits here)
 read_like-field_bytes (signed z) at xs rest fits here =

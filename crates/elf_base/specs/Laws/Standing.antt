@@ -19,13 +19,13 @@ nothing_taken : (j : ℕ) → take {A = ℕ} j [] ≡ []
 nothing_taken zero = refl
 nothing_taken (suc j) = refl
 
-take-add : (i j : ℕ) (xs : List ℕ) → take (i + j) xs ≡ take i xs ++ take j (drop i xs)
+pub take-add : (i j : ℕ) (xs : List ℕ) → take (i + j) xs ≡ take i xs ++ take j (drop i xs)
 take-add zero j xs = let same : zero + j ≡ j = omega arith in ap (λ (k : ℕ). take k xs) same
 take-add (suc i) j [] = let same : suc i + j ≡ suc (i + j) = omega arith in rw same (sym (nothing_taken j))
 take-add (suc i) j (x ∷ xs) = let same : suc i + j ≡ suc (i + j) = omega arith in rw same (ap (λ (l : List ℕ). x ∷ l) (take-add i j xs))
 
 -- the bytes of the fields that stand from a place on
-bytes_of-standing : (fs : List Field) (at : ℕ) (xs : List ℕ) → IsBytes xs → at + total_width fs ≤ length xs
+pub bytes_of-standing : (fs : List Field) (at : ℕ) (xs : List ℕ) → IsBytes xs → at + total_width fs ≤ length xs
     → bytes_of (fields_like fs at xs) ≡ take (total_width fs) (drop at xs)
 bytes_of-standing [] at xs fits h = refl
 bytes_of-standing (f ∷ fs) at xs fits h =
@@ -37,11 +37,11 @@ bytes_of-standing (f ∷ fs) at xs fits h =
     ∙ sym (take-add (width_of f) (total_width fs) (drop at xs))
 
 -- such fields fit their widths
-number_fits : (width at : ℕ) (xs : List ℕ) → IsBytes xs → number_at width at xs < 256 ^ width
+pub number_fits : (width at : ℕ) (xs : List ℕ) → IsBytes xs → number_at width at xs < 256 ^ width
 unfolding number_at
 number_fits width at xs fits = little_from-lt 0 width (drop at xs) (IsBytes-drop at xs fits)
 
-field_fits : (f : Field) (at : ℕ) (xs : List ℕ) → IsBytes xs → at + width_of f ≤ length xs → FieldFits (read_like f at xs)
+pub field_fits : (f : Field) (at : ℕ) (xs : List ℕ) → IsBytes xs → at + width_of f ≤ length xs → FieldFits (read_like f at xs)
 field_fits (number width n) at xs fits h = number_fits width at xs fits
 field_fits (signed z) at xs fits h =
     let low = number_fits 8 at xs fits in
@@ -49,22 +49,22 @@ field_fits (signed z) at xs fits h =
     sfits_to_z whole
 field_fits (raw width bytes) at xs fits h = omega (arith, length-take width (drop at xs), length-drop at xs)
 
-fields_fit : (fs : List Field) (at : ℕ) (xs : List ℕ) → IsBytes xs → at + total_width fs ≤ length xs → FieldsFit (fields_like fs at xs)
+pub fields_fit : (fs : List Field) (at : ℕ) (xs : List ℕ) → IsBytes xs → at + total_width fs ≤ length xs → FieldsFit (fields_like fs at xs)
 fields_fit [] at xs fits h = tt
 fields_fit (f ∷ fs) at xs fits h = (field_fits f at xs fits (omega arith), fields_fit fs (at + width_of f) xs fits (omega arith))
 
-same_width : (fs : List Field) (at : ℕ) (xs : List ℕ) → total_width (fields_like fs at xs) ≡ total_width fs
+pub same_width : (fs : List Field) (at : ℕ) (xs : List ℕ) → total_width (fields_like fs at xs) ≡ total_width fs
 same_width [] at xs = refl
 same_width (number width n ∷ fs) at xs = ap (λ (k : ℕ). width + k) (same_width fs (at + width) xs)
 same_width (signed z ∷ fs) at xs = ap (λ (k : ℕ). 8 + k) (same_width fs (at + 8) xs)
 same_width (raw width bytes ∷ fs) at xs = ap (λ (k : ℕ). width + k) (same_width fs (at + width) xs)
 
 -- what a reader of records asks of the record that stands at a place
-record Stands (fs : List Field) (at : ℕ) (xs : List ℕ) : Type 0 where
-  fit : FieldsFit fs
-  stand : StandsAt xs at (bytes_of fs)
+pub record Stands (fs : List Field) (at : ℕ) (xs : List ℕ) : Type 0 where
+  pub fit : FieldsFit fs
+  pub stand : StandsAt xs at (bytes_of fs)
 
-stands : (fs : List Field) (at : ℕ) (xs : List ℕ) → IsBytes xs → at + total_width fs ≤ length xs → fs ≡ fields_like fs at xs → Stands fs at xs
+pub stands : (fs : List Field) (at : ℕ) (xs : List ℕ) → IsBytes xs → at + total_width fs ≤ length xs → fs ≡ fields_like fs at xs → Stands fs at xs
 stands fs at xs fits h like =
     let fit : FieldsFit fs = subst FieldsFit (sym like) (fields_fit fs at xs fits h) in
     let bytes : bytes_of fs ≡ take (total_width fs) (drop at xs) = ap bytes_of like ∙ bytes_of-standing fs at xs fits h in

@@ -1,12 +1,14 @@
 -- What holds of the image of a constant: it is valid, its code begins the page at 0x1000, and its file is of no other constant.
-use Rattle.std.proofs.Common.{◌≡◌, ℕ, ◌/◌, ◌%◌, ◌≤◌, List, length, refl, sym, subst, ◌∙◌, inl, inr, arith, Bool, true, false, cond, ltb}
+use Rattle.std.proofs.Common.{◌≡◌, ℕ, ◌/◌, ◌%◌, ◌^◌, ◌≤◌, ◌<◌, List, [], ◌∷◌, length, refl, sym, subst, ◌∙◌, inl, inr, arith, Bool, true, false, cond, ltb}
 use Rattle.std.proofs.lemmas.Bool.{cases_lt}
-use Rattle.std.specs.List.{flat_map}
+use Rattle.std.specs.List.{flat_map, AllByRecursion}
 use Rattle.elf_base.specs.Field.{StandsAt}
 use Rattle.elf_image.specs.Places.{IsValid, descriptors_place, rodata_place, rodata_end, code_place, code_end, dynamic_place, dynamic_end, filled_place, file_end, memory_end}
 use Rattle.elf_base.specs.Layout.{word_bytes}
 use Rattle.elf_image.specs.ImageFile.{ImageFile}
-use Rattle.elf_image.specs.Constant.{movz_word, movk_word, svc_word, constant_code, int_max, constant_image}
+use Rattle.elf_image.specs.Constant.{movz_word, movk_word, svc_word, constant_code, int_max, constant_image, IsConstantFile}
+use Rattle.elf_image.specs.Image.{Image}
+use Rattle.elf_image.specs.Ranges.{HasRanges, IsFileOf}
 use Rattle.elf_image.specs.Laws.FirstWords.{FirstWords, first_words, word_is}
 
 code_length : (b : Bool) (xs ys : List ℕ) → length xs ≤ 3 → length ys ≤ 3 → length (cond b xs ys) ≤ 3
@@ -61,3 +63,24 @@ one_constant n m file hn hm fn fm =
         | inr m_small ↦ omega arith
       ]
     ]
+
+-- its numbers are within their ranges
+code_ranges : (b : Bool) (xs ys : List ℕ) → AllByRecursion (λ w. w < 2 ^ 32) xs → AllByRecursion (λ w. w < 2 ^ 32) ys
+    → AllByRecursion (λ w. w < 2 ^ 32) (cond b xs ys)
+code_ranges true xs ys hx hy = hx
+code_ranges false xs ys hx hy = hy
+
+pub constant_ranges : (n : ℕ) → n ≤ int_max → HasRanges (constant_image n)
+constant_ranges n within = record {
+  entry = omega arith;
+  relocs = tt;
+  words = code_ranges (ltb 65535 n) (movz_word (n % 65536) ∷ movk_word (n / 65536) ∷ svc_word ∷ []) (movz_word (n % 65536) ∷ svc_word ∷ [])
+      (omega arith, (omega arith, (omega arith, tt))) (omega arith, (omega arith, tt));
+}
+
+-- the bytes are the file of that image
+pub constant_is_file : (image : Image) (file : List ℕ) → IsConstantFile image file → IsFileOf image file
+constant_is_file image file is = record {
+  is_file = is.file_is;
+  ranges = subst HasRanges (sym is.image) (constant_ranges is.constant is.fits);
+}

@@ -8,12 +8,8 @@ use Rattle.elf_image.specs.Image.{Image}
 use Rattle.elf_base.specs.Layout.{Piece, AllStand, IsGap}
 use Rattle.elf_image.specs.Pieces.{pieces}
 use Rattle.elf_image.specs.ImageFile.{ImageFile}
+use Rattle.elf_image.specs.FileByte.{byte_among}
 use Rattle.elf_base.specs.Laws.OneLayout.{byte_of}
-
--- the byte at a place of the pieces, and zero where none of them stands
-abbrev pub byte_among : List Piece → ℕ → ℕ
-byte_among [] i = 0
-byte_among (p ∷ ps) i = if is_between p.place (length p.bytes) i then slice_index p.bytes (i - p.place) else byte_among ps i
 
 from_place : (place bytes i : ℕ) → is_between place bytes i ≡ true → place ≤ i
 from_place place bytes i holds = grind (arith, nat_tests)

@@ -103,9 +103,9 @@ relocs_are (r ∷ rs) (s ∷ ss) fit other len same =
 -- ---- the dynamic entries
 
 -- the tag and the value of an entry fit
-record EntryFits (d : Dyn) : Type 0 where
-  tag : FitsSigned w64 d.tag
-  value : d.value < 2 ^ 64
+pub record EntryFits (d : Dyn) : Type 0 where
+  pub tag : FitsSigned w64 d.tag
+  pub value : d.value < 2 ^ 64
 
 dyn_is : (d e : Dyn) → EntryFits d → EntryFits e → dyn_bytes d ≡ dyn_bytes e → d ≡ e
 unfolding dyn_bytes
@@ -147,7 +147,7 @@ last_fit place (d ∷ ds) low few = (
   ),
 )
 
-entries_fit : (p : Image) → IsValid p → AllByRecursion EntryFits (dynamic_entries p)
+pub entries_fit : (p : Image) → IsValid p → AllByRecursion EntryFits (dynamic_entries p)
 entries_fit p valid =
     let w : Within p = within p valid in
     let relocs : 24 * length p.relocs < 2 ^ 64 = omega arith in
@@ -213,7 +213,7 @@ sizes p q count same =
 -- ---- the whole
 
 -- the numbers of the program headers and of the header fit
-header_fits : (p : Image) → p.entry < 2 ^ 64 → FieldsFit (ehdr_fields (header p))
+pub header_fits : (p : Image) → p.entry < 2 ^ 64 → FieldsFit (ehdr_fields (header p))
 header_fits p entry_low = (
   refl,
   (
@@ -249,12 +249,12 @@ header_fits p entry_low = (
   ),
 )
 
-load_fits : (flags place filesz memsz : ℕ) → flags < 8 → place < 2 ^ 64 → filesz < 2 ^ 64 → memsz < 2 ^ 64 → FieldsFit (phdr_fields
+pub load_fits : (flags place filesz memsz : ℕ) → flags < 8 → place < 2 ^ 64 → filesz < 2 ^ 64 → memsz < 2 ^ 64 → FieldsFit (phdr_fields
     (load flags place filesz memsz))
 load_fits flags place filesz memsz a b c d =
     (omega arith, (omega arith, (omega arith, (omega arith, (omega arith, (omega arith, (omega arith, (omega arith, tt))))))))
 
-dynamic_fits : (place bytes : ℕ) → place < 2 ^ 64 → bytes < 2 ^ 64 → FieldsFit (phdr_fields (dynamic_at place bytes))
+pub dynamic_fits : (place bytes : ℕ) → place < 2 ^ 64 → bytes < 2 ^ 64 → FieldsFit (phdr_fields (dynamic_at place bytes))
 dynamic_fits place bytes a b =
     (omega arith, (omega arith, (omega arith, (omega arith, (omega arith, (omega arith, (omega arith, (omega arith, tt))))))))
 

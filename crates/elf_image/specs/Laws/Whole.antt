@@ -27,7 +27,7 @@ pub length-words : (ws : List ℕ) → length (flat_map word_bytes ws) ≡ 4 * l
 length-words [] = refl
 length-words (w ∷ ws) = omega (arith, length-append (word_bytes w) (flat_map word_bytes ws), length-word_bytes w, length-words ws)
 
-pieces_in_order : (p : Image) → AreInOrder 0 (pieces p)
+pub pieces_in_order : (p : Image) → AreInOrder 0 (pieces p)
 pieces_in_order p =
     let o : InOrder p = in_order p in
     let h = length-ehdr (header p) refl in

@@ -12,7 +12,7 @@ use Rattle.a64_code.specs.Step.{is_fetchable, fetched}
 use Rattle.elf_image.specs.Image.{Image}
 use Rattle.elf_image.specs.Places.{IsValid, code_place, code_end}
 use Rattle.elf_image.specs.Pieces.{pieces}
-use Rattle.elf_image.specs.Laws.FileBytes.{byte_among}
+use Rattle.elf_image.specs.FileByte.{byte_among}
 use Rattle.elf_image.specs.Laws.CodeBytes.{code_byte, word_loaded}
 use Rattle.tag_startup.specs.Loaded.{load_address, part, loaded_regions, loaded_byte}
 use Rattle.tag_startup.specs.Laws.Placed.{in_order}

@@ -1,34 +1,23 @@
-use Rattle.std.proofs.Common.{◌≡◌, subst, sym, ap, ◌∙◌}
-use Rattle.std.proofs.lemmas.Bool.{false≢true}
-use Rattle.std.proofs.lemmas.Bool.Decides.{Decides-eqb}
-use Rattle.std.proofs.lemmas.Slice.Eq.{slice_eq-Decides}
-use Rattle.elf_image.specs.Image.{Image, image_of}
-use Rattle.elf_image.specs.Places.{IsValid}
-use Rattle.elf_image.specs.ImageFile.{ImageFile}
-use Rattle.elf_image.specs.Laws.OneFile.{one_file}
-use Rattle.elf_image.specs.Constant.{constant_image}
-use Rattle.elf_image.specs.Laws.FirstWords.{some_same}
-use Rattle.elf_image.specs.Laws.ConstantLaws.{constant_valid, code_stands}
+use Rattle.std.proofs.Common.{arith}
+use Rattle.elf_image.specs.Image.{image_of}
+use Rattle.elf_image.specs.Laws.OneAnswer.{not_both}
+use Rattle.elf_image.specs.Laws.OneImage.{one_image}
+use Rattle.elf_image.proofs.Whole.{room_of, file_of}
 use Rattle.elf_image.proofs.read.read_image.Goals as goal
 
-pub write_image-requires : goal.write_image-requires
-write_image-requires c = subst (λ (p : Image). IsValid p) (sym c.in_ok-parts.ensures) (constant_valid c.in-Some.n)
+pub returns-in_err-heads-clause-only : goal.returns-in_err-heads-clause-only
+returns-in_err-heads-clause-only c = λ p is. absurd (not_both p c.args.bytes.now c.in_err-heads.field-0.0 is c.in_err-heads.ensures)
 
-pub returns-in_default-clause-only : goal.returns-in_default-clause-only
-returns-in_default-clause-only c = λ n le f.
-    absurd (c.in_default.not-Some n (c.constant_at.ensures.only n le (code_stands n c.args.bytes.now f)))
+pub parts_at-requires : goal.parts_at-requires
+parts_at-requires c = room_of c.args.bytes.now c.in_ok-heads.heads c.in_ok-heads.ensures.0 c.in_ok-heads.ensures.1
 
-pub returns-then-eq-clause-only : goal.returns-then-eq-clause-only
-returns-then-eq-clause-only c = λ n le f.
-    c.in_ok-parts.ensures ∙ ap constant_image (some_same c.in-Some.n n (c.in-Some.ensures.only n le (code_stands n c.args.bytes.now f)))
+pub returns-clause-found : goal.returns-clause-found
+returns-clause-found c =
+    file_of c.args.bytes.now c.in_ok-heads.heads (image_of c.in_ok-parts.parts) (λ i. omega (arith, c.type_inv.bytes i))
+    c.in_ok-heads.ensures.0 c.in_ok-heads.ensures.1 c.in_ok-parts.ensures
 
-pub returns-else-eq-clause-only : goal.returns-else-eq-clause-only
-returns-else-eq-clause-only c = λ n le f.
-    let image : image_of c.in_ok-parts.parts ≡ constant_image n = c.in_ok-parts.ensures ∙ ap constant_image (some_same c.in-Some.n n
-    (c.in-Some.ensures.only n le (code_stands n c.args.bytes.now f))) in
-    let written : ImageFile (constant_image n) c.in_ok-file.file.items =
-    subst (λ (p : Image). ImageFile p c.in_ok-file.file.items) image c.in_ok-file.ensures in
-    let same : c.in_ok-file.file.items ≡ c.args.bytes.now =
-    one_file (constant_image n) c.in_ok-file.file.items c.args.bytes.now written f in
-    let equal = (slice_eq-Decides Decides-eqb _ _ _ c.eq.ensures).1 (c.as_slice.ensures.value ∙ same) in
-    absurd (false≢true (sym c.if-eq.false ∙ equal))
+pub returns-clause-only : goal.returns-clause-only
+returns-clause-only c = λ p is.
+    one_image (image_of c.in_ok-parts.parts) p c.args.bytes.now
+    (file_of c.args.bytes.now c.in_ok-heads.heads (image_of c.in_ok-parts.parts) (λ i. omega (arith, c.type_inv.bytes i))
+    c.in_ok-heads.ensures.0 c.in_ok-heads.ensures.1 c.in_ok-parts.ensures) is

@@ -6,5 +6,5 @@ use Rattle.file_rows.proofs.descriptors.answer.Goals as goal
 
 pub encode-requires : goal.encode-requires
 encode-requires c =
-    subst (HaveDescription 0) (sym c.deref-in-Ok.ensures.value)
-    (have_description c.in-Ok.intervals.items c.deref.result.now c.in-Ok.ensures.found)
+    subst (HaveDescription 0) (sym c.deref.ensures.value)
+    (have_description c.in-Ok.intervals.items c.args.bytes.now c.in-Ok.ensures.found)

@@ -1,0 +1,303 @@
+-- What holds of the headers and the bytes of a file without a fault.
+use Rattle.std.proofs.Common.{◌≡◌, ℕ, ◌+◌, ◌*◌, ◌/◌, ◌%◌, ◌≤◌, ◌⊎◌, List, [], ◌∷◌, ◌++◌, length, take, drop, refl, sym, ap, ◌∙◌, subst, inl, inr, arith, length-take, length-drop}
+use Rattle.std.specs.Prelude.{Bool, true, false, ◌&&◌, ◌||◌, ◌==◌, nat_le, if◌then◌else◌}
+use Rattle.std.proofs.lemmas.Bool.{leb-true, eqb-true, cases_Bool, false≢true}
+use Rattle.mt_base.specs.Granules.{round16}
+use Rattle.mt_base.specs.Laws.Granules.{round16-covers}
+use Rattle.elf_base.specs.declared.dynamic.Dyn.{Dyn}
+use Rattle.elf_base.specs.Standing.{ehdr_at, dyn_at}
+use Rattle.elf_image.specs.declared.heads.Heads.{Heads}
+use Rattle.elf_image.specs.Heads.{heads_at, entry_at, reloc_bytes_at, descriptor_bytes_at}
+use Rattle.elf_image.specs.Places.{round_page}
+use Rattle.elf_image.specs.Pieces.{header_with, load, dynamic_at, entry}
+use Rattle.elf_image.specs.Faults.{zeros_between, are_relative, same_header, same_segment, same_entry, reaches, is_read_only, is_code, is_writable, is_dynamic, is_reloc_size, is_descriptor_size, Condition, opening, contents, segments, asks, table_asks, mode_asks, last_asks, gap_asks, conditions, first_fault, fault_of}
+use Rattle.elf_image.specs.Laws.Tests.{both, header_is, segment_is, entry_is}
+use Rattle.elf_image.specs.Laws.Holding.{no_fault, AllHold, each_holds, holds_front, holds_back}
+use Rattle.elf_image.specs.Laws.Items.{AreEntries}
+
+-- where the read-only data begins, by the sizes in the dynamic entries
+abbrev pub rodata_at : List ℕ → Heads → ℕ
+rodata_at file h = round16 (0x140 + reloc_bytes_at file h + descriptor_bytes_at file h)
+
+-- the entries up to MEMTAG_STACK, and those after it, by the number of bytes of the descriptors
+abbrev pub tables_of : ℕ → List Dyn
+tables_of relocs =
+    entry 5 0x138 ∷ entry 6 0x120 ∷ entry 10 1 ∷ entry 11 24 ∷ entry 7 0x140 ∷ entry 8 relocs ∷ entry 9 24
+    ∷ entry 0x70000009 0 ∷ entry 0x7000000b 0 ∷ entry 0x7000000c 1 ∷ []
+
+abbrev pub described_of : ℕ → ℕ → List Dyn
+described_of relocs descriptors = entry 0x7000000d (0x140 + relocs) ∷ entry 0x7000000f descriptors ∷ entry 0 0 ∷ []
+
+abbrev pub plain_of : List Dyn
+plain_of = entry 0 0 ∷ []
+
+-- the headers, with the sizes that they say
+pub record RightHeads (file : List ℕ) (h : Heads) : Type 0 where
+  pub header : h.header ≡ header_with h.header.entry
+  pub headers : h.header.phoff + 224 ≤ length file
+  pub read_only : h.read_only ≡ load 4 0 h.read_only.filesz h.read_only.filesz
+  pub code : h.code ≡ load 5 (round_page h.read_only.filesz) h.code.filesz h.code.filesz
+  pub writable : h.writable ≡ load 6 (round_page (h.code.offset + h.code.filesz)) h.writable.filesz h.writable.memsz
+  pub dynamic : h.dynamic ≡ dynamic_at h.writable.offset h.dynamic.filesz
+
+-- the sizes
+pub record RightSizes (file : List ℕ) (h : Heads) : Type 0 where
+  pub tables : 0x140 ≤ h.read_only.filesz
+  pub read_only_within : h.read_only.offset + h.read_only.filesz ≤ length file
+  pub words : h.code.filesz % 4 ≡ 0
+  pub code_within : h.code.offset + h.code.filesz ≤ length file
+  pub entries : h.dynamic.filesz ≤ h.writable.filesz
+  pub granules : h.writable.filesz % 16 ≡ 0
+  pub more : h.writable.filesz ≤ h.writable.memsz
+  pub zeros : h.writable.memsz % 16 ≡ 0
+  pub limit : h.writable.offset + h.writable.memsz ≤ 268435456
+  pub end : length file ≡ h.writable.offset + h.writable.filesz
+
+-- the sizes in the dynamic entries, and what stands in the first part
+pub record RightTables (file : List ℕ) (h : Heads) : Type 0 where
+  pub relocs : reloc_bytes_at file h % 24 ≡ 0
+  pub relocs_within : 0x140 + reloc_bytes_at file h ≤ h.read_only.filesz
+  pub rodata_within : rodata_at file h ≤ h.read_only.filesz
+  pub relative : are_relative (reloc_bytes_at file h / 24) 0x140 file ≡ true
+
+-- the gaps
+pub record RightGaps (file : List ℕ) (h : Heads) : Type 0 where
+  pub tables : zeros_between 0x120 0x140 file ≡ true
+  pub rodata : zeros_between (0x140 + reloc_bytes_at file h + descriptor_bytes_at file h) (rodata_at file h) file ≡ true
+  pub code : zeros_between h.read_only.filesz h.code.offset file ≡ true
+  pub writable : zeros_between (h.code.offset + h.code.filesz) h.writable.offset file ≡ true
+
+-- the dynamic entries, with descriptors or without
+pub data RightEntries (file : List ℕ) (h : Heads) : Type 0 where
+  described : h.dynamic.filesz ≡ 208 → 1 ≤ descriptor_bytes_at file h
+      → AreEntries file h.dynamic.offset 0 (tables_of (reloc_bytes_at file h) ++ described_of (reloc_bytes_at file h) (descriptor_bytes_at file h))
+      → RightEntries file h
+  plain : h.dynamic.filesz ≡ 176 → descriptor_bytes_at file h ≡ 0
+      → AreEntries file h.dynamic.offset 0 (tables_of (reloc_bytes_at file h) ++ plain_of) → RightEntries file h
+
+pub record Right (file : List ℕ) (h : Heads) : Type 0 where
+  pub heads : RightHeads file h
+  pub sizes : RightSizes file h
+  pub tables : RightTables file h
+  pub gaps : RightGaps file h
+  pub entries : RightEntries file h
+
+-- ---- each group of conditions
+
+right_heads : (file : List ℕ) (h : Heads) → length h.header.ident ≡ 16 → AllHold (opening file h) → AllHold (segments file h) → RightHeads file h
+right_heads file h ident o s =
+    let read_only = both _ (zeros_between 0x120 0x140 file) s.1.0 in
+    let read_only_is = both (same_segment h.read_only (load 4 0 h.read_only.filesz h.read_only.filesz)) _ read_only.0 in
+    let code = both _ (zeros_between h.read_only.filesz h.code.offset file) s.1.1.0 in
+    let words = both _ (h.code.filesz % 4 == 0) code.0 in
+    let code_is = both (same_segment h.code (load 5 h.code.offset h.code.filesz h.code.filesz)) (round_page h.read_only.filesz == h.code.offset) words.0 in
+    let w1 = both _ (zeros_between (h.code.offset + h.code.filesz) h.writable.offset file) s.1.1.1.0 in
+    let w2 = both _ (nat_le (h.writable.offset + h.writable.memsz) 268435456) w1.0 in
+    let w3 = both _ (h.writable.memsz % 16 == 0) w2.0 in
+    let w4 = both _ (nat_le h.writable.filesz h.writable.memsz) w3.0 in
+    let w5 = both _ (h.writable.filesz % 16 == 0) w4.0 in
+    let w6 = both _ (nat_le 176 h.writable.filesz) w5.0 in
+    let w7 = both (same_segment h.writable (load 6 h.writable.offset h.writable.filesz h.writable.memsz)) (round_page (h.code.offset + h.code.filesz) == h.writable.offset) w6.0 in
+    let d1 = both _ (nat_le h.dynamic.filesz h.writable.filesz) s.1.1.1.1.0 in
+    let d2 = both (same_segment h.dynamic (dynamic_at h.writable.offset h.dynamic.filesz)) _ d1.0 in
+    record {
+      header = header_is h.header (header_with h.header.entry) ident s.0;
+      headers = leb-true (h.header.phoff + 224) (length file) o.1.1.1.0;
+      read_only = segment_is h.read_only (load 4 0 h.read_only.filesz h.read_only.filesz) read_only_is.0;
+      code = segment_is h.code (load 5 h.code.offset h.code.filesz h.code.filesz) code_is.0
+          ∙ ap (λ (a : ℕ). load 5 a h.code.filesz h.code.filesz) (sym (eqb-true (round_page h.read_only.filesz) h.code.offset code_is.1));
+      writable = segment_is h.writable (load 6 h.writable.offset h.writable.filesz h.writable.memsz) w7.0
+          ∙ ap (λ (a : ℕ). load 6 a h.writable.filesz h.writable.memsz)
+          (sym (eqb-true (round_page (h.code.offset + h.code.filesz)) h.writable.offset w7.1));
+      dynamic = segment_is h.dynamic (dynamic_at h.writable.offset h.dynamic.filesz) d2.0;
+    }
+
+pub right_sizes : (file : List ℕ) (h : Heads) → AllHold (contents file h) → AllHold (segments file h) → RightSizes file h
+right_sizes file h c s =
+    let read_only = both _ (zeros_between 0x120 0x140 file) s.1.0 in
+    let tables = both _ (nat_le 0x140 h.read_only.filesz) read_only.0 in
+    let code = both _ (zeros_between h.read_only.filesz h.code.offset file) s.1.1.0 in
+    let words = both _ (h.code.filesz % 4 == 0) code.0 in
+    let w1 = both _ (zeros_between (h.code.offset + h.code.filesz) h.writable.offset file) s.1.1.1.0 in
+    let w2 = both _ (nat_le (h.writable.offset + h.writable.memsz) 268435456) w1.0 in
+    let w3 = both _ (h.writable.memsz % 16 == 0) w2.0 in
+    let w4 = both _ (nat_le h.writable.filesz h.writable.memsz) w3.0 in
+    let w5 = both _ (h.writable.filesz % 16 == 0) w4.0 in
+    let d1 = both _ (nat_le h.dynamic.filesz h.writable.filesz) s.1.1.1.1.0 in
+    let there = leb-true (h.writable.offset + h.writable.filesz) (length file) c.1.1.0 in
+    let no_more = leb-true (length file) (h.writable.offset + h.writable.filesz) s.1.1.1.1.1.0 in
+    record {
+      tables = leb-true 0x140 h.read_only.filesz tables.1;
+      read_only_within = leb-true (h.read_only.offset + h.read_only.filesz) (length file) c.0;
+      words = eqb-true (h.code.filesz % 4) 0 words.1;
+      code_within = leb-true (h.code.offset + h.code.filesz) (length file) c.1.0;
+      entries = leb-true h.dynamic.filesz h.writable.filesz d1.1;
+      granules = eqb-true (h.writable.filesz % 16) 0 w5.1;
+      more = leb-true h.writable.filesz h.writable.memsz w4.1;
+      zeros = eqb-true (h.writable.memsz % 16) 0 w3.1;
+      limit = leb-true (h.writable.offset + h.writable.memsz) 268435456 w2.1;
+      end = omega (arith, there, no_more);
+    }
+
+right_gaps : (file : List ℕ) (h : Heads) → AllHold (segments file h) → AllHold (gap_asks file h) → RightGaps file h
+right_gaps file h s g = record {
+  tables = (both _ (zeros_between 0x120 0x140 file) s.1.0).1;
+  rodata = g.0;
+  code = (both _ (zeros_between h.read_only.filesz h.code.offset file) s.1.1.0).1;
+  writable = (both _ (zeros_between (h.code.offset + h.code.filesz) h.writable.offset file) s.1.1.1.0).1;
+}
+
+-- ---- the dynamic entries
+
+either : (a b : Bool) → (a || b) ≡ true → (a ≡ true) ⊎ (b ≡ true)
+either true b h = inl refl
+either false b h = inr h
+
+-- what a test chooses
+those : (b : Bool) (cs ds : List Condition) → b ≡ true → AllHold (if b then cs else ds) → AllHold cs
+those true cs ds h all = all
+those false cs ds h all = absurd (false≢true h)
+
+others : (b : Bool) (cs ds : List Condition) → b ≡ false → AllHold (if b then cs else ds) → AllHold ds
+others true cs ds h all = absurd (false≢true (sym h))
+others false cs ds h all = all
+
+pub that : (b x y : Bool) → b ≡ true → (if b then x else y) ≡ true → x ≡ true
+that true x y h holds = holds
+that false x y h holds = absurd (false≢true h)
+
+pub other : (b x y : Bool) → b ≡ false → (if b then x else y) ≡ true → y ≡ true
+other true x y h holds = absurd (false≢true (sym h))
+other false x y h holds = holds
+
+none_of : (b : Bool) (n : ℕ) → b ≡ false → (if b then n else 0) ≡ 0
+none_of true n h = absurd (false≢true (sym h))
+none_of false n h = refl
+
+-- the entries, the sizes that they say, and the relocations
+pub record RightLast (file : List ℕ) (h : Heads) : Type 0 where
+  pub tables : RightTables file h
+  pub entries : RightEntries file h
+
+module _ (file : List ℕ) (h : Heads) (t : AllHold (table_asks file h)) (m : AllHold (mode_asks file h)) (l : AllHold (last_asks file h)) where
+  is : (i : ℕ) (d : Dyn) → same_entry (entry_at file h i) d ≡ true → dyn_at (h.dynamic.offset + 16 * i) file ≡ d
+  is i d same = entry_is (entry_at file h i) d same
+
+  size : (same_entry (entry_at file h 5) (entry 8 (reloc_bytes_at file h)) ≡ true) × (is_reloc_size h (reloc_bytes_at file h) ≡ true)
+  size = both (same_entry (entry_at file h 5) (entry 8 (reloc_bytes_at file h))) (is_reloc_size h (reloc_bytes_at file h)) t.1.1.1.1.1.0
+
+  size_fits : (reloc_bytes_at file h % 24 == 0) ≡ true × ((if h.dynamic.filesz == 208 then nat_le (0x140 + reloc_bytes_at file h) h.read_only.filesz else
+      nat_le (round16 (0x140 + reloc_bytes_at file h)) h.read_only.filesz) ≡ true)
+  size_fits = both (reloc_bytes_at file h % 24 == 0) _ size.1
+
+  -- the first ten entries and others
+  with_tables : (ds : List Dyn) → AreEntries file h.dynamic.offset 10 ds → AreEntries file h.dynamic.offset 0 (tables_of (reloc_bytes_at file h) ++ ds)
+  with_tables ds rest = (
+    is 0 (entry 5 0x138) t.0,
+    (
+      is 1 (entry 6 0x120) t.1.0,
+      (
+        is 2 (entry 10 1) t.1.1.0,
+        (
+          is 3 (entry 11 24) t.1.1.1.0,
+          (
+            is 4 (entry 7 0x140) t.1.1.1.1.0,
+            (
+              is 5 (entry 8 (reloc_bytes_at file h)) size.0,
+              (
+                is 6 (entry 9 24) m.0,
+                (
+                  is 7 (entry 0x70000009 0) m.1.0,
+                  (is 8 (entry 0x7000000b 0) m.1.1.0, (is 9 (entry 0x7000000c 1) m.1.1.1.0, rest)),
+                ),
+              ),
+            ),
+          ),
+        ),
+      ),
+    ),
+  )
+
+  with_descriptors : (h.dynamic.filesz == 208) ≡ true → RightLast file h
+  with_descriptors with =
+      let last = those (h.dynamic.filesz == 208) _ _ with l in
+      let described_size = both (same_entry (entry_at file h 11) (entry 0x7000000f (descriptor_bytes_at file h))) (is_descriptor_size h (reloc_bytes_at file h) (descriptor_bytes_at file h)) last.1.0 in
+      let fits = both (nat_le 1 (descriptor_bytes_at file h)) _ described_size.1 in
+      record {
+        tables = record {
+          relocs = eqb-true (reloc_bytes_at file h % 24) 0 size_fits.0;
+          relocs_within = leb-true (0x140 + reloc_bytes_at file h) h.read_only.filesz (that (h.dynamic.filesz == 208) _ _ with size_fits.1);
+          rodata_within = leb-true (rodata_at file h) h.read_only.filesz fits.1;
+          relative = t.1.1.1.1.1.1.0;
+        };
+        entries = described (eqb-true h.dynamic.filesz 208 with) (leb-true 1 (descriptor_bytes_at file h) fits.0)
+            (with_tables (described_of (reloc_bytes_at file h) (descriptor_bytes_at file h)) (
+              is 10 (entry 0x7000000d (0x140 + reloc_bytes_at file h)) last.0,
+              (is 11 (entry 0x7000000f (descriptor_bytes_at file h)) described_size.0, (is 12 (entry 0 0) last.1.1.0, tt)),
+            ));
+      }
+
+  without_descriptors : (h.dynamic.filesz == 208) ≡ false → h.dynamic.filesz ≡ 176 → RightLast file h
+  without_descriptors without size =
+      let last = others (h.dynamic.filesz == 208) _ _ without l in
+      let none : descriptor_bytes_at file h ≡ 0 = none_of (h.dynamic.filesz == 208) _ without in
+      let fits : round16 (0x140 + reloc_bytes_at file h) ≤ h.read_only.filesz =
+      leb-true (round16 (0x140 + reloc_bytes_at file h)) h.read_only.filesz (other (h.dynamic.filesz == 208) _ _ without size_fits.1) in
+      let place : rodata_at file h ≡ round16 (0x140 + reloc_bytes_at file h) = ap round16 (omega (arith, none)) in
+      record {
+        tables = record {
+          relocs = eqb-true (reloc_bytes_at file h % 24) 0 size_fits.0;
+          relocs_within = omega (arith, fits, round16-covers (0x140 + reloc_bytes_at file h));
+          rodata_within = omega (arith, fits, place);
+          relative = t.1.1.1.1.1.1.0;
+        };
+        entries = plain size none (with_tables plain_of (is 10 (entry 0 0) last.0, tt));
+      }
+
+  pub right_last : AllHold (segments file h) → RightLast file h
+  right_last s =
+      let d1 = both _ (nat_le h.dynamic.filesz h.writable.filesz) s.1.1.1.1.0 in
+      let d2 = both (same_segment h.dynamic (dynamic_at h.writable.offset h.dynamic.filesz)) (h.dynamic.filesz == 176 || h.dynamic.filesz == 208) d1.0 in
+      elim (cases_Bool (h.dynamic.filesz == 208)) [
+        | inl with ↦ with_descriptors with
+        | inr without ↦ elim (either (h.dynamic.filesz == 176) (h.dynamic.filesz == 208) d2.1) [
+          | inl small ↦ without_descriptors without (eqb-true h.dynamic.filesz 176 small)
+          | inr large ↦ absurd (false≢true (sym without ∙ large))
+        ]
+      ]
+
+-- ---- the whole
+
+-- a file without a fault has right headers and bytes
+pub right : (file : List ℕ) → fault_of file ≡ no_fault → Right file (heads_at file)
+unfolding fault_of
+right file none =
+    let h = heads_at file in
+    let all : AllHold (conditions file h) = each_holds (conditions file h) none in
+    let r5 = last_asks file h ++ gap_asks file h in
+    let r4 = mode_asks file h ++ r5 in
+    let r3 = table_asks file h ++ r4 in
+    let r2 = segments file h ++ r3 in
+    let r1 = contents file h ++ r2 in
+    let o = holds_front (opening file h) r1 all in
+    let after_o = holds_back (opening file h) r1 all in
+    let c = holds_front (contents file h) r2 after_o in
+    let after_c = holds_back (contents file h) r2 after_o in
+    let s = holds_front (segments file h) r3 after_c in
+    let after_s = holds_back (segments file h) r3 after_c in
+    let t = holds_front (table_asks file h) r4 after_s in
+    let after_t = holds_back (table_asks file h) r4 after_s in
+    let m = holds_front (mode_asks file h) r5 after_t in
+    let after_m = holds_back (mode_asks file h) r5 after_t in
+    let l = holds_front (last_asks file h) (gap_asks file h) after_m in
+    let g = holds_back (last_asks file h) (gap_asks file h) after_m in
+    let long = leb-true 64 (length file) o.1.0 in
+    let ident : length h.header.ident ≡ 16 = omega (arith, length-take 16 (drop 0 file), length-drop 0 file, long) in
+    let last = right_last file h t m l s in
+    record {
+      heads = right_heads file h ident o s;
+      sizes = right_sizes file h c s;
+      tables = last.tables;
+      gaps = right_gaps file h s g;
+      entries = last.entries;
+    }

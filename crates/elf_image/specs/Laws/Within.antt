@@ -1,0 +1,217 @@
+-- What is within a file whose headers have been judged so far, and the first condition that fails by its number.
+use Rattle.std.proofs.Common.{◌≡◌, ℕ, zero, suc, ◌+◌, ◌*◌, ◌/◌, ◌%◌, ◌≤◌, ◌⊎◌, List, [], ◌∷◌, ◌++◌, length, take, get_or, refl, sym, ap, ◌∙◌, inl, inr, arith, Option, Some, None}
+use Rattle.std.specs.Prelude.{Bool, true, false, ◌&&◌, ◌||◌, ◌==◌, nat_le, if◌then◌else◌}
+use Rattle.std.proofs.lemmas.Bool.{leb-true, eqb-true, cases_Bool, false≢true}
+use Rattle.mt_base.specs.Granules.{round16}
+use Rattle.mt_base.specs.Laws.Granules.{round16-covers}
+use Rattle.elf_base.specs.declared.segment.Phdr.{Phdr}
+use Rattle.elf_image.specs.declared.heads.Heads.{Heads}
+use Rattle.elf_image.specs.declared.refusal.ImageRefusal.{ImageRefusal}
+use Rattle.elf_image.specs.declared.refusal.ImageRefusal.TheVariants.{NotElf}
+use Rattle.elf_image.specs.Heads.{heads_at, entry_at, reloc_bytes_at, descriptor_bytes_at}
+use Rattle.elf_image.specs.Places.{round_page}
+use Rattle.elf_image.specs.Pieces.{load, dynamic_at, entry}
+use Rattle.elf_image.specs.Faults.{Condition, condition, first_fault, same_segment, same_entry, zeros_between, is_reloc_size, contents, segments, table_asks, mode_asks, last_asks, fault_of}
+use Rattle.elf_image.specs.Laws.Tests.{both, segment_is}
+use Rattle.elf_image.specs.Laws.Holding.{no_fault, AllHold, each_holds}
+use Rattle.elf_image.specs.Laws.Right.{Right, RightEntries, described, plain, right, right_sizes, RightLast, right_last, rodata_at, that, other}
+
+-- the bytes that the program headers name
+pub record Reaching (file : List ℕ) (h : Heads) : Type 0 where
+  pub read_only : h.read_only.offset + h.read_only.filesz ≤ length file
+  pub code : h.code.offset + h.code.filesz ≤ length file
+  pub writable : h.writable.offset + h.writable.filesz ≤ length file
+  pub dynamic : h.dynamic.offset + h.dynamic.filesz ≤ length file
+
+pub reaching : (file : List ℕ) (h : Heads) → first_fault (contents file h) ≡ no_fault → Reaching file h
+reaching file h none =
+    let c = each_holds (contents file h) none in
+    record {
+      read_only = leb-true (h.read_only.offset + h.read_only.filesz) (length file) c.0;
+      code = leb-true (h.code.offset + h.code.filesz) (length file) c.1.0;
+      writable = leb-true (h.writable.offset + h.writable.filesz) (length file) c.1.1.0;
+      dynamic = leb-true (h.dynamic.offset + h.dynamic.filesz) (length file) c.1.1.1.0;
+    }
+
+-- where the segments lie, all below the limit, and how many dynamic entries there are
+pub record Lying (file : List ℕ) (h : Heads) : Type 0 where
+  pub first : h.read_only.offset ≡ 0
+  pub tables : 0x140 ≤ h.read_only.filesz
+  pub code : h.read_only.filesz ≤ h.code.offset
+  pub writable : h.code.offset + h.code.filesz ≤ h.writable.offset
+  pub dynamic : h.dynamic.offset ≡ h.writable.offset
+  pub limit : h.writable.offset ≤ 268435456
+  pub count : (h.dynamic.filesz ≡ 176) ⊎ (h.dynamic.filesz ≡ 208)
+  pub entries : h.dynamic.filesz ≤ h.writable.filesz
+  pub end : length file ≡ h.writable.offset + h.writable.filesz
+
+one_of : (a b : Bool) → (a || b) ≡ true → (a ≡ true) ⊎ (b ≡ true)
+one_of true b h = inl refl
+one_of false b h = inr h
+
+size_of : (n : ℕ) → (n == 176 || n == 208) ≡ true → (n ≡ 176) ⊎ (n ≡ 208)
+size_of n h = elim (one_of (n == 176) (n == 208) h) [
+  | inl small ↦ inl (eqb-true n 176 small)
+  | inr large ↦ inr (eqb-true n 208 large)
+]
+
+pub lying : (file : List ℕ) (h : Heads) → first_fault (contents file h) ≡ no_fault → first_fault (segments file h) ≡ no_fault → Lying file h
+lying file h none no_other =
+    let c = each_holds (contents file h) none in
+    let s = each_holds (segments file h) no_other in
+    let sizes = right_sizes file h c s in
+    let read_only = both _ (zeros_between 0x120 0x140 file) s.1.0 in
+    let read_only_is = both (same_segment h.read_only (load 4 0 h.read_only.filesz h.read_only.filesz)) _ read_only.0 in
+    let first : h.read_only.offset ≡ 0 =
+    ap (λ (q : Phdr). q.offset) (segment_is h.read_only (load 4 0 h.read_only.filesz h.read_only.filesz) read_only_is.0) in
+    let code = both _ (zeros_between h.read_only.filesz h.code.offset file) s.1.1.0 in
+    let words = both _ (h.code.filesz % 4 == 0) code.0 in
+    let code_is = both _ (round_page h.read_only.filesz == h.code.offset) words.0 in
+    let code_at : round_page h.read_only.filesz ≡ h.code.offset = eqb-true (round_page h.read_only.filesz) h.code.offset code_is.1 in
+    let w1 = both _ (zeros_between (h.code.offset + h.code.filesz) h.writable.offset file) s.1.1.1.0 in
+    let w2 = both _ (nat_le (h.writable.offset + h.writable.memsz) 268435456) w1.0 in
+    let w3 = both _ (h.writable.memsz % 16 == 0) w2.0 in
+    let w4 = both _ (nat_le h.writable.filesz h.writable.memsz) w3.0 in
+    let w5 = both _ (h.writable.filesz % 16 == 0) w4.0 in
+    let w6 = both _ (nat_le 176 h.writable.filesz) w5.0 in
+    let w7 = both _ (round_page (h.code.offset + h.code.filesz) == h.writable.offset) w6.0 in
+    let writable_at : round_page (h.code.offset + h.code.filesz) ≡ h.writable.offset =
+    eqb-true (round_page (h.code.offset + h.code.filesz)) h.writable.offset w7.1 in
+    let d1 = both _ (nat_le h.dynamic.filesz h.writable.filesz) s.1.1.1.1.0 in
+    let d2 = both (same_segment h.dynamic (dynamic_at h.writable.offset h.dynamic.filesz)) (h.dynamic.filesz == 176 || h.dynamic.filesz == 208) d1.0 in
+    record {
+      first = first;
+      tables = sizes.tables;
+      code = omega arith;
+      writable = omega arith;
+      dynamic = ap (λ (q : Phdr). q.offset) (segment_is h.dynamic (dynamic_at h.writable.offset h.dynamic.filesz) d2.0);
+      limit = omega (arith, sizes.limit);
+      count = size_of h.dynamic.filesz d2.1;
+      entries = sizes.entries;
+      end = sizes.end;
+    }
+
+-- where the parts lie that are read
+pub record Room (file : List ℕ) (h : Heads) : Type 0 where
+  pub dynamic : h.dynamic.offset ≡ h.writable.offset
+  pub dynamic_within : h.dynamic.offset + h.dynamic.filesz ≤ length file
+  pub count : (h.dynamic.filesz ≡ 176) ⊎ (h.dynamic.filesz ≡ 208)
+  pub relocs : 0x140 + 24 * (reloc_bytes_at file h / 24) ≤ length file
+  pub descriptors : 0x140 + reloc_bytes_at file h + descriptor_bytes_at file h ≤ rodata_at file h
+  pub rodata : rodata_at file h ≤ h.read_only.filesz
+  pub read_only : h.read_only.filesz ≤ length file
+  pub small : h.read_only.filesz ≤ 268435456
+  pub words : h.code.offset + 4 * (h.code.filesz / 4) ≤ length file
+  pub entries : h.dynamic.filesz ≤ h.writable.filesz
+  pub writable : h.writable.offset + h.writable.filesz ≡ length file
+  pub zeros : h.writable.filesz ≤ h.writable.memsz
+
+counted : (file : List ℕ) (h : Heads) → RightEntries file h → (h.dynamic.filesz ≡ 176) ⊎ (h.dynamic.filesz ≡ 208)
+counted file h (described size some are) = inr size
+counted file h (plain size none are) = inl size
+
+page_from : (x : ℕ) → x ≤ round_page x
+page_from x = omega arith
+
+pub room : (file : List ℕ) → fault_of file ≡ no_fault → Room file (heads_at file)
+room file none = of (heads_at file) (right file none)
+  where
+    of : (h : Heads) → Right file h → Room file h
+    of h r =
+        let first : h.read_only.offset ≡ 0 = ap (λ (q : Phdr). q.offset) r.heads.read_only in
+        let dynamic : h.dynamic.offset ≡ h.writable.offset = ap (λ (q : Phdr). q.offset) r.heads.dynamic in
+        let code_at : h.code.offset ≡ round_page h.read_only.filesz = ap (λ (q : Phdr). q.offset) r.heads.code in
+        let writable_at : h.writable.offset ≡ round_page (h.code.offset + h.code.filesz) = ap (λ (q : Phdr). q.offset) r.heads.writable in
+        let s = r.sizes in
+        let t = r.tables in
+        let covers = round16-covers (0x140 + reloc_bytes_at file h + descriptor_bytes_at file h) in
+        record {
+          dynamic = dynamic;
+          dynamic_within = omega (arith, dynamic, s.entries, s.end);
+          count = counted file h r.entries;
+          relocs = omega (arith, t.relocs, t.relocs_within, s.read_only_within, first);
+          descriptors = covers;
+          rodata = t.rodata_within;
+          read_only = omega (arith, s.read_only_within, first);
+          small = omega (arith, s.limit, code_at, writable_at, page_from h.read_only.filesz, page_from (h.code.offset + h.code.filesz));
+          words = omega (arith, s.words, s.code_within);
+          entries = s.entries;
+          writable = sym s.end;
+          zeros = s.more;
+        }
+
+-- ---- the first condition that fails, by its number
+
+abbrev pub no_condition : Condition
+no_condition = condition true NotElf
+
+abbrev pub fault_is : ImageRefusal → Option ImageRefusal
+fault_is e = Some e
+
+fails_first : (c : Condition) (cs : List Condition) → c.holds ≡ false → first_fault (c ∷ cs) ≡ fault_is c.refusal
+fails_first c cs h = first c.holds c.refusal cs h
+  where
+    first : (holds : Bool) (refusal : ImageRefusal) (cs : List Condition) → holds ≡ false
+        → first_fault (record { holds = holds; refusal = refusal } ∷ cs) ≡ fault_is refusal
+    first false refusal cs h = refl
+    first true refusal cs h = absurd (false≢true (sym h))
+
+goes_on : (c : Condition) (cs : List Condition) → c.holds ≡ true → first_fault (c ∷ cs) ≡ first_fault cs
+goes_on c cs h = on c.holds c.refusal cs h
+  where
+    on : (holds : Bool) (refusal : ImageRefusal) (cs : List Condition) → holds ≡ true
+        → first_fault (record { holds = holds; refusal = refusal } ∷ cs) ≡ first_fault cs
+    on true refusal cs h = refl
+    on false refusal cs h = absurd (false≢true h)
+
+-- those before the condition of that number hold, and it does not
+pub fails_at : (k : ℕ) (cs : List Condition) → AllHold (take k cs) → (get_or cs k no_condition).holds ≡ false
+    → first_fault cs ≡ fault_is (get_or cs k no_condition).refusal
+fails_at k [] before fails = absurd (false≢true (sym (none k fails)))
+  where
+    none : (k : ℕ) → (get_or [] k no_condition).holds ≡ false → true ≡ false
+    none zero h = h
+    none (suc k) h = h
+fails_at zero (c ∷ cs) before fails = fails_first c cs fails
+fails_at (suc k) (c ∷ cs) before fails = goes_on c cs before.0 ∙ fails_at k cs before.1 fails
+
+-- conditions one after the other
+pub first_passes : (cs ds : List Condition) → first_fault cs ≡ no_fault → first_fault (cs ++ ds) ≡ first_fault ds
+first_passes cs ds none = pass cs ds (each_holds cs none)
+  where
+    pass : (cs ds : List Condition) → AllHold cs → first_fault (cs ++ ds) ≡ first_fault ds
+    pass [] ds h = refl
+    pass (c ∷ cs) ds h = goes_on c (cs ++ ds) h.0 ∙ pass cs ds h.1
+
+pub first_stops : (cs ds : List Condition) (e : ImageRefusal) → first_fault cs ≡ fault_is e → first_fault (cs ++ ds) ≡ fault_is e
+first_stops [] ds e h = let none : no_fault ≡ fault_is e = h in absurd cc
+first_stops (c ∷ cs) ds e h = stops c.holds c.refusal cs ds e (first_stops cs ds e) h
+  where
+    stops : (holds : Bool) (refusal : ImageRefusal) (cs ds : List Condition) (e : ImageRefusal)
+        → (first_fault cs ≡ fault_is e → first_fault (cs ++ ds) ≡ fault_is e)
+        → first_fault (record { holds = holds; refusal = refusal } ∷ cs) ≡ fault_is e
+        → first_fault (record { holds = holds; refusal = refusal } ∷ (cs ++ ds)) ≡ fault_is e
+    stops true refusal cs ds e later h = later h
+    stops false refusal cs ds e later h = h
+
+-- ---- what the entries that were judged say
+
+pub relocs_fit : (file : List ℕ) (h : Heads) → first_fault (table_asks file h) ≡ no_fault → 0x140 + reloc_bytes_at file h ≤ h.read_only.filesz
+relocs_fit file h none =
+    let t = each_holds (table_asks file h) none in
+    let size = both (same_entry (entry_at file h 5) (entry 8 (reloc_bytes_at file h))) (is_reloc_size h (reloc_bytes_at file h)) t.1.1.1.1.1.0 in
+    let fits = both (reloc_bytes_at file h % 24 == 0) _ size.1 in
+    let covers = round16-covers (0x140 + reloc_bytes_at file h) in
+    elim (cases_Bool (h.dynamic.filesz == 208)) [
+      | inl with ↦ leb-true (0x140 + reloc_bytes_at file h) h.read_only.filesz (that (h.dynamic.filesz == 208) _ _ with fits.1)
+      | inr without ↦
+          let within = leb-true (round16 (0x140 + reloc_bytes_at file h)) h.read_only.filesz (other (h.dynamic.filesz == 208) _ _ without fits.1) in
+          omega (arith, covers, within)
+    ]
+
+pub rodata_fits : (file : List ℕ) (h : Heads) → first_fault (segments file h) ≡ no_fault → first_fault (table_asks file h) ≡ no_fault
+    → first_fault (mode_asks file h) ≡ no_fault → first_fault (last_asks file h) ≡ no_fault → rodata_at file h ≤ h.read_only.filesz
+rodata_fits file h s t m l =
+    let last = right_last file h (each_holds (table_asks file h) t) (each_holds (mode_asks file h) m) (each_holds (last_asks file h) l)
+    (each_holds (segments file h) s) in
+    last.tables.rodata_within

@@ -1,0 +1,164 @@
+-- What is wrong with bytes that are the file of no object: the first condition that fails, and its place.
+use Rattle.std.specs.Prelude.{◌≡◌, ℕ, ◌+◌, ◌-◌, ◌*◌, Bool, true, false, ◌&&◌, ◌==◌, nat_le, nat_lt, List, [], ◌∷◌, ◌++◌, length, take, drop, Some}
+use Rattle.std.specs.List.{list_all}
+use Rattle.std.specs.Str.{bytes_eq}
+use Rattle.mt_base.specs.Granules.{round16}
+use Rattle.elf_base.specs.Place.{number_at}
+use Rattle.elf_base.specs.Records.{ehdr_fields, shdr_fields, sym_fields, rela_fields}
+use Rattle.elf_obj.specs.declared.parts.Symbol.{Symbol}
+use Rattle.elf_obj.specs.declared.parts.Reloc.{Reloc}
+use Rattle.elf_obj.specs.declared.refusal.ObjectRefusal.{ObjectRefusal}
+use Rattle.elf_obj.specs.declared.refusal.ObjectRefusal.TheVariants.{NotElf, NotThisMachine, Truncated, BadSection, BadSymbol, BadRelocation}
+use Rattle.elf_obj.specs.declared.section.Section.{Section}
+use Rattle.elf_obj.specs.declared.sizes.Sizes.{Sizes}
+use Rattle.elf_obj.specs.Object.{Object}
+use Rattle.elf_obj.specs.Sections.{sections, names_end, sizes_of, header_of}
+use Rattle.elf_obj.specs.Records.{identification, header, symbol_record, reloc_record, tag_record}
+use Rattle.elf_obj.specs.Contents.{section_names}
+use Rattle.elf_obj.specs.Rules.{symbol_keeps, reloc_rule, tag_keeps}
+use Rattle.elf_obj.specs.Claimed.{headers_at, offset_of, size_of, content_of, claimed}
+use Rattle.elf_obj.specs.Conditions.{Condition, condition, first_fault, stands}
+
+-- ---- the start
+
+-- the content of a section does not pass the end
+unfoldable pub is_held : List ℕ → ℕ → Bool
+is_held file k = nat_le (offset_of file k + size_of file k) (length file)
+
+-- the section headers and the contents that have bytes do not
+unfoldable pub all_held : List ℕ → Bool
+all_held file =
+    nat_le (headers_at file + 768) (length file) && is_held file 1 && is_held file 2 && is_held file 3 && is_held file 5
+    && is_held file 6 && is_held file 7 && is_held file 8 && is_held file 9 && is_held file 11
+
+abbrev pub start_conditions : List ℕ → List Condition
+start_conditions file =
+    condition (bytes_eq (take 16 file) (take (length file) identification)) NotElf
+    ∷ condition (nat_le 64 (length file)) (Truncated (length file))
+    ∷ condition ((number_at 2 16 file == 1) && (number_at 2 18 file == 183)) NotThisMachine
+    ∷ condition (all_held file) (Truncated (length file))
+    ∷ []
+
+-- ---- the sections
+
+abbrev pub are_zero : List ℕ → Bool
+are_zero bytes = list_all (λ b. b == 0) bytes
+
+-- the bytes from a place up to another are zero, as far as there are any
+unfoldable pub is_zero_between : List ℕ → ℕ → ℕ → Bool
+is_zero_between file from to = are_zero (take (to - from) (drop from file))
+
+-- the file's header, in which the section headers stand behind the last section, and the empty section header
+unfoldable pub is_headed : List ℕ → Bool
+is_headed file =
+    stands (ehdr_fields (header (round16 (offset_of file 11 + size_of file 11)))) 0 file
+    && is_zero_between file (headers_at file) (headers_at file + 64)
+
+-- .strtab begins with a zero byte, and has no bytes behind the last name
+unfoldable pub is_strings : List ℕ → Bool
+is_strings file =
+    nat_le 1 (size_of file 6) && is_zero_between file (offset_of file 6) (offset_of file 6 + 1)
+    && nat_le (size_of file 6) (names_end 1 (claimed file).symbols)
+
+-- .shstrtab is always the same
+unfoldable pub is_names : List ℕ → Bool
+is_names file = bytes_eq (content_of file 7) section_names
+
+-- what is fixed in the content of each section
+abbrev pub fixed_parts : List ℕ → List Bool
+fixed_parts file =
+    true ∷ true ∷ true ∷ true ∷ true ∷ is_strings file ∷ is_names file ∷ true ∷ true ∷ true ∷ true ∷ []
+
+-- how much each part is that is claimed; .strtab is as long as its header says
+abbrev pub sizes_in : List ℕ → Sizes
+sizes_in file = record (sizes_of (claimed file)) { strings = size_of file 6 }
+
+-- the header of a section, and the zeros before the section, which follows what ends at a place
+unfoldable pub is_section : List ℕ → ℕ → ℕ → Section → Bool
+is_section file at k s =
+    nat_lt s.info 4294967296 && stands (shdr_fields (header_of s (round16 at))) (headers_at file + 64 * k) file
+    && is_zero_between file at (round16 at)
+
+-- sections of these numbers, the first of which follows what ends at a place
+abbrev pub section_conditions : List ℕ → ℕ → ℕ → List Section → List Bool → List Condition
+section_conditions file at k [] fixed = []
+section_conditions file at k (s ∷ ss) [] = []
+section_conditions file at k (s ∷ ss) (f ∷ fs) =
+    condition (is_section file at k s && f) (BadSection k) ∷ section_conditions file (round16 at + s.bytes) (k + 1) ss fs
+
+-- the sections 1 to 11
+unfoldable pub contents_conditions : List ℕ → Sizes → List Condition
+contents_conditions file z = section_conditions file 64 1 (sections z) (fixed_parts file)
+
+-- zeros stand before the section headers, with which the file ends
+unfoldable pub is_ended : List ℕ → Bool
+is_ended file =
+    is_zero_between file (offset_of file 11 + size_of file 11) (headers_at file) && (length file == headers_at file + 768)
+
+-- ---- the symbols
+
+-- the record of a symbol and its name stand where they should, and it keeps the rules
+unfoldable pub is_symbol : List ℕ → Sizes → ℕ → ℕ → List Symbol → Symbol → Bool
+is_symbol file z at place earlier s =
+    nat_lt place 4294967296 && stands (sym_fields (symbol_record place s)) at file && nat_le (place + length s.name + 1) (size_of file 6)
+    && symbol_keeps z earlier s
+
+abbrev pub symbol_conditions : List ℕ → Sizes → ℕ → ℕ → ℕ → List Symbol → List Symbol → List Condition
+symbol_conditions file z at place k earlier [] = []
+symbol_conditions file z at place k earlier (s ∷ ss) =
+    condition (is_symbol file z at place earlier s) (BadSymbol k)
+    ∷ symbol_conditions file z (at + 24) (place + length s.name + 1) (k + 1) (earlier ++ s ∷ []) ss
+
+-- ---- the relocations
+
+unfoldable pub is_reloc : List ℕ → ℕ → Reloc → Bool
+is_reloc file at r = stands (rela_fields (reloc_record r)) at file
+
+abbrev pub reloc_conditions : List ℕ → (ℕ → Reloc → Bool) → ℕ → ℕ → ℕ → List Reloc → List Condition
+reloc_conditions file rule at least k [] = []
+reloc_conditions file rule at least k (r ∷ rs) =
+    condition (is_reloc file at r && rule least r) (BadRelocation k) ∷ reloc_conditions file rule (at + 24) (r.offset + 1) (k + 1) rs
+
+unfoldable pub is_tag : List ℕ → ℕ → ℕ → Bool
+is_tag file at t = stands (rela_fields (tag_record t)) at file
+
+abbrev pub tag_conditions : List ℕ → List Symbol → ℕ → List ℕ → ℕ → ℕ → List ℕ → List Condition
+tag_conditions file symbols at earlier least k [] = []
+tag_conditions file symbols at earlier least k (t ∷ ts) =
+    condition (is_tag file at t && tag_keeps symbols earlier least t) (BadRelocation k)
+    ∷ tag_conditions file symbols (at + 24) (earlier ++ t ∷ []) (t + 1) (k + 1) ts
+
+-- ---- all of them, in their order
+
+-- the empty symbol, and the others
+abbrev pub table_conditions : List ℕ → Object → List Condition
+table_conditions file p =
+    condition (is_zero_between file (offset_of file 5) (offset_of file 5 + 24)) (BadSymbol 0)
+    ∷ symbol_conditions file (sizes_of p) (offset_of file 5 + 24) 1 1 [] p.symbols
+
+-- the relocations of the instructions, of the filled data, and those that name tagged symbols
+abbrev pub code_conditions : List ℕ → Object → List Condition
+code_conditions file p = reloc_conditions file (reloc_rule true (sizes_of p).text (length p.symbols)) (offset_of file 8) 0 0 p.text_relocs
+
+abbrev pub data_conditions : List ℕ → Object → List Condition
+data_conditions file p =
+    reloc_conditions file (reloc_rule false (sizes_of p).init (length p.symbols)) (offset_of file 9) 0 (length p.text_relocs) p.init_relocs
+
+abbrev pub tagged_conditions : List ℕ → Object → List Condition
+tagged_conditions file p = tag_conditions file p.symbols (offset_of file 11) [] 0 (length p.text_relocs + length p.init_relocs) p.tagged
+
+abbrev pub object_conditions : List ℕ → Object → List Condition
+object_conditions file p = table_conditions file p ++ code_conditions file p ++ data_conditions file p ++ tagged_conditions file p
+
+abbrev pub all_section_conditions : List ℕ → List Condition
+all_section_conditions file =
+    condition (is_headed file) (BadSection 0)
+    ∷ contents_conditions file (sizes_in file)
+    ++ condition (is_ended file) (BadSection 12) ∷ []
+
+unfoldable pub conditions : List ℕ → List Condition
+conditions file = start_conditions file ++ all_section_conditions file ++ object_conditions file (claimed file)
+
+-- the bytes are the file of no object, and this is the first condition that fails
+abbrev pub ObjectFault : List ℕ → ObjectRefusal → Type 0
+ObjectFault file fault = first_fault (conditions file) ≡ Some fault

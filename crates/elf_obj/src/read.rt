@@ -1,0 +1,138 @@
+ghost use Rattle.std.specs.Prelude.{◌≡◌, ◌⊎◌, ◌≤◌, ◌++◌, None, length, IfOk, IfErr};
+ghost use Rattle.elf_obj.specs.Object.{object_of};
+ghost use Rattle.elf_obj.specs.Sections.{sizes_of};
+ghost use Rattle.elf_obj.specs.ObjectFile.{IsFileOf};
+ghost use Rattle.elf_obj.specs.Claimed.{claimed};
+ghost use Rattle.elf_obj.specs.Conditions.{first_fault, Tells};
+ghost use Rattle.elf_obj.specs.ObjectFault.{all_section_conditions, table_conditions, code_conditions, data_conditions, tagged_conditions, object_conditions, conditions, ObjectFault};
+ghost use Rattle.elf_obj.specs.Laws.Held.{AreHeld};
+
+use crate::claim::claimed;
+use crate::file::{is_zero_between, offset_of};
+use crate::parts::ObjectParts;
+use crate::refusal::ObjectRefusal;
+use crate::relocs::{judge_relocs, judge_tags};
+use crate::sections::judge_sections;
+use crate::sizes::{Sizes, sizes_of};
+use crate::start::judge_start;
+use crate::symbols::judge_symbols;
+use std::alloc::Global;
+
+/// The parts of which the bytes are the file, or the first condition that fails. docs/FILES.md has the conditions.
+pub fn read_object(alloc: Global, file: &[u8]) -> Result<ObjectParts, ObjectRefusal>
+    // The bytes are the file of what is read.
+    ensures is_file { IfOk result (λ p. IsFileOf (object_of p) file.now) }
+
+    // What is read is what the bytes claim, and no condition fails.
+    ensures found { IfOk result (λ p. object_of p ≡ claimed file.now) }
+    ensures holds { IfOk result (λ p. first_fault (conditions file.now) ≡ None) }
+
+    // What is refused has that first fault, unless memory ran out.
+    ensures refused { IfErr result (λ e. (e ≡ ObjectRefusal.NoMemory) ⊎ ObjectFault file.now e) }
+{
+    judge_start(file)?;
+    let parts = claimed(alloc, file)?;
+    judge(file, &parts)?;
+    Ok(parts)
+}
+
+// The first condition that fails behind those of the start.
+fn judge(file: &[u8], parts: &ObjectParts) -> Result<(), ObjectRefusal>
+    requires start { 64 ≤ length file.now }
+    requires held { AreHeld file.now }
+    requires parts { object_of parts.now ≡ claimed file.now }
+    ensures { Tells result (all_section_conditions file.now ++ object_conditions file.now (claimed file.now)) }
+{
+    let sizes = sizes_of(parts);
+    judge_sections(file, &sizes)?;
+    judge_records(file, &sizes, parts)?;
+    Ok(())
+}
+
+// The first symbol that is not as it should be.
+fn judge_table(file: &[u8], sizes: &Sizes, parts: &ObjectParts) -> Result<(), ObjectRefusal>
+    requires start { 64 ≤ length file.now }
+    requires held { AreHeld file.now }
+    requires parts { object_of parts.now ≡ claimed file.now }
+    requires sizes { sizes.now ≡ sizes_of (claimed file.now) }
+    ensures { Tells result (table_conditions file.now (claimed file.now)) }
+{
+    let place = offset_of(file, 5);
+    if !is_zero_between(file, place, place + 24) {
+        return Err(ObjectRefusal::BadSymbol { index: 0 });
+    }
+    judge_symbols(file, sizes, place + 24, &parts.symbols)
+}
+
+// The first relocation of the instructions that is not as it should be.
+fn judge_code(file: &[u8], sizes: &Sizes, parts: &ObjectParts) -> Result<(), ObjectRefusal>
+    requires start { 64 ≤ length file.now }
+    requires held { AreHeld file.now }
+    requires parts { object_of parts.now ≡ claimed file.now }
+    requires sizes { sizes.now ≡ sizes_of (claimed file.now) }
+    ensures { Tells result (code_conditions file.now (claimed file.now)) }
+{
+    let count = parts.symbols.len() as u64;
+    judge_relocs(
+        file,
+        true,
+        sizes.text,
+        count,
+        offset_of(file, 8),
+        0,
+        &parts.text_relocs,
+    )
+}
+
+// The first relocation of the filled data that is not as it should be.
+fn judge_data(file: &[u8], sizes: &Sizes, parts: &ObjectParts) -> Result<(), ObjectRefusal>
+    requires start { 64 ≤ length file.now }
+    requires held { AreHeld file.now }
+    requires parts { object_of parts.now ≡ claimed file.now }
+    requires sizes { sizes.now ≡ sizes_of (claimed file.now) }
+    ensures { Tells result (data_conditions file.now (claimed file.now)) }
+{
+    let count = parts.symbols.len() as u64;
+    let first = parts.text_relocs.len() as u64;
+    judge_relocs(
+        file,
+        false,
+        sizes.init,
+        count,
+        offset_of(file, 9),
+        first,
+        &parts.init_relocs,
+    )
+}
+
+// The first tagged symbol that is not as it should be.
+fn judge_tagged(file: &[u8], parts: &ObjectParts) -> Result<(), ObjectRefusal>
+    requires start { 64 ≤ length file.now }
+    requires held { AreHeld file.now }
+    requires parts { object_of parts.now ≡ claimed file.now }
+    ensures { Tells result (tagged_conditions file.now (claimed file.now)) }
+{
+    let first = parts.text_relocs.len() as u64 + parts.init_relocs.len() as u64;
+    judge_tags(
+        file,
+        &parts.symbols,
+        offset_of(file, 11),
+        first,
+        &parts.tagged,
+    )
+}
+
+// The first symbol or relocation that is not as it should be.
+fn judge_records(file: &[u8], sizes: &Sizes, parts: &ObjectParts) -> Result<(), ObjectRefusal>
+    requires start { 64 ≤ length file.now }
+    requires held { AreHeld file.now }
+    requires parts { object_of parts.now ≡ claimed file.now }
+    requires sizes { sizes.now ≡ sizes_of (claimed file.now) }
+    ensures { Tells result (object_conditions file.now (claimed file.now)) }
+{
+    judge_table(file, sizes, parts)?;
+    judge_code(file, sizes, parts)?;
+    judge_data(file, sizes, parts)?;
+    judge_tagged(file, parts)?;
+    Ok(())
+}
