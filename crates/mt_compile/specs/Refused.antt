@@ -6,7 +6,8 @@ use Rattle.c_lex.specs.declared.fault.Fault.{Fault}
 use Rattle.c_lex.specs.declared.fault.LexRefusal.TheVariants as lex
 use Rattle.c_lex.specs.Refusal.{number_of as lex_number_of, refusal_of, text_limit}
 use Rattle.c_lex.specs.Tokens.{FirstFault}
-use Rattle.c_parse.specs.declared.refusal.ParseRefusal.TheVariants.{Unexpected, TooDeep, NoMemory as NoMemoryToParse}
+use Rattle.c_parse.specs.declared.refusal.ParseRefusal.TheVariants.{Unexpected, TooDeep}
+use Rattle.c_parse.specs.Refusal.{number_of as parse_number_of}
 use Rattle.c_parse.specs.Parsed.{FirstUnexpected, FirstTooDeep, SpellsWithin, limit}
 use Rattle.mt_compile.specs.Constant.{IsConstantProgram}
 use Rattle.mt_compile.specs.Source.{HasTokens}
@@ -17,9 +18,7 @@ use Rattle.mt_compile.specs.declared.refusal.CompileRefusal.TheVariants.{Lex, Pa
 -- the number of each refusal; want of memory, which says nothing of the source, has 0, which is no refusal's number
 abbrev pub number_of : CompileRefusal → ℕ
 number_of (Lex refusal) = lex_number_of refusal
-number_of (Parse (Unexpected place)) = 7
-number_of (Parse (TooDeep place)) = 8
-number_of (Parse NoMemoryToParse) = 0
+number_of (Parse refusal) = parse_number_of refusal
 number_of NotYet = 44
 number_of NoMemory = 0
 
@@ -50,5 +49,5 @@ abbrev pub IsRefused : List ℕ → ℕ → ℕ → Type 0
 IsRefused text number byte = (refusal : CompileRefusal) × (number_of refusal ≡ number) × Refuses text refusal byte
 
 -- memory is wanting, or the text is refused so
-abbrev pub IsCause : List ℕ → Refused → Type 0
+abbrev pub IsCause : List ℕ → Refused CompileRefusal → Type 0
 IsCause text refused = (refused.refusal ≡ NoMemory) ⊎ Refuses text refused.refusal refused.place

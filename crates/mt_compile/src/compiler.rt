@@ -14,7 +14,7 @@ use c_parse::parse;
 use std::alloc::Global;
 
 /// The words of a source's code, or its refusal with the byte that is told of it.
-pub fn compile(alloc: Global, text: &SourceText) -> Result<Vec<u32>, Refused>
+pub fn compile(alloc: Global, text: &SourceText) -> Result<Vec<u32>, Refused<CompileRefusal>>
     ensures code { IfOk result (λ words. Compiled text.now.bytes.items words.items) }
     ensures refused { IfErr result (IsCause text.now.bytes.items) }
 {
@@ -25,17 +25,17 @@ pub fn compile(alloc: Global, text: &SourceText) -> Result<Vec<u32>, Refused>
 }
 
 // The constant that the program of a text returns.
-fn constant_in(alloc: Global, text: &[u8]) -> Result<u32, Refused>
+fn constant_in(alloc: Global, text: &[u8]) -> Result<u32, Refused<CompileRefusal>>
     ensures constant { IfOk result (ReturnsOnly text.now) }
     ensures refused { IfErr result (IsCause text.now) }
 {
     let tokens = match lex(alloc, text) {
         Ok(tokens) => tokens,
-        Err(refusal) => return Err(Refused::of_text(refusal)),
+        Err(refusal) => return Err(CompileRefusal::of_text(refusal)),
     };
     let program = match parse(alloc, &tokens) {
         Ok(program) => program,
-        Err(refusal) => return Err(Refused::of_tokens(text, &tokens, refusal)),
+        Err(refusal) => return Err(CompileRefusal::of_tokens(text, &tokens, refusal)),
     };
     match constant_of(&program) {
         Some(n) => Ok(n),

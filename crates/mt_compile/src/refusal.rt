@@ -2,6 +2,7 @@
 
 use c_lex::LexRefusal;
 use c_parse::ParseRefusal;
+use std::alloc::AllocError;
 use thiserror::Error;
 
 /// Why a source is refused. A refusal inside is never the want of memory.
@@ -31,11 +32,20 @@ impl CompileRefusal {
     {
         match self {
             CompileRefusal::Lex(refusal) => refusal.number(),
-            CompileRefusal::Parse(ParseRefusal::Unexpected { .. }) => 7,
-            CompileRefusal::Parse(ParseRefusal::TooDeep { .. }) => 8,
-            CompileRefusal::Parse(ParseRefusal::NoMemory) => 0,
+            CompileRefusal::Parse(refusal) => refusal.number(),
             CompileRefusal::NotYet => 44,
             CompileRefusal::NoMemory => 0,
         }
+    }
+}
+
+impl From<AllocError> for CompileRefusal {
+    ghost use Rattle.std.specs.Prelude.{◌≡◌};
+    ghost use Rattle.mt_compile.specs.declared.refusal.CompileRefusal.TheVariants.{NoMemory};
+
+    ghost from_gives = { λ _ refusal. refusal ≡ NoMemory };
+
+    fn from(_: AllocError) -> CompileRefusal {
+        CompileRefusal::NoMemory
     }
 }

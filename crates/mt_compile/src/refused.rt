@@ -1,8 +1,8 @@
-// A refusal of a source with the byte that is told of it.
+// A refusal with its place, and that of a source with the byte that is told of it.
 ghost use Rattle.std.specs.Prelude.{◌≡◌, ◌≤◌, length, Err};
 ghost use Rattle.c_lex.specs.Refusal.{text_limit};
 ghost use Rattle.c_parse.specs.Parsed.{Parsed, limit};
-ghost use Rattle.mt_compile.specs.Causes.{byte_of, of_text, without_memory};
+ghost use Rattle.mt_compile.specs.Causes.{of_text, without_place};
 ghost use Rattle.mt_compile.specs.Refused.{IsCause, byte_at};
 ghost use Rattle.mt_compile.specs.Source.{HasTokens};
 
@@ -10,23 +10,48 @@ use crate::refusal::CompileRefusal;
 use c_ast::Token;
 use c_lex::LexRefusal;
 use c_parse::ParseRefusal;
-use std::alloc::AllocError;
+use std::alloc::{AllocError, AllocFailed};
 
-/// Why a source is refused, and the byte that is told of it: 0 where none is told.
+/// Why something is refused, and the place in it that is told: 0 where none is told.
 #[derive(Drop)]
-pub struct Refused {
-    pub refusal: CompileRefusal,
+pub struct Refused<R> {
+    pub refusal: R,
     pub place: u32,
 }
 
-impl Refused {
-    /// Of a text that is too long, or not gaps and tokens in turn.
-    pub fn of_text(refusal: LexRefusal) -> Refused
+impl<R> Refused<R> {
+    /// A refusal that names no place.
+    pub fn without_place(refusal: R) -> Refused<R>
+        ensures { result ≡ without_place refusal }
+    {
+        Refused { refusal, place: 0 }
+    }
+}
+
+impl<R: From<AllocError>> From<AllocError> for Refused<R> {
+    ghost from_gives = { λ e refused. R.From.from_gives e refused.refusal };
+
+    fn from(e: AllocError) -> Refused<R> {
+        Refused::without_place(R::from(e))
+    }
+}
+
+impl<T: Drop, R: From<AllocError>> From<AllocFailed<T>> for Refused<R> {
+    ghost from_gives = { λ _ refused. (e : _) × R.From.from_gives e refused.refusal };
+
+    fn from(e: AllocFailed<T>) -> Refused<R> {
+        Refused::from(AllocError::from(e))
+    }
+}
+
+impl CompileRefusal {
+    /// Of a text that is too long, or not gaps and tokens in turn, with its byte.
+    pub(crate) fn of_text(refusal: LexRefusal) -> Refused<CompileRefusal>
         ensures { result ≡ of_text refusal }
     {
-        let place = byte_of(&refusal);
+        let place = refusal.place();
         match refusal {
-            LexRefusal::NoMemory => Refused::without_memory(),
+            LexRefusal::NoMemory => Refused::without_place(CompileRefusal::NoMemory),
             refusal => Refused {
                 refusal: CompileRefusal::Lex(refusal),
                 place,
@@ -34,8 +59,12 @@ impl Refused {
         }
     }
 
-    /// Of tokens that spell no program that is read.
-    pub fn of_tokens(text: &[u8], tokens: &[Token<'_>], refusal: ParseRefusal) -> Refused
+    /// Of tokens that spell no program that is read, with the byte of the token that it names.
+    pub(crate) fn of_tokens(
+        text: &[u8],
+        tokens: &[Token<'_>],
+        refusal: ParseRefusal,
+    ) -> Refused<CompileRefusal>
         requires held { HasTokens text.now tokens.now }
         requires cause { Parsed limit tokens.now (Err refusal) }
         ensures { IsCause text.now result }
@@ -49,43 +78,8 @@ impl Refused {
                 refusal: CompileRefusal::Parse(ParseRefusal::TooDeep { place }),
                 place: byte_at(text, tokens, place),
             },
-            ParseRefusal::NoMemory => Refused::without_memory(),
+            ParseRefusal::NoMemory => Refused::without_place(CompileRefusal::NoMemory),
         }
-    }
-
-    /// Memory is wanting.
-    pub fn without_memory() -> Refused
-        ensures { result ≡ without_memory }
-    {
-        Refused {
-            refusal: CompileRefusal::NoMemory,
-            place: 0,
-        }
-    }
-}
-
-impl From<AllocError> for Refused {
-    ghost use Rattle.std.specs.Prelude.{◌≡◌};
-    ghost use Rattle.mt_compile.specs.declared.refusal.CompileRefusal.TheVariants.{NoMemory};
-
-    ghost from_gives = { λ _ refused. refused.refusal ≡ NoMemory };
-
-    fn from(_: AllocError) -> Refused {
-        Refused::without_memory()
-    }
-}
-
-// The byte that the refusal of a text names, and 0 where it names none.
-fn byte_of(refusal: &LexRefusal) -> u32
-    ensures { result ≡ byte_of refusal.now }
-{
-    match refusal {
-        LexRefusal::BadByte { at }
-        | LexRefusal::UnclosedText { at }
-        | LexRefusal::UnclosedComment { at }
-        | LexRefusal::NumberTooLarge { at }
-        | LexRefusal::BadDirective { at } => *at,
-        LexRefusal::TextTooLong | LexRefusal::NoMemory => 0,
     }
 }
 

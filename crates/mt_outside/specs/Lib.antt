@@ -9,4 +9,3 @@ pub mod MemSink
 pub mod HostFiles
 pub mod StdSource
 pub mod StdSink
-pub mod Laws

@@ -14,7 +14,6 @@ use Rattle.mt_pipeline.specs.declared.refusal.BuildRefusal.{BuildRefusal}
 use Rattle.mt_pipeline.specs.declared.refusal.BuildRefusal.TheVariants as build
 use Rattle.mt_pipeline.specs.declared.refusal.LinkRefusal.{LinkRefusal}
 use Rattle.mt_pipeline.specs.declared.refusal.LinkRefusal.TheVariants as linking
-use Rattle.mt_pipeline.specs.declared.unbuilt.Unbuilt.{Unbuilt}
 
 -- ---- of the build
 
@@ -39,7 +38,7 @@ not_memory text _ _ (too_deep held first) is = cc
 not_memory text _ _ (not_yet held spells none) is = cc
 
 -- the first text that is refused, behind others that have code
-pub source_cause : (texts front back objects : List (List ℕ)) (text : List ℕ) (file : ℕ) (refused : Refused) → texts ≡ front ++ text ∷ back → AreCompiled front objects →
+pub source_cause : (texts front back objects : List (List ℕ)) (text : List ℕ) (file : ℕ) (refused : Refused CompileRefusal) → texts ≡ front ++ text ∷ back → AreCompiled front objects →
     length front ≡ file → IsSourceCause text refused → IsCause texts (of_source file refused.refusal refused.place)
 source_cause texts front back objects text file refused parts compiled at (inl wanting) = wants texts file refused.place refused.refusal wanting
 source_cause texts front back objects text file refused parts compiled at (inr refuses) =
@@ -83,9 +82,6 @@ one_links text objects _ compiled (no_main none) = omega (arith, ap length none,
 one_linked : (text : List ℕ) (refusal : LinkRefusal) (place : ℕ) → RefusesTexts (text ∷ []) (build.Link refusal) place → ⊥
 one_linked text refusal _ (link objects compiled refuses) = one_links text objects refusal compiled refuses
 
-none_wanting : (text : List ℕ) (place : ℕ) → RefusesTexts (text ∷ []) build.NoMemory place → ⊥
-none_wanting text place refuses = elim refuses [ ]
-
 module _ {S K : Type 0} (file : List ℕ) (steps : ℕ) (before after : Seen S K) (bytes : List ℕ) (may : MayHold before.files file bytes) (silent : IsSilent before after) where
   go_at : (refusal : BuildRefusal) (place : ℕ) → IsCause (bytes ∷ []) (record { refusal = refusal; place = place }) → CauseOfGo file steps before after (ended_of (answer_to refusal place))
   go_at (build.Compile number refusal) place (inl wanting) = absurd (cc)
@@ -96,7 +92,7 @@ module _ {S K : Type 0} (file : List ℕ) (steps : ℕ) (before after : Seen S K
   go_at (build.Link refusal) place (inr refuses) = absurd (one_linked bytes refusal place refuses)
   go_at build.NoMemory place cause = go_no_memory silent
 
-  pub go_unbuilt : (unbuilt : Unbuilt) → IsCause (bytes ∷ []) unbuilt → CauseOfGo file steps before after (ended_of (answer_of unbuilt))
+  pub go_unbuilt : (unbuilt : Refused BuildRefusal) → IsCause (bytes ∷ []) unbuilt → CauseOfGo file steps before after (ended_of (answer_of unbuilt))
   go_unbuilt unbuilt cause = go_at unbuilt.refusal unbuilt.place cause
 
 module _ (file out : List ℕ) (before after : FilesSeen) (bytes : List ℕ) (may : MayHold before file bytes) (same : SameFiles before after) where
@@ -109,5 +105,5 @@ module _ (file out : List ℕ) (before after : FilesSeen) (bytes : List ℕ) (ma
   build_at (build.Link refusal) place (inr refuses) = absurd (one_linked bytes refusal place refuses)
   build_at build.NoMemory place cause = build_no_memory same
 
-  pub build_unbuilt : (unbuilt : Unbuilt) → IsCause (bytes ∷ []) unbuilt → CauseOfBuild file out before after (ended_of (answer_of unbuilt))
+  pub build_unbuilt : (unbuilt : Refused BuildRefusal) → IsCause (bytes ∷ []) unbuilt → CauseOfBuild file out before after (ended_of (answer_of unbuilt))
   build_unbuilt unbuilt cause = build_at unbuilt.refusal unbuilt.place cause

@@ -1,53 +1,42 @@
--- Words ask for one job at the most.
-use Rattle.std.proofs.Common.{◌≡◌, ℕ, List, ◌∷◌, false, refl, sym, ap, ◌∙◌}
+-- Words ask for one job at the most: the job of words is a function of them.
+use Rattle.std.proofs.Common.{◌≡◌, ℕ, List, [], ◌∷◌, Bool, true, false, Option, Some, None, refl, sym, ap, ◌∙◌}
+use Rattle.std.specs.Prelude.{codes}
 use Rattle.std.specs.Str.{bytes_eq}
 use Rattle.std.specs.Str.Parse.{digits_value}
-use Rattle.std.proofs.lemmas.Bool.{true≢false}
-use Rattle.std.proofs.lemmas.Slice.Eq.{bytes_eq-Decides}
-use Rattle.mt_pipeline.specs.Job.{Job, Go, Build, Run, HasJob, go, go_steps, build, run, run_steps}
-use Rattle.mt_pipeline.specs.Number.{IsSteps}
+use Rattle.mt_pipeline.specs.Job.{Job, Go, Build, Run, Dump, HasJob, go, go_steps, build, run, run_steps, dump, default_steps}
 
--- two lists that begin with other words are not one
-apart : (words : List (List ℕ)) (a b : List ℕ) (r s : List (List ℕ)) → words ≡ a ∷ r → words ≡ b ∷ s → bytes_eq a b ≡ false → ⊥
-apart words a b r s first second differ =
-    let same : a ≡ b = cc in
-    true≢false (sym ((bytes_eq-Decides a b).1 same) ∙ differ)
+-- the job of a command that runs something, by whether its name is `go`
+named : Bool → List ℕ → ℕ → Job
+named true file steps = Go file steps
+named false file steps = Run file steps
 
-same_steps : (digits digits' : List ℕ) (n n' : ℕ) → digits ≡ digits' → IsSteps digits n → IsSteps digits' n' → n ≡ n'
-same_steps digits digits' n n' same is is' = sym is.value ∙ ap (digits_value 10) same ∙ is'.value
+-- the job of a command without an option, by whether its name is `dump`, and `go`
+alone : Bool → Bool → List ℕ → Job
+alone true is_go file = Dump file
+alone false is_go file = named is_go file default_steps
+
+-- the job of a command with an option, by whether its name is `build`, and `go`
+with_option : Bool → Bool → List ℕ → List ℕ → Job
+with_option true is_go file value = Build file value
+with_option false is_go file value = named is_go file (digits_value 10 value)
+
+asked : List (List ℕ) → Option Job
+asked (a ∷ file ∷ []) = Some (alone (bytes_eq a (codes "dump")) (bytes_eq a (codes "go")) file)
+asked (a ∷ file ∷ option ∷ value ∷ []) = Some (with_option (bytes_eq a (codes "build")) (bytes_eq a (codes "go")) file value)
+asked _ = None
+
+-- what words ask for is that
+asks : (words : List (List ℕ)) (job : Job) → HasJob words job → asked words ≡ Some job
+unfolding asked alone named with_option
+asks words _ (go file e) = ap asked e
+asks words _ (go_steps file digits steps e n) = ap asked e ∙ ap (λ m. Some (Go file m)) n.value
+asks words _ (build file out e) = ap asked e
+asks words _ (run image e) = ap asked e
+asks words _ (dump file e) = ap asked e
+asks words _ (run_steps image digits steps e n) = ap asked e ∙ ap (λ m. Some (Run image m)) n.value
+
+one_job : (j k : Job) → Some j ≡ Some k → j ≡ k
+one_job j k e = cc
 
 pub same_job : (words : List (List ℕ)) (j k : Job) → HasJob words j → HasJob words k → j ≡ k
-same_job words _ _ (go file e) (go file' e') = let same : file ≡ file' = cc in ap (λ f. Go f 100000000) same
-same_job words _ _ (go file e) (go_steps file' digits' steps' e' n') = absurd (cc)
-same_job words _ _ (go file e) (build file' out' e') = absurd (cc)
-same_job words _ _ (go file e) (run image' e') = absurd (apart words _ _ _ _ e e' refl)
-same_job words _ _ (go file e) (run_steps image' digits' steps' e' n') = absurd (cc)
-same_job words _ _ (go_steps file digits steps e n) (go file' e') = absurd (cc)
-same_job words _ _ (go_steps file digits steps e n) (go_steps file' digits' steps' e' n') =
-    let same : file ≡ file' = cc in
-    let number : steps ≡ steps' = same_steps digits digits' steps steps' (cc) n n' in
-    ap (λ f. Go f steps) same ∙ ap (λ m. Go file' m) number
-same_job words _ _ (go_steps file digits steps e n) (build file' out' e') = absurd (apart words _ _ _ _ e e' refl)
-same_job words _ _ (go_steps file digits steps e n) (run image' e') = absurd (cc)
-same_job words _ _ (go_steps file digits steps e n) (run_steps image' digits' steps' e' n') = absurd (apart words _ _ _ _ e e' refl)
-same_job words _ _ (build file out e) (go file' e') = absurd (cc)
-same_job words _ _ (build file out e) (go_steps file' digits' steps' e' n') = absurd (apart words _ _ _ _ e e' refl)
-same_job words _ _ (build file out e) (build file' out' e') =
-    let same : file ≡ file' = cc in
-    let same_out : out ≡ out' = cc in
-    ap (λ f. Build f out) same ∙ ap (λ o. Build file' o) same_out
-same_job words _ _ (build file out e) (run image' e') = absurd (cc)
-same_job words _ _ (build file out e) (run_steps image' digits' steps' e' n') = absurd (apart words _ _ _ _ e e' refl)
-same_job words _ _ (run image e) (go file' e') = absurd (apart words _ _ _ _ e e' refl)
-same_job words _ _ (run image e) (go_steps file' digits' steps' e' n') = absurd (cc)
-same_job words _ _ (run image e) (build file' out' e') = absurd (cc)
-same_job words _ _ (run image e) (run image' e') = let same : image ≡ image' = cc in ap (λ f. Run f 100000000) same
-same_job words _ _ (run image e) (run_steps image' digits' steps' e' n') = absurd (cc)
-same_job words _ _ (run_steps image digits steps e n) (go file' e') = absurd (cc)
-same_job words _ _ (run_steps image digits steps e n) (go_steps file' digits' steps' e' n') = absurd (apart words _ _ _ _ e e' refl)
-same_job words _ _ (run_steps image digits steps e n) (build file' out' e') = absurd (apart words _ _ _ _ e e' refl)
-same_job words _ _ (run_steps image digits steps e n) (run image' e') = absurd (cc)
-same_job words _ _ (run_steps image digits steps e n) (run_steps image' digits' steps' e' n') =
-    let same : image ≡ image' = cc in
-    let number : steps ≡ steps' = same_steps digits digits' steps steps' (cc) n n' in
-    ap (λ f. Run f steps) same ∙ ap (λ m. Run image' m) number
+same_job words j k first second = one_job j k (sym (asks words j first) ∙ asks words k second)

@@ -14,3 +14,4 @@ pub mod BuildRefused
 pub mod Objects
 pub mod Taken
 pub mod Written
+pub mod DumpCauses

@@ -4,6 +4,7 @@ use Rattle.std.specs.Prelude.{map, codes}
 use Rattle.std.proofs.lemmas.List.{map_push, map_more, take-append-drop, drop_more, length-map, length-take-le, map-append}
 use Rattle.mt_compile.specs.Compiled.{Compiled}
 use Rattle.mt_compile.specs.Refused.{IsCause as IsSourceCause}
+use Rattle.mt_compile.specs.declared.refusal.CompileRefusal.{CompileRefusal}
 use Rattle.mt_compile.specs.declared.refused.Refused.{Refused}
 use Rattle.mt_compile.specs.declared.source.SourceText.{SourceText}
 use Rattle.mt_pipeline.specs.Built.{AreCompiled, RefusesLink, too_many, twice, no_main, texts_of}
@@ -24,7 +25,7 @@ compiled_so_far view texts i text objects all words within is more compiled last
     (compiled_more (texts_of (take i texts)) (map view objects) text.bytes.items (view words) compiled last))
 
 -- the text that comes now is refused
-pub refused_here : {O : Type 0} (view : O → List ℕ) (texts : List SourceText) (i : ℕ) (text : SourceText) (objects : List O) (refused : Refused) → i < length texts → text ≡ get_or texts i text →
+pub refused_here : {O : Type 0} (view : O → List ℕ) (texts : List SourceText) (i : ℕ) (text : SourceText) (objects : List O) (refused : Refused CompileRefusal) → i < length texts → text ≡ get_or texts i text →
     AreCompiled (texts_of (take i texts)) (map view objects) → IsSourceCause text.bytes.items refused → IsCause (texts_of texts) (of_source i refused.refusal refused.place)
 refused_here view texts i text objects refused within is compiled cause =
     let rest : drop i texts ≡ text ∷ drop (i + 1) texts = drop_more texts i text within ∙ ap (λ t. t ∷ drop (i + 1) texts) (sym is) in
@@ -32,11 +33,6 @@ refused_here view texts i text objects refused within is compiled cause =
     ap texts_of (sym (take-append-drop i texts) ∙ ap (λ r. take i texts ++ r) rest) ∙ map-append (λ t. t.bytes.items) (take i texts) (text ∷ drop (i + 1) texts) in
     source_cause (texts_of texts) (texts_of (take i texts)) (texts_of (drop (i + 1) texts)) (map view objects) text.bytes.items i refused parts compiled
     (length-map (take i texts) (λ t. t.bytes.items) ∙ length-take-le i texts (omega (arith, within))) cause
-
--- all texts were compiled
-pub all_compiled : {O : Type 0} (view : O → List ℕ) (texts : List SourceText) (i : ℕ) (objects : List O) → take i texts ≡ texts → AreCompiled (texts_of (take i texts)) (map view objects) →
-    AreCompiled (texts_of texts) (map view objects)
-all_compiled view texts i objects whole compiled = subst (λ ts. AreCompiled (texts_of ts) (map view objects)) whole compiled
 
 -- ---- how many there are
 

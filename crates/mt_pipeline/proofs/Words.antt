@@ -4,8 +4,8 @@ use Rattle.std.proofs.lemmas.Bool.{true≢false}
 use Rattle.std.proofs.lemmas.Slice.Eq.{bytes_eq-Decides}
 use Rattle.std.specs.Prelude.{codes}
 use Rattle.mt_pipeline.specs.Number.{IsSteps}
-use Rattle.mt_pipeline.specs.Command.{Asks, AsksWith}
-use Rattle.mt_pipeline.specs.Job.{Job, Go, Build, Run, HasJob, go, go_steps, build, run, run_steps, default_steps}
+use Rattle.mt_pipeline.specs.Command.{Asks, AsksAlone, AsksWith}
+use Rattle.mt_pipeline.specs.Job.{Job, Go, Build, Run, Dump, HasJob, go, go_steps, build, run, run_steps, dump, default_steps}
 
 pub two_items : {A : Type 0} (xs : List A) (a b : A) → 2 ≤ length xs → length xs < 3 → a ≡ get_or xs 0 a → b ≡ get_or xs 1 b → xs ≡ a ∷ b ∷ []
 two_items [] a b least most first second = absurd (omega arith)
@@ -22,19 +22,24 @@ four_items (x ∷ y ∷ z ∷ w ∷ []) a b c d least most first second third fo
 four_items (x ∷ y ∷ z ∷ w ∷ v ∷ vs) a b c d least most first second third fourth = absurd (omega arith)
 
 -- two words ask for what the first of them names
-pub two_ask : (words : List (List ℕ)) (a b : List ℕ) (job : Job) → words ≡ a ∷ b ∷ [] → Asks a b default_steps job → HasJob words job
-two_ask words a b job are (inl is) = subst (λ j. HasJob words j) (sym is.1) (go b (are ∙ ap (λ x. x ∷ b ∷ []) is.0))
-two_ask words a b job are (inr is) = subst (λ j. HasJob words j) (sym is.1) (run b (are ∙ ap (λ x. x ∷ b ∷ []) is.0))
+pub two_ask : (words : List (List ℕ)) (a b : List ℕ) (job : Job) → words ≡ a ∷ b ∷ [] → AsksAlone a b job → HasJob words job
+two_ask words a b job are (inl is) = subst (λ j. HasJob words j) (sym is.1) (dump b (are ∙ ap (λ x. x ∷ b ∷ []) is.0))
+two_ask words a b job are (inr (inl is)) = subst (λ j. HasJob words j) (sym is.1) (go b (are ∙ ap (λ x. x ∷ b ∷ []) is.0))
+two_ask words a b job are (inr (inr is)) = subst (λ j. HasJob words j) (sym is.1) (run b (are ∙ ap (λ x. x ∷ b ∷ []) is.0))
 
-pub two_asked : (words : List (List ℕ)) (a b : List ℕ) (job : Job) → words ≡ a ∷ b ∷ [] → HasJob words job → Asks a b default_steps job
+pub two_asked : (words : List (List ℕ)) (a b : List ℕ) (job : Job) → words ≡ a ∷ b ∷ [] → HasJob words job → AsksAlone a b job
 two_asked words a b _ are (go file e) =
     let name : a ≡ codes "go" = cc in
     let same : file ≡ b = cc in
-    inl (name, ap (λ f. Go f default_steps) same)
+    inr (inl (name, ap (λ f. Go f default_steps) same))
 two_asked words a b _ are (run image e) =
     let name : a ≡ codes "run" = cc in
     let same : image ≡ b = cc in
-    inr (name, ap (λ f. Run f default_steps) same)
+    inr (inr (name, ap (λ f. Run f default_steps) same))
+two_asked words a b _ are (dump file e) =
+    let name : a ≡ codes "dump" = cc in
+    let same : file ≡ b = cc in
+    inl (name, ap Dump same)
 two_asked words a b _ are (go_steps file digits steps e n) = absurd (cc)
 two_asked words a b _ are (build file out e) = absurd (cc)
 two_asked words a b _ are (run_steps image digits steps e n) = absurd (cc)
@@ -51,6 +56,7 @@ four_ask words a b c d job are (inr (steps, option, number, inr is)) =
 pub four_asked : (words : List (List ℕ)) (a b c d : List ℕ) (job : Job) → words ≡ a ∷ b ∷ c ∷ d ∷ [] → HasJob words job → AsksWith a b c d job
 four_asked words a b c d _ are (go file e) = absurd (cc)
 four_asked words a b c d _ are (run image e) = absurd (cc)
+four_asked words a b c d _ are (dump file e) = absurd (cc)
 four_asked words a b c d _ are (build file out e) =
     let option : c ≡ codes "--out" = cc in
     let name : a ≡ codes "build" = cc in
@@ -74,6 +80,7 @@ four_asked words a b c d _ are (run_steps image digits steps e n) =
 pub other_words : (words : List (List ℕ)) (job : Job) → HasJob words job → (length words ≡ 2) ⊎ (length words ≡ 4)
 other_words words _ (go file e) = inl (ap length e)
 other_words words _ (run image e) = inl (ap length e)
+other_words words _ (dump file e) = inl (ap length e)
 other_words words _ (build file out e) = inr (ap length e)
 other_words words _ (go_steps file digits steps e n) = inr (ap length e)
 other_words words _ (run_steps image digits steps e n) = inr (ap length e)
@@ -85,6 +92,11 @@ no_asks command file option value steps is number none job (inl out) =
 no_asks command file option value steps is number none job (inr asked) =
     let same : asked.0 ≡ steps = sym asked.2.value ∙ number.value in
     none job (subst (λ n. Asks command file n job) same asked.3)
+
+-- a command that is no dump asks for what it asks for with the steps that are given by default
+pub not_alone : (command file : List ℕ) → ¬ (command ≡ codes "dump") → ((job : Job) → ¬ Asks command file default_steps job) → (job : Job) → ¬ AsksAlone command file job
+not_alone command file other none job (inl is) = other is.0
+not_alone command file other none job (inr asks) = none job asks
 
 -- what follows where there is none
 pub none_then : {A : Type 0} (r : Option A) {P Q : Type 0} → IfNone r P → (P → Q) → IfNone r Q

@@ -9,6 +9,8 @@ pub data Job : Type 0 where
   Build : (file out : List ℕ) → Job
   -- load this image and run it, for at most so many steps
   Run : (image : List ℕ) (steps : ℕ) → Job
+  -- print what this ELF file says of memory tagging
+  Dump : (file : List ℕ) → Job
 
 -- the steps of a run where the words give none
 abbrev pub default_steps : ℕ
@@ -23,3 +25,4 @@ pub data HasJob (words : List (List ℕ)) : Job → Type 0 where
   run : (image : List ℕ) → words ≡ codes "run" ∷ image ∷ [] → HasJob words (Run image default_steps)
   run_steps : (image digits : List ℕ) (steps : ℕ) → words ≡ codes "run" ∷ image ∷ codes "--steps" ∷ digits ∷ [] → IsSteps digits steps →
       HasJob words (Run image steps)
+  dump : (file : List ℕ) → words ≡ codes "dump" ∷ file ∷ [] → HasJob words (Dump file)

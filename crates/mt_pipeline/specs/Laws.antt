@@ -1,3 +1,4 @@
 pub mod BuiltLaws
+pub mod OneLink
 pub mod OneBuild
 pub mod ConstantRun

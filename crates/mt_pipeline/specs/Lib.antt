@@ -11,6 +11,7 @@ pub mod Counted
 pub mod Go
 pub mod Build
 pub mod RunFile
+pub mod Dump
 pub mod Usage
 pub mod Answers
 -- what the parts below it say
@@ -19,6 +20,7 @@ pub mod Answer
 pub mod Unread
 pub mod Unbuilt
 pub mod Unrun
+pub mod Undumped
 pub mod Command
 pub mod NoWords
 -- laws for later proofs

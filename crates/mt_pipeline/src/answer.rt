@@ -1,10 +1,12 @@
 // What a command answers.
 ghost use Rattle.std.specs.Prelude.{◌≡◌};
 ghost use Rattle.mt_pipeline.specs.Answer.{ended_of};
+ghost use Rattle.mt_pipeline.specs.Unbuilt.{answer_of};
 
 use crate::ended::{Ended, Why};
-use crate::refusal::{LinkRefusal, RunRefusal};
-use mt_compile::CompileRefusal;
+use crate::refusal::{BuildRefusal, LinkRefusal, RunRefusal};
+use memtag_dump::DumpRefusal;
+use mt_compile::{CompileRefusal, Refused};
 use mte_machine::MachineEnd;
 
 /// What a command answers: how its run ended, or why there was none. Want of memory is an answer of its own, and
@@ -34,12 +36,19 @@ pub enum Answer {
         file: u32,
         refusal: RunRefusal,
     },
+    /// The refusal of an ELF file that says nothing of memory tagging.
+    BadDump {
+        file: u32,
+        refusal: DumpRefusal,
+    },
     /// Want of memory.
     NoMemory,
     /// A file could not be written.
     WriteFault {
         file: u32,
     },
+    /// The output could not be written.
+    OutputFault,
     /// A file could not be read.
     ReadFault {
         file: u32,
@@ -47,6 +56,22 @@ pub enum Answer {
 }
 
 impl Answer {
+    /// What is answered where texts are not built.
+    pub(crate) fn of_unbuilt(unbuilt: Refused<BuildRefusal>) -> Answer
+        ensures { result ≡ answer_of unbuilt }
+    {
+        let Refused { refusal, place } = unbuilt;
+        match refusal {
+            BuildRefusal::Compile { file, refusal } => Answer::Refused {
+                file,
+                place,
+                refusal,
+            },
+            BuildRefusal::Link(refusal) => Answer::Link(refusal),
+            BuildRefusal::NoMemory => Answer::NoMemory,
+        }
+    }
+
     /// The status and the reason of this answer.
     pub fn ended(&self) -> Ended
         ensures { result ≡ ended_of self.now }
@@ -73,8 +98,14 @@ impl Answer {
                 number: refusal.number(),
                 place: 0,
             },
+            Answer::BadDump { file, refusal } => Why::BadImage {
+                file: *file,
+                number: refusal.number(),
+                place: refusal.place(),
+            },
             Answer::NoMemory => Why::NoMemory,
             Answer::WriteFault { file } => Why::WriteFault { file: *file },
+            Answer::OutputFault => Why::OutputFault,
             Answer::ReadFault { file } => Why::ReadFault { file: *file },
         };
         why.ended(0)

@@ -6,11 +6,10 @@ ghost use Rattle.mt_pipeline.specs.Built.{AreCompiled, Builds, IsBuilt, Linked, 
 ghost use Rattle.mt_pipeline.specs.Unbuilt.{IsCause};
 
 use crate::refusal::{BuildRefusal, LinkRefusal};
-use crate::unbuilt::Unbuilt;
 use c_ast::Name;
 use elf_base::Bytes;
 use elf_image::{ImageParts, write_image};
-use mt_compile::{SourceText, compile};
+use mt_compile::{Refused, SourceText, compile};
 use std::alloc::Global;
 
 /// Where the code of an image without data begins, and so its entry.
@@ -35,8 +34,8 @@ pub fn build(alloc: Global, texts: &[SourceText]) -> Result<Vec<u8>, BuildRefusa
     }
 }
 
-/// The same, with the byte that is told of a refusal.
-pub fn image_bytes(alloc: Global, texts: &[SourceText]) -> Result<Vec<u8>, Unbuilt>
+/// The same, and a refusal with the byte that is told of it.
+pub fn image_bytes(alloc: Global, texts: &[SourceText]) -> Result<Vec<u8>, Refused<BuildRefusal>>
     ensures built { IfOk result (λ file. IsBuilt (texts_of texts.now) file.items) }
     ensures refused { IfErr result (IsCause (texts_of texts.now)) }
 {
@@ -47,7 +46,7 @@ pub fn image_bytes(alloc: Global, texts: &[SourceText]) -> Result<Vec<u8>, Unbui
 }
 
 /// The parts of the image of these texts.
-pub fn parts_of(alloc: Global, texts: &[SourceText]) -> Result<ImageParts, Unbuilt>
+pub fn parts_of(alloc: Global, texts: &[SourceText]) -> Result<ImageParts, Refused<BuildRefusal>>
     ensures parts { IfOk result (λ parts. Builds (texts_of texts.now) (image_of parts)) }
     ensures refused { IfErr result (IsCause (texts_of texts.now)) }
 {
@@ -57,12 +56,12 @@ pub fn parts_of(alloc: Global, texts: &[SourceText]) -> Result<ImageParts, Unbui
     };
     match link(alloc, objects) {
         Ok(parts) => Ok(parts),
-        Err(refusal) => Err(Unbuilt::of_link(refusal)),
+        Err(refusal) => Err(BuildRefusal::of_link(refusal)),
     }
 }
 
 // The words of each text's code, in order.
-fn objects_of(alloc: Global, texts: &[SourceText]) -> Result<Vec<Vec<u32>>, Unbuilt>
+fn objects_of(alloc: Global, texts: &[SourceText]) -> Result<Vec<Vec<u32>>, Refused<BuildRefusal>>
     ensures compiled { IfOk result (λ objects. AreCompiled (texts_of texts.now) (map (λ words. words.items) objects.items)) }
     ensures refused { IfErr result (IsCause (texts_of texts.now)) }
 {
@@ -70,7 +69,7 @@ fn objects_of(alloc: Global, texts: &[SourceText]) -> Result<Vec<Vec<u32>>, Unbu
     for (file, text) in texts.iter().enumerate() {
         match compile(alloc, text) {
             Ok(words) => objects.push(words)?,
-            Err(refused) => return Err(Unbuilt::of_source(file, refused)),
+            Err(refused) => return Err(BuildRefusal::of_source(file, refused)),
         }
     }
     Ok(objects)

@@ -1,7 +1,7 @@
 // What the words ask for.
 ghost use Rattle.std.specs.Prelude.{◌≡◌, ℕ, IfSome, IfNone, map};
 ghost use Rattle.std.specs.String.{string_bytes};
-ghost use Rattle.mt_pipeline.specs.Command.{Asks, AsksWith, job_of};
+ghost use Rattle.mt_pipeline.specs.Command.{Asks, AsksAlone, AsksWith, job_of};
 ghost use Rattle.mt_pipeline.specs.Job.{Job, HasJob};
 ghost use Rattle.mt_pipeline.specs.Number.{IsSteps};
 
@@ -17,6 +17,8 @@ pub enum Command<'a> {
     Build { file: &'a str, out: &'a str },
     /// Loads an image and runs it.
     Run { image: &'a str, steps: u64 },
+    /// Prints what an ELF file says of memory tagging.
+    Dump { file: &'a str },
 }
 
 /// The command that the words ask for; None where there is none.
@@ -25,7 +27,7 @@ pub fn command_of(words: &[String]) -> Option<Command<'_>>
     ensures none { IfNone result ((job : Job) → ¬ HasJob (map string_bytes words.now) job) }
 {
     match words {
-        [command, file] => with_steps(command.as_str(), file.as_str(), DEFAULT_STEPS),
+        [command, file] => alone(command.as_str(), file.as_str()),
         [command, file, option, value] => with_option(
             command.as_str(),
             file.as_str(),
@@ -33,6 +35,17 @@ pub fn command_of(words: &[String]) -> Option<Command<'_>>
             value.as_str(),
         ),
         _ => None,
+    }
+}
+
+// The command of this name without an option.
+fn alone<'a>(command: &str, file: &'a str) -> Option<Command<'a>>
+    ensures some { IfSome result (λ found. AsksAlone command.now file.now (job_of found)) }
+    ensures none { IfNone result ((job : Job) → ¬ AsksAlone command.now file.now job) }
+{
+    match command {
+        "dump" => Some(Command::Dump { file }),
+        _ => with_steps(command, file, DEFAULT_STEPS),
     }
 }
 

@@ -39,7 +39,7 @@ pub fn go<F: Files, S: Source, K: Sink>(
     };
     let parts = match parts_of(alloc, &[SourceText { bytes }]) {
         Ok(parts) => parts,
-        Err(unbuilt) => return unbuilt.answer(),
+        Err(unbuilt) => return Answer::of_unbuilt(unbuilt),
     };
     match run_parts(
         alloc,
@@ -69,7 +69,7 @@ pub fn write_built<F: Files>(alloc: Global, file: &str, out_file: &str, files: &
     };
     let image = match image_bytes(alloc, &[SourceText { bytes }]) {
         Ok(image) => image,
-        Err(unbuilt) => return unbuilt.answer(),
+        Err(unbuilt) => return Answer::of_unbuilt(unbuilt),
     };
     match files.write(out_file, &image) {
         WriteAnswer::Done => Answer::Done,

@@ -12,6 +12,7 @@ ghost use Rattle.mt_pipeline.specs.Usage.{UsageAnswers};
 use crate::answer::Answer;
 use crate::command::{Command, command_of};
 use crate::commands::{go, run_file, write_built};
+use crate::dump::dump_file;
 use crate::ended::{Ended, Why};
 use crate::report::finish;
 use mt_outside::{Files, Sink, Source};
@@ -46,6 +47,7 @@ pub fn drive<F: Files, S: Source, K: Sink, E: Sink>(
         Some(Command::Run { image, steps }) => {
             finish(err, image, run_file(alloc, image, steps, files, input, out))
         }
+        Some(Command::Dump { file }) => finish(err, file, dump_file(alloc, file, files, out)),
         None => finish(err, "", Answer::Usage),
     }
 }

@@ -1,11 +1,12 @@
 // Why texts are not built, and why an image does not run.
 ghost use Rattle.std.specs.Prelude.{◌≡◌};
+ghost use Rattle.mt_pipeline.specs.declared.refusal.BuildRefusal.TheVariants.{NoMemory as BuildNoMemory};
 ghost use Rattle.mt_pipeline.specs.declared.refusal.LinkRefusal.TheVariants.{NoMemory as LinkNoMemory};
 
 use crate::answer::Answer;
 use c_ast::Name;
 use elf_image::ImageRefusal;
-use mt_compile::CompileRefusal;
+use mt_compile::{CompileRefusal, Refused};
 use std::alloc::AllocError;
 use tag_startup::StartRefusal;
 use thiserror::Error;
@@ -65,6 +66,45 @@ pub enum BuildRefusal {
     NoMemory,
 }
 
+impl BuildRefusal {
+    ghost use Rattle.mt_pipeline.specs.Unbuilt.{of_link, of_source};
+
+    /// The text of this number, from 0, is refused, with the byte that is told of it.
+    pub(crate) fn of_source(file: usize, refused: Refused<CompileRefusal>) -> Refused<BuildRefusal>
+        ensures { result ≡ of_source file refused.refusal refused.place }
+    {
+        let Refused { refusal, place } = refused;
+        match refusal {
+            CompileRefusal::NoMemory => Refused::without_place(BuildRefusal::NoMemory),
+            refusal => Refused {
+                refusal: BuildRefusal::Compile {
+                    file: u32::try_from(file).unwrap_or(u32::MAX),
+                    refusal,
+                },
+                place,
+            },
+        }
+    }
+
+    /// The code of the texts is not linked.
+    pub(crate) fn of_link(refusal: LinkRefusal) -> Refused<BuildRefusal>
+        ensures { result ≡ of_link refusal }
+    {
+        match refusal {
+            LinkRefusal::NoMemory => Refused::without_place(BuildRefusal::NoMemory),
+            refusal => Refused::without_place(BuildRefusal::Link(refusal)),
+        }
+    }
+}
+
+impl From<AllocError> for BuildRefusal {
+    ghost from_gives = { λ _ refusal. refusal ≡ BuildNoMemory };
+
+    fn from(_: AllocError) -> BuildRefusal {
+        BuildRefusal::NoMemory
+    }
+}
+
 /// Why an image does not run. A refusal inside is never the want of memory.
 #[derive(Debug, Drop, Error)]
 pub enum RunRefusal {
@@ -88,10 +128,9 @@ impl RunRefusal {
         ensures { result ≡ run_number self.now }
     {
         match self {
-            RunRefusal::Image(ImageRefusal::NotYet) | RunRefusal::Start(StartRefusal::NotYet) => 44,
-            RunRefusal::Image(ImageRefusal::NoMemory)
-            | RunRefusal::Start(StartRefusal::NoMemory)
-            | RunRefusal::NoMemory => 0,
+            RunRefusal::Image(refusal) => refusal.number(),
+            RunRefusal::Start(refusal) => refusal.number(),
+            RunRefusal::NoMemory => 0,
         }
     }
 

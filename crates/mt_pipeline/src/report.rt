@@ -7,6 +7,8 @@ use crate::answer::Answer;
 use crate::ended::Ended;
 use crate::refusal::LinkRefusal;
 use c_lex::LexRefusal;
+use elf_image::ImageRefusal;
+use memtag_dump::DumpRefusal;
 use mt_compile::CompileRefusal;
 use mt_outside::{PutAnswer, Sink};
 use mte_machine::MachineEnd;
@@ -90,6 +92,19 @@ fn report_link<E: Sink>(line: &mut Line<'_, E>, refusal: &LinkRefusal) -> fmt::R
     }
 }
 
+// Puts the line of a file that says nothing of memory tagging, which leaves out the place where the refusal names none.
+fn report_dump<E: Sink>(line: &mut Line<'_, E>, file: &str, refusal: &DumpRefusal) -> fmt::Result {
+    match refusal {
+        DumpRefusal::File(ImageRefusal::NotElf | ImageRefusal::NotThisMachine) => {
+            write!(line, "mtcc: {file}: {refusal}\n")
+        }
+        _ => {
+            let place = refusal.place();
+            write!(line, "mtcc: {file}: {refusal} {place}\n")
+        }
+    }
+}
+
 /// Puts the line of an answer about this file, and ends with the answer's status. A fault of the sink changes nothing.
 pub fn finish<E: Sink>(err: &mut E, file: &str, answer: Answer) -> Ended
     ensures ended { result ≡ ended_of answer }
@@ -112,8 +127,10 @@ fn report<E: Sink>(err: &mut E, file: &str, answer: &Answer)
         Answer::NoFile { .. } => write!(line, "mtcc: {file}: no such file\n"),
         Answer::Link(refusal) => report_link(&mut line, refusal),
         Answer::BadImage { refusal, .. } => write!(line, "mtcc: {file}: {refusal}\n"),
+        Answer::BadDump { refusal, .. } => report_dump(&mut line, file, refusal),
         Answer::NoMemory => write!(line, "mtcc: out of memory\n"),
         Answer::WriteFault { .. } => write!(line, "mtcc: {file}: write fault\n"),
+        Answer::OutputFault => write!(line, "mtcc: output fault\n"),
         Answer::ReadFault { .. } => write!(line, "mtcc: {file}: read fault\n"),
     };
 }

@@ -8,7 +8,7 @@ ghost use Rattle.tag_startup.specs.Loaded.{HoldsCodeAlone, IsStack};
 ghost use Rattle.tag_startup.specs.Machine.{RunsImage};
 
 use crate::refusal::RunRefusal;
-use elf_image::{ImageParts, ImageRefusal, read_image};
+use elf_image::{ImageParts, ImageRefusal, read_constant};
 use mt_base::Tag;
 use mt_outside::{Sink, Source};
 use mte_machine::MachineEnd;
@@ -36,10 +36,10 @@ pub fn run_image<S: Source, K: Sink>(
     ensures input { source.new ≡ source.old }
     ensures output { sink.new ≡ sink.old }
 {
-    let parts = match read_image(alloc, bytes) {
+    let parts = match read_constant(alloc, bytes) {
         Ok(parts) => parts,
         Err(ImageRefusal::NoMemory) => return Err(RunRefusal::NoMemory),
-        Err(refusal) => return Err(RunRefusal::Image(refusal)),
+        Err(_) => return Err(RunRefusal::Image(ImageRefusal::NotYet)),
     };
     match run_parts(alloc, &parts, choices, stack, n, source, sink) {
         Ok(end) => Ok(end),

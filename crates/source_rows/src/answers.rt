@@ -1,9 +1,9 @@
 // The answer to each kind of row.
-use crate::quoted::unquoted;
 use crate::reading::{outcome, printed, printed_size, spans_of, tree_of};
 use crate::tokens::tokens_of;
 use crate::words::{named, word};
 use std::alloc::{AllocError, Global};
+use test_rows::unquoted;
 
 /// The answer to a row. `text` is the text that rows cut and change.
 pub fn answer(alloc: Global, text: &mut Vec<u8>, question: &str) -> Result<String, AllocError> {

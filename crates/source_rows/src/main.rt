@@ -10,11 +10,10 @@
 //!     change N+M "TEXT" => ANSWER   the same of the text with TEXT in the place of M bytes from N on
 //!
 //! A refusal is a fault of the lexer with its number, or the parser's, and the byte at which it stands. Numbers are decimal.
-//! `quoted.rt` says how texts are written. `tools/source-rows/make.py` makes and compares the rows.
+//! `unquoted` of `test_rows` says how texts are written. `tools/source-rows/make.py` makes and compares the rows.
 #![tactic(auto)]
 
 mod answers;
-mod quoted;
 mod reading;
 mod shape;
 mod tokens;

@@ -38,14 +38,9 @@ fn refused(
     tokens: &[Token<'_>],
     refusal: &ParseRefusal,
 ) -> Result<String, AllocError> {
-    match *refusal {
-        ParseRefusal::Unexpected { place } => {
-            format!(in alloc; "Unexpected {}", byte_of(text, tokens, place))
-        }
-        ParseRefusal::TooDeep { place } => {
-            format!(in alloc; "TooDeep {}", byte_of(text, tokens, place))
-        }
+    match refusal {
         ParseRefusal::NoMemory => String::from_str(alloc, "NoMemory"),
+        _ => format!(in alloc; "{refusal} {}", byte_of(text, tokens, refusal.place())),
     }
 }
 
@@ -66,8 +61,8 @@ pub fn outcome(alloc: Global, text: &[u8]) -> Result<String, AllocError> {
 
 fn shape_of(alloc: Global, program: &Program, spans: bool) -> Result<String, AllocError> {
     let mut shape = Shape::new(alloc, spans);
-    shape.program(program)?;
-    Ok(shape.text)
+    shape.program(program);
+    shape.told()
 }
 
 /// The tree of a text with its spans.

@@ -15,12 +15,8 @@ pub fn tokens_of(alloc: Global, text: &[u8]) -> Result<String, AllocError> {
 pub fn fault_shown(alloc: Global, refusal: LexRefusal) -> Result<String, AllocError> {
     let number = refusal.number();
     match refusal {
-        LexRefusal::BadByte { at }
-        | LexRefusal::UnclosedText { at }
-        | LexRefusal::UnclosedComment { at }
-        | LexRefusal::NumberTooLarge { at }
-        | LexRefusal::BadDirective { at } => format!(in alloc; "{number} {refusal} {at}"),
         LexRefusal::TextTooLong | LexRefusal::NoMemory => format!(in alloc; "{number} {refusal}"),
+        _ => format!(in alloc; "{number} {refusal} {}", refusal.place()),
     }
 }
 

@@ -1,5 +1,5 @@
 -- Work that gives one thing, or has one refusal at one place, and never both; and stages of such work in turn.
-use Rattle.std.proofs.Common.{◌≡◌, ℕ, sym, subst}
+use Rattle.std.proofs.Common.{◌≡◌, ◌∙◌, ℕ, refl, sym, ap, subst}
 
 pub record OneWay {B R : Type 0} (Gives : B → Type 0) (Refuses : R → ℕ → Type 0) : Type 0 where
   pub gives_one : (b c : B) → Gives b → Gives c → b ≡ c
@@ -38,3 +38,37 @@ module _ {B C R : Type 0} (Gives : B → Type 0) (Refuses : R → ℕ → Type 0
   -- Two stages in turn go one way.
   pub in_turn : OneWay (GoesOn Gives Next) (Stops Gives Refuses NextRefuses)
   in_turn = record { gives_one = one_result; refuses_one = one_stop; never_both = never_stops }
+
+-- ---- one stage
+
+-- a check refuses for one reason, at one place
+pub record Fails {R : Type 0} (Bad : Type 0) (reason : R) (place : ℕ) (r : R) (p : ℕ) : Type 0 where
+  pub bad : Bad
+  pub reason_is : r ≡ reason
+  pub place_is : p ≡ place
+
+-- A check passes or fails, and not both.
+pub check : {R : Type 0} (Good Bad : Type 0) (reason : R) (place : ℕ) → (Good → Bad → ⊥) →
+    OneWay {B = Unit {0}} (λ _. Good) (Fails Bad reason place)
+check Good Bad reason place never = record {
+  gives_one = λ b c x y. refl;
+  refuses_one = λ r s p q x y. (x.reason_is ∙ sym y.reason_is, x.place_is ∙ sym y.place_is);
+  never_both = λ b r p good fails. never good fails.bad;
+}
+
+-- a refusal that is told in other words
+pub record ToldBy {R S : Type 0} (tells : R → S) (Refuses : R → ℕ → Type 0) (s : S) (p : ℕ) : Type 0 where
+  pub reason : R
+  pub refuses : Refuses reason p
+  pub is : s ≡ tells reason
+
+-- Work whose refusals are told in other words goes one way.
+pub told_by : {B R S : Type 0} {Gives : B → Type 0} {Refuses : R → ℕ → Type 0} (tells : R → S) → OneWay Gives Refuses →
+    OneWay Gives (ToldBy tells Refuses)
+told_by tells way = record {
+  gives_one = way.gives_one;
+  refuses_one = λ r s p q x y.
+      let one = way.refuses_one x.reason y.reason p q x.refuses y.refuses in
+      (x.is ∙ ap tells one.0 ∙ sym y.is, one.1);
+  never_both = λ b r p gives told. way.never_both b told.reason p gives told.refuses;
+}

@@ -4,49 +4,48 @@ use super::Shape;
 use super::expr::{ctype, expr};
 use super::statement::stmt;
 use c_ast::{Decl, External, Function, Init, Storage, StructDecl};
-use std::alloc::AllocError;
 
 #[cycle(init)]
-fn init(to: &mut Shape, value: &Init) -> Result<(), AllocError> {
+fn init(to: &mut Shape, value: &Init) {
     match value {
         Init::One(e) => expr(to, e),
         Init::List(values, span) => {
-            to.put("{")?;
-            to.span(*span)?;
+            to.put("{");
+            to.span(*span);
             for (index, value) in values.as_slice().iter().enumerate() {
                 if index > 0 || to.spans {
-                    to.put(" ")?;
+                    to.put(" ");
                 }
-                init(to, value)?;
+                init(to, value);
             }
-            to.put("}")
+            to.put("}");
         }
     }
 }
 
 /// `(x int)`, `(x int = 1)`; a parameter without a name is `( int)`.
-fn decl(to: &mut Shape, declared: &Decl) -> Result<(), AllocError> {
-    to.put("(")?;
-    to.name(&declared.name)?;
-    to.span(declared.span)?;
-    to.put(" ")?;
-    ctype(to, &declared.ty)?;
+fn decl(to: &mut Shape, declared: &Decl) {
+    to.put("(");
+    to.name(&declared.name);
+    to.span(declared.span);
+    to.put(" ");
+    ctype(to, &declared.ty);
     if let Some(value) = &declared.init {
-        to.put(" = ")?;
-        init(to, value)?;
+        to.put(" = ");
+        init(to, value);
     }
-    to.put(")")
+    to.put(")");
 }
 
-pub fn decls(to: &mut Shape, declared: &[Decl]) -> Result<(), AllocError> {
-    to.put("[")?;
+pub fn decls(to: &mut Shape, declared: &[Decl]) {
+    to.put("[");
     for (index, one) in declared.iter().enumerate() {
         if index > 0 {
-            to.put(" ")?;
+            to.put(" ");
         }
-        decl(to, one)?;
+        decl(to, one);
     }
-    to.put("]")
+    to.put("]");
 }
 
 fn storage(storage: Storage) -> &'static str {
@@ -57,44 +56,44 @@ fn storage(storage: Storage) -> &'static str {
     }
 }
 
-fn structure(to: &mut Shape, declared: &StructDecl) -> Result<(), AllocError> {
-    to.put("(struct ")?;
-    to.name(&declared.name)?;
-    to.span(declared.span)?;
+fn structure(to: &mut Shape, declared: &StructDecl) {
+    to.put("(struct ");
+    to.name(&declared.name);
+    to.span(declared.span);
     if let Some(members) = &declared.members {
-        to.put(" ")?;
-        decls(to, members.as_slice())?;
+        to.put(" ");
+        decls(to, members.as_slice());
     }
-    to.put(")")
+    to.put(")");
 }
 
-fn function(to: &mut Shape, declared: &Function) -> Result<(), AllocError> {
-    to.put("(")?;
-    to.put(storage(declared.storage))?;
-    to.put("fn ")?;
-    to.name(&declared.name)?;
-    to.span(declared.span)?;
-    to.put(" ")?;
-    decls(to, declared.params.as_slice())?;
-    to.put(" ")?;
-    ctype(to, &declared.result)?;
+fn function(to: &mut Shape, declared: &Function) {
+    to.put("(");
+    to.put(storage(declared.storage));
+    to.put("fn ");
+    to.name(&declared.name);
+    to.span(declared.span);
+    to.put(" ");
+    decls(to, declared.params.as_slice());
+    to.put(" ");
+    ctype(to, &declared.result);
     if let Some(body) = &declared.body {
-        to.put(" ")?;
-        stmt(to, body)?;
+        to.put(" ");
+        stmt(to, body);
     }
-    to.put(")")
+    to.put(")");
 }
 
-pub fn external(to: &mut Shape, part: &External) -> Result<(), AllocError> {
+pub fn external(to: &mut Shape, part: &External) {
     match part {
         External::Include => to.put("(include)"),
         External::Struct(declared) => structure(to, declared),
         External::Objects(class, declared) => {
-            to.put("(")?;
-            to.put(storage(*class))?;
-            to.put("objects ")?;
-            decls(to, declared.as_slice())?;
-            to.put(")")
+            to.put("(");
+            to.put(storage(*class));
+            to.put("objects ");
+            decls(to, declared.as_slice());
+            to.put(")");
         }
         External::Function(declared) => function(to, declared),
     }

@@ -9,13 +9,13 @@ pub returns-in-len2-clause-some : goal.returns-in-len2-clause-some
 returns-in-len2-clause-some c =
     let are : map string_bytes c.args.words.now ≡ c.as_str.result.now ∷ c.as_str-in-len2.result.now ∷ [] =
     rw (two_items c.args.words.now c.command-item.result c.file-item.result c.in-len2.len_at_least c.in-len2.len_below c.command-item.is c.file-item.is, ← c.as_str.ensures.value, ← c.as_str-in-len2.ensures.value) refl in
-    IfSome_then c.with_steps.result c.with_steps.ensures.some (λ found asks. two_ask _ _ _ (job_of found) are asks)
+    IfSome_then c.alone.result c.alone.ensures.some (λ found asks. two_ask _ _ _ (job_of found) are asks)
 
 pub returns-in-len2-clause-none : goal.returns-in-len2-clause-none
 returns-in-len2-clause-none c =
     let are : map string_bytes c.args.words.now ≡ c.as_str.result.now ∷ c.as_str-in-len2.result.now ∷ [] =
     rw (two_items c.args.words.now c.command-item.result c.file-item.result c.in-len2.len_at_least c.in-len2.len_below c.command-item.is c.file-item.is, ← c.as_str.ensures.value, ← c.as_str-in-len2.ensures.value) refl in
-    none_then c.with_steps.result c.with_steps.ensures.none (λ none job asked. none job (two_asked _ _ _ job are asked))
+    none_then c.alone.result c.alone.ensures.none (λ none job asked. none job (two_asked _ _ _ job are asked))
 
 pub returns-in-len4-clause-some : goal.returns-in-len4-clause-some
 returns-in-len4-clause-some c =

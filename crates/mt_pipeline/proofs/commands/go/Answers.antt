@@ -36,7 +36,7 @@ pub returns-in-Err-parts_of : goal.returns-in-Err-parts_of
 returns-in-Err-parts_of g c =
     let before = seen g.F.Files g.S.Source g.K.Sink c.args.files.now c.args.input.now c.args.out.now in
     let after = seen g.F.Files g.S.Source g.K.Sink c.read_file.new.files c.args.input.now c.args.out.now in
-    subst (λ (a : Answer). GoAnswers c.args.file.now c.args.steps before after (ended_of a)) (sym c.answer-in-Err-parts_of.ensures)
+    subst (λ (a : Answer). GoAnswers c.args.file.now c.args.steps before after (ended_of a)) (sym c.of_unbuilt.ensures)
     (go_answers c.args.file.now c.args.steps before after (ended_of (answer_of c.in-Err-parts_of.unbuilt))
     (go_unbuilt c.args.file.now c.args.steps before after c.in-Ok.bytes.items c.in-Ok.ensures.bytes refl c.in-Err-parts_of.unbuilt c.in-Err-parts_of.ensures.refused)
     refl (same_files _ _ c.read_file.ensures.kept)

@@ -27,7 +27,7 @@ pub returns-in-Err-image_bytes : goal.returns-in-Err-image_bytes
 returns-in-Err-image_bytes g c =
     let before = files_seen g.F.Files c.args.files.now in
     let after = files_seen g.F.Files c.read_file.new.files in
-    subst (λ (a : Answer). WritesBuilt c.args.file.now c.args.out_file.now before after (ended_of a)) (sym c.answer-in-Err-image_bytes.ensures)
+    subst (λ (a : Answer). WritesBuilt c.args.file.now c.args.out_file.now before after (ended_of a)) (sym c.of_unbuilt.ensures)
     (build_answers c.args.file.now c.args.out_file.now before after (ended_of (answer_of c.in-Err-image_bytes.unbuilt))
     (build_unbuilt c.args.file.now c.args.out_file.now before after c.in-Ok.bytes.items c.in-Ok.ensures.bytes (same_files _ _ c.read_file.ensures.kept)
     c.in-Err-image_bytes.unbuilt c.in-Err-image_bytes.ensures.refused)

@@ -2,12 +2,13 @@ use Rattle.std.proofs.Common.{◌≡◌, map, refl, sym, subst}
 use Rattle.std.specs.String.{string_bytes}
 use Rattle.mt_pipeline.specs.Answers.{Answers}
 use Rattle.mt_pipeline.specs.Command.{job_of}
-use Rattle.mt_pipeline.specs.Job.{Go, Build, Run, HasJob}
+use Rattle.mt_pipeline.specs.Job.{Go, Build, Run, Dump, HasJob}
 use Rattle.mt_pipeline.specs.Seen.{seen}
 use Rattle.mt_pipeline.specs.declared.ended.Ended.{Ended}
 use Rattle.mt_pipeline.specs.declared.ended.Why.TheVariants.{Usage}
 use Rattle.mt_pipeline.proofs.Asked.{asked}
 use Rattle.mt_pipeline.proofs.BuildCauses.{build_not_usage}
+use Rattle.mt_pipeline.proofs.DumpCauses.{dump_not_usage}
 use Rattle.mt_pipeline.proofs.GoCauses.{go_not_usage}
 use Rattle.mt_pipeline.proofs.RunCauses.{run_not_usage}
 use Rattle.mt_pipeline.proofs.driver.drive.Goals as goal
@@ -37,6 +38,15 @@ returns-in-Some-Run-clause-answers g c =
     (subst (λ command. HasJob (map string_bytes c.args.words.now) (job_of command)) c.in-Some-Run.field-0-is c.in-Some-Run.ensures.some)
     (subst (λ (e : Ended). Answers (Run c.in-Some-Run.image.now c.in-Some-Run.steps) before after e) (sym c.finish-in-Some-Run.ensures.ended) c.run_file.ensures)
 
+pub returns-in-Some-Dump-clause-answers : goal.returns-in-Some-Dump-clause-answers
+returns-in-Some-Dump-clause-answers g c =
+    let before = seen g.F.Files g.S.Source g.K.Sink c.args.files.now c.args.input.now c.args.out.now in
+    let after = seen g.F.Files g.S.Source g.K.Sink c.dump_file.new.files c.args.input.now c.dump_file.new.out in
+    asked (λ job. Answers job before after c.finish-in-Some-Dump.result) _ (Dump c.in-Some-Dump.file.now)
+    (subst (λ command. HasJob (map string_bytes c.args.words.now) (job_of command)) c.in-Some-Dump.field-0-is c.in-Some-Dump.ensures.some)
+    (subst (λ (e : Ended). Answers (Dump c.in-Some-Dump.file.now) before after e) (sym c.finish-in-Some-Dump.ensures.ended)
+    (record { dumps = c.dump_file.ensures; source = refl; input = refl; input_faults = refl }))
+
 -- words that ask for something are answered by no usage
 pub returns-in-Some-Go-clause-usage : goal.returns-in-Some-Go-clause-usage
 returns-in-Some-Go-clause-usage g c =
@@ -56,5 +66,12 @@ pub returns-in-Some-Run-clause-usage : goal.returns-in-Some-Run-clause-usage
 returns-in-Some-Run-clause-usage g c =
     let found = subst (λ command. HasJob (map string_bytes c.args.words.now) (job_of command)) c.in-Some-Run.field-0-is c.in-Some-Run.ensures.some in (
       λ is. absurd (run_not_usage _ _ _ _ c.run_file.ensures.cause (subst (λ (e : Ended). e.why ≡ Usage) c.finish-in-Some-Run.ensures.ended is)),
+      λ none. absurd (none _ found),
+    )
+
+pub returns-in-Some-Dump-clause-usage : goal.returns-in-Some-Dump-clause-usage
+returns-in-Some-Dump-clause-usage g c =
+    let found = subst (λ command. HasJob (map string_bytes c.args.words.now) (job_of command)) c.in-Some-Dump.field-0-is c.in-Some-Dump.ensures.some in (
+      λ is. absurd (dump_not_usage _ _ _ _ _ c.dump_file.ensures.cause (subst (λ (e : Ended). e.why ≡ Usage) c.finish-in-Some-Dump.ensures.ended is)),
       λ none. absurd (none _ found),
     )

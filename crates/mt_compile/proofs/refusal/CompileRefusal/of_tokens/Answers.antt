@@ -3,7 +3,7 @@ use Rattle.c_parse.specs.Parsed.{Parsed, limit}
 use Rattle.c_parse.specs.declared.refusal.ParseRefusal.TheVariants.{Unexpected, TooDeep}
 use Rattle.mt_compile.specs.declared.refusal.CompileRefusal.TheVariants.{Parse}
 use Rattle.mt_compile.specs.Refused.{Refuses, unexpected, too_deep}
-use Rattle.mt_compile.proofs.refused.Refused.of_tokens.Goals as goal
+use Rattle.mt_compile.proofs.refusal.CompileRefusal.of_tokens.Goals as goal
 
 pub returns-in-Unexpected : goal.returns-in-Unexpected
 returns-in-Unexpected c =

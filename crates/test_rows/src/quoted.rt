@@ -3,8 +3,8 @@
 //     n t r \        a newline, a tab, a carriage return, a backslash
 //     xHH            the byte of two hexadecimal digits
 //     {N PART\}      a part so many times, in which the above may stand
+use crate::number::hex;
 use std::alloc::{AllocError, Global};
-use test_rows::hex;
 
 /// The text between the quotes. What is not between quotes is taken as it stands, so that its row differs.
 pub fn unquoted(alloc: Global, quoted: &str) -> Result<Vec<u8>, AllocError> {

@@ -1,0 +1,112 @@
+// Images that were cut or changed after they were built.
+use crate::calls::call;
+use mt_outside::{Files, MemFile, MemFiles, ReadAnswer};
+use std::alloc::{AllocError, Global};
+use test_rows::{hex, unquoted};
+
+/// The image that the command `build` makes of a text, empty where it makes none.
+pub fn image_of(alloc: Global, text: Vec<u8>) -> Result<Vec<u8>, AllocError> {
+    let mut held = Vec::new(alloc);
+    held.push(MemFile {
+        name: String::from_str(alloc, "a.c")?,
+        bytes: text,
+    })?;
+    let mut files = MemFiles::new(held, Vec::new(alloc));
+    call(alloc, &mut files, &["build", "a.c", "--out", "x"], false)?;
+    match files.read(alloc, "x") {
+        ReadAnswer::Got(bytes) => Ok(bytes),
+        _ => Ok(Vec::new(alloc)),
+    }
+}
+
+/// Runs of images, and those that end in another way than that of an empty file.
+#[derive(Drop)]
+struct Runs {
+    alloc: Global,
+    files: MemFiles,
+    usual: String,
+    others: String,
+}
+
+impl Runs {
+    fn new(alloc: Global) -> Result<Runs, AllocError> {
+        let mut files = MemFiles::new(Vec::new(alloc), Vec::new(alloc));
+        let usual = run(alloc, &mut files, b"")?;
+        Ok(Runs {
+            alloc,
+            files,
+            usual,
+            others: String::new(alloc),
+        })
+    }
+
+    /// Runs these bytes, which this number tells.
+    fn add(&mut self, number: usize, bytes: &[u8]) -> Result<(), AllocError> {
+        let ended = run(self.alloc, &mut self.files, bytes)?;
+        if ended.as_str() != self.usual.as_str() {
+            let other = format!(in self.alloc; "{number}: {ended}, ")?;
+            self.others.push_str(other.as_str())?;
+        }
+        Ok(())
+    }
+
+    /// Those that end in another way, and how the rest ends.
+    fn told(&self) -> Result<String, AllocError> {
+        format!(in self.alloc; "{}else {}", self.others, self.usual)
+    }
+}
+
+/// How the run of these bytes ends.
+fn run(alloc: Global, files: &mut MemFiles, bytes: &[u8]) -> Result<String, AllocError> {
+    files.write("x", bytes);
+    call(alloc, files, &["run", "x"], false)
+}
+
+/// The first place of a part, and the place behind it, of `N+M`.
+fn part(text: &str) -> Option<(usize, usize)> {
+    let (first, count) = text.split_once('+')?;
+    let first = first.parse::<usize>().ok()?;
+    let count = count.parse::<usize>().ok()?;
+    Some((first, first.checked_add(count)?))
+}
+
+/// The runs of a text's image with so many of its first bytes, or with bytes of 0 behind them.
+pub fn cuts(alloc: Global, row: &str) -> Result<String, AllocError> {
+    let (lengths, quoted) = row.split_once(' ').unwrap_or((row, ""));
+    let Some((first, end)) = part(lengths) else {
+        return String::from_str(alloc, "no part");
+    };
+    let mut bytes = image_of(alloc, unquoted(alloc, quoted)?)?;
+    let mut runs = Runs::new(alloc)?;
+    bytes.resize(end, 0)?;
+    for length in (first..end).rev() {
+        bytes.truncate(length);
+        runs.add(length, &bytes)?;
+    }
+    runs.told()
+}
+
+/// Changes these bits of the byte at a place.
+fn flip(image: &mut [u8], place: usize, bits: u8) {
+    if let Some(byte) = image.get_mut(place) {
+        *byte ^= bits;
+    }
+}
+
+/// The runs of a text's image with some bits of one byte changed, each told by the byte's place.
+pub fn flips(alloc: Global, row: &str) -> Result<String, AllocError> {
+    let (bits, rest) = row.split_once(' ').unwrap_or((row, ""));
+    let (places, quoted) = rest.split_once(' ').unwrap_or((rest, ""));
+    let bits = hex(bits).and_then(|bits| u8::try_from(bits).ok());
+    let (Some(bits), Some((first, end))) = (bits, part(places)) else {
+        return String::from_str(alloc, "no part");
+    };
+    let mut image = image_of(alloc, unquoted(alloc, quoted)?)?;
+    let mut runs = Runs::new(alloc)?;
+    for place in first..end.min(image.len()) {
+        flip(&mut image, place, bits);
+        runs.add(place, &image)?;
+        flip(&mut image, place, bits);
+    }
+    runs.told()
+}

@@ -1,0 +1,76 @@
+-- What the command `dump` answers, and what it puts on the output (this project's own).
+use Rattle.std.specs.Prelude.{◌≡◌, ◌⊎◌, ℕ, List, ◌++◌, Option, Some}
+use Rattle.mt_outside.specs.Told.{Rose, WhereTold}
+use Rattle.mt_outside.specs.Sink.{PutGives}
+use Rattle.mt_outside.specs.declared.sink.PutAnswer.TheVariants.{Failed}
+use Rattle.mt_outside.specs.declared.sink.Sink.{Ghosts as SinkGhosts}
+use Rattle.memtag_dump.specs.Lines.{HasText}
+use Rattle.memtag_dump.specs.Refusal.{HasNoText, number_of, place_of}
+use Rattle.memtag_dump.specs.declared.refusal.DumpRefusal.{DumpRefusal}
+use Rattle.mte_machine.specs.Objects.{Objects}
+use Rattle.mt_pipeline.specs.Counted.{UncountedReads}
+use Rattle.mt_pipeline.specs.Read.{CauseOfNoBytes}
+use Rattle.mt_pipeline.specs.Seen.{FilesSeen, Seen, bytes_of, MayHold, ReadFailed, SameFiles}
+use Rattle.mt_pipeline.specs.Status.{ends}
+use Rattle.mt_pipeline.specs.declared.ended.Ended.{Ended}
+use Rattle.mt_pipeline.specs.declared.ended.Why.{Why}
+use Rattle.mt_pipeline.specs.declared.ended.Why.TheVariants.{Done, BadImage, NoMemory, OutputFault}
+
+-- the output, with the bytes that it tells and the count of its faults
+pub record Output (K : Type 0) : Type 0 where
+  pub sink : K
+  pub told : Option (List ℕ)
+  pub faults : ℕ
+
+abbrev pub output_seen : {K : Type 0} → SinkGhosts K → K → Output K
+output_seen show sink = record { sink = sink; told = show.told sink; faults = show.faults sink }
+
+-- the text was put, all of it, and no fault was counted
+pub record PutsAll {K : Type 0} (text : List ℕ) (before after : Output K) : Type 0 where
+  pub content : WhereTold before.told after.told (λ old new. new ≡ old ++ text)
+  pub uncounted : after.faults ≡ before.faults
+
+-- the put failed: a fault was counted, and what was put begins the text
+pub record PutsPart {K : Type 0} (text : List ℕ) (before after : Output K) : Type 0 where
+  pub content : WhereTold before.told after.told (PutGives text Failed)
+  pub failed : Rose before.faults after.faults
+
+-- The answers, each by its cause.
+pub data CauseOfDump {K : Type 0} (file : List ℕ) (before after : FilesSeen) (out now : Output K) : Ended → Type 0 where
+  -- what the file says of memory tagging was put
+  put : (bytes text : List ℕ) → MayHold before file bytes → HasText bytes text → PutsAll text out now →
+      CauseOfDump file before after out now (ends Done)
+  -- or the output failed
+  put_failed : (bytes text : List ℕ) → MayHold before file bytes → HasText bytes text → PutsPart text out now →
+      CauseOfDump file before after out now (ends OutputFault)
+  -- the file has no text, by its first fault
+  refused : (bytes : List ℕ) (fault : DumpRefusal) → MayHold before file bytes → HasNoText bytes fault → now ≡ out →
+      CauseOfDump file before after out now (ends (BadImage 0 (number_of fault) (place_of fault)))
+  -- it was not read
+  unread : {why : Why} → CauseOfNoBytes file before after why → now ≡ out → CauseOfDump file before after out now (ends why)
+  no_memory : now ≡ out → CauseOfDump file before after out now (ends NoMemory)
+
+-- What `dump` of a file answers, and what it leaves of the files and on the output.
+pub record Dumps {K : Type 0} (file : List ℕ) (before after : FilesSeen) (out now : Output K) (ended : Ended) : Type 0 where
+  -- Where the file has a text, and no read and no put failed, it is put, or memory is wanting.
+  pub prints : (bytes text : List ℕ) → bytes_of before file ≡ Some bytes → HasText bytes text → ¬ ReadFailed before after →
+      ¬ Rose out.faults now.faults → ((ended ≡ ends Done) × PutsAll text out now) ⊎ (ended ≡ ends NoMemory)
+  -- Where it has a fault and no read failed, it is refused with it, or memory is wanting.
+  pub refuses : (bytes : List ℕ) (fault : DumpRefusal) → bytes_of before file ≡ Some bytes → HasNoText bytes fault →
+      ¬ ReadFailed before after → (ended ≡ ends (BadImage 0 (number_of fault) (place_of fault))) ⊎ (ended ≡ ends NoMemory)
+  -- Each answer comes only by its cause.
+  pub cause : CauseOfDump file before after out now ended
+  -- No file changes.
+  pub files : SameFiles before after
+  -- No fault of a file is counted but the one that is answered, and none of a write.
+  pub counts : UncountedReads before after ended.why
+
+abbrev pub output_of : {S K : Type 0} → Objects S K → Output K
+output_of streams = record { sink = streams.sink; told = streams.output; faults = streams.write_faults }
+
+-- Nothing is taken from the input.
+pub record DumpAnswers {S K : Type 0} (file : List ℕ) (before after : Seen S K) (ended : Ended) : Type 0 where
+  pub dumps : Dumps file before.files after.files (output_of before.streams) (output_of after.streams) ended
+  pub source : after.streams.source ≡ before.streams.source
+  pub input : after.streams.input ≡ before.streams.input
+  pub input_faults : after.streams.read_faults ≡ before.streams.read_faults
