@@ -73,7 +73,7 @@ fn put(bytes: &mut Vec<u8>, place: usize, digits: &str) -> Result<bool, AllocErr
         match high {
             None => high = Some(value),
             Some(front) => {
-                set(bytes, at, front * 16 + value)?;
+                set(bytes, at, (front << 4) | value)?;
                 at = at.saturating_add(1);
                 high = None;
             }
