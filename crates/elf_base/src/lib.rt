@@ -20,6 +20,3 @@ pub use section::{SHDR_BYTES, Shdr, read_shdr, write_shdr};
 pub use segment::{PHDR_BYTES, Phdr, read_phdr, write_phdr};
 pub use symbol::{SYM_BYTES, Sym, read_sym, write_sym};
 pub use text::{Bytes, Name};
-
-#[cfg(test)]
-mod tests;

@@ -4,6 +4,7 @@
 //!     BYTES | INTERVALS              descriptors, and the intervals or the fault
 //!     memtag BYTES | ENTRIES         an ELF file, and what it says of memory tagging or its fault
 //!     dump BYTES | LINES             an ELF file, and the lines that `dump` prints of it, with / between them, or its fault
+//!     record KIND HEX | FIELDS       a record of an ELF file, and its fields in order, in decimal, but for the identification
 //!     object HEX | SIZES             an object file, and the sizes of its parts or its fault
 //!     cut N | SIZES                  the last object file, cut off at place N
 //!     put N HEX | SIZES              the last object file, with other bytes from place N on
@@ -17,6 +18,7 @@ mod descriptors;
 mod dump;
 mod memtag;
 mod objects;
+mod records;
 
 use std::{fs, io};
 
@@ -55,6 +57,7 @@ fn main(rt: HostRuntime) -> io::Result<()> {
 fn answer(rt: &HostRuntime, question: &str) -> io::Result<String> {
     let alloc = rt.alloc();
     let (reader, text) = match question.split_once(' ') {
+        Some(("record", text)) => return Ok(records::answer(alloc, text)?),
         Some(("memtag", text)) => (Reader::Memtag, text),
         Some(("dump", text)) => (Reader::Dump, text),
         _ if question == "memtag" => (Reader::Memtag, ""),
