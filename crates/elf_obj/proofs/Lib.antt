@@ -1,4 +1,3 @@
 pub mod Steps
-pub mod Small
 pub mod Faults
 pub mod Claims

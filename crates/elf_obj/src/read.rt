@@ -1,10 +1,10 @@
-ghost use Rattle.std.specs.Prelude.{◌≡◌, ◌⊎◌, ◌≤◌, ◌++◌, None, length, IfOk, IfErr};
-ghost use Rattle.elf_obj.specs.Object.{object_of};
+ghost use Rattle.std.specs.Prelude.{◌≡◌, ◌⊎◌, ◌≤◌, ◌++◌, length, IfOk, IfErr, MatchResult};
+ghost use Rattle.elf_obj.specs.Object.{Object, object_of};
 ghost use Rattle.elf_obj.specs.Sections.{sizes_of};
 ghost use Rattle.elf_obj.specs.ObjectFile.{IsFileOf};
 ghost use Rattle.elf_obj.specs.Claimed.{claimed};
-ghost use Rattle.elf_obj.specs.Conditions.{first_fault, Tells};
-ghost use Rattle.elf_obj.specs.ObjectFault.{all_section_conditions, table_conditions, code_conditions, data_conditions, tagged_conditions, object_conditions, conditions, ObjectFault};
+ghost use Rattle.elf_obj.specs.Conditions.{Tells};
+ghost use Rattle.elf_obj.specs.ObjectFault.{all_section_conditions, table_conditions, code_conditions, data_conditions, tagged_conditions, object_conditions, ObjectFault};
 ghost use Rattle.elf_obj.specs.Laws.Held.{AreHeld};
 
 use crate::claim::claimed;
@@ -21,14 +21,18 @@ use std::alloc::Global;
 /// The parts of which the bytes are the file, or the first condition that fails. docs/FILES.md has the conditions.
 pub fn read_object(alloc: Global, file: &[u8]) -> Result<ObjectParts, ObjectRefusal>
     // The bytes are the file of what is read.
-    ensures is_file { IfOk result (λ p. IsFileOf (object_of p) file.now) }
+    ensures found { IfOk result (λ p. IsFileOf (object_of p) file.now) }
 
-    // What is read is what the bytes claim, and no condition fails.
-    ensures found { IfOk result (λ p. object_of p ≡ claimed file.now) }
-    ensures holds { IfOk result (λ p. first_fault (conditions file.now) ≡ None) }
+    // The file of an object is read, unless memory runs out.
+    ensures only { (p : Object) → IsFileOf p file.now
+        → MatchResult result (λ q. object_of q ≡ p) (λ e. e ≡ ObjectRefusal.NoMemory) }
 
     // What is refused has that first fault, unless memory ran out.
     ensures refused { IfErr result (λ e. (e ≡ ObjectRefusal.NoMemory) ⊎ ObjectFault file.now e) }
+
+    // Bytes that have a fault are refused with it, unless memory runs out.
+    ensures refuses { (fault : ObjectRefusal) → ObjectFault file.now fault
+        → MatchResult result (λ _. ⊥) (λ e. (e ≡ ObjectRefusal.NoMemory) ⊎ (e ≡ fault)) }
 {
     judge_start(file)?;
     let parts = claimed(alloc, file)?;
