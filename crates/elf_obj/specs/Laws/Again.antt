@@ -10,7 +10,6 @@ use Rattle.elf_base.specs.Records.{ehdr_fields}
 use Rattle.elf_base.specs.Standing.{ehdr_at}
 use Rattle.elf_base.specs.Laws.Lengths.{length-ehdr}
 use Rattle.elf_base.specs.Laws.RecordsStand.{ehdr_again}
-use Rattle.elf_obj.specs.declared.parts.Symbol.{Symbol}
 use Rattle.elf_obj.specs.declared.parts.Reloc.{Reloc}
 use Rattle.elf_obj.specs.declared.section.Section.{Section}
 use Rattle.elf_obj.specs.declared.sizes.Sizes.{Sizes}
@@ -27,7 +26,7 @@ use Rattle.elf_obj.specs.Laws.SectionsHold.{SectionsHold, AllHere}
 use Rattle.elf_obj.specs.Laws.ZerosBetween.{ZerosBetween, all_between, zeros_between}
 use Rattle.elf_obj.specs.Laws.ReadAgain.{apart, words_again, relocs_again, tags_again, each_name, names_again, symbols_again}
 use Rattle.elf_obj.specs.Laws.SectionsAgain.{SectionsFit, AreGood, AreWithin, are_good, last_gap, good_hold, are_within}
-use Rattle.elf_obj.specs.Laws.Ends.{valid_headers, valid_end, valid_small, valid_rodata, valid_init}
+use Rattle.elf_obj.specs.Laws.Ends.{valid_end, valid_small, valid_rodata, valid_init}
 
 -- ---- the header and the sections
 

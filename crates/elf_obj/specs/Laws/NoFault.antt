@@ -1,6 +1,6 @@
 -- No condition on the file of an object fails.
-use Rattle.std.proofs.Common.{◌≡◌, ℕ, ◌+◌, ◌*◌, ◌<◌, ◌≤◌, ◌^◌, true, false, List, [], ◌∷◌, ◌++◌, length, take, replicate, refl, sym, ap, subst, ◌∙◌, arith, None}
-use Rattle.std.specs.Prelude.{◌&&◌, ◌==◌, nat_le}
+use Rattle.std.proofs.Common.{◌≡◌, ℕ, ◌+◌, ◌≤◌, true, false, List, [], ◌∷◌, ◌++◌, length, take, replicate, refl, sym, ap, subst, ◌∙◌, arith, None}
+use Rattle.std.specs.Prelude.{◌==◌}
 use Rattle.std.specs.List.{flat_map}
 use Rattle.std.specs.Str.{bytes_eq}
 use Rattle.std.proofs.lemmas.List.{length-replicate, take_all}
@@ -20,9 +20,8 @@ use Rattle.elf_obj.specs.Contents.{section_names}
 use Rattle.elf_obj.specs.Rules.{reloc_rule}
 use Rattle.elf_obj.specs.ObjectFile.{IsFileOf}
 use Rattle.elf_obj.specs.Claimed.{headers_at, offset_of, size_of, content_of, claimed}
-use Rattle.elf_obj.specs.Conditions.{Condition, condition, first_fault, stands}
+use Rattle.elf_obj.specs.Conditions.{condition, first_fault, stands}
 use Rattle.elf_obj.specs.ObjectFault.{is_held, all_held, is_zero_between, is_headed, is_strings, is_names, fixed_parts, sizes_in, is_ended, start_conditions, section_conditions, contents_conditions, all_section_conditions, table_conditions, code_conditions, data_conditions, tagged_conditions, object_conditions, conditions}
-use Rattle.elf_obj.specs.Laws.Lengths.{length-names}
 use Rattle.elf_obj.specs.Laws.Fields.{is-stands}
 use Rattle.elf_obj.specs.Laws.RecordsHold.{both_hold}
 use Rattle.elf_obj.specs.Laws.SectionsHold.{AllTrue}

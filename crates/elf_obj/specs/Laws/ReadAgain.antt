@@ -14,8 +14,8 @@ use Rattle.elf_obj.specs.declared.parts.Reloc.{Reloc}
 use Rattle.elf_obj.specs.declared.parts.Home.{Home}
 use Rattle.elf_obj.specs.declared.parts.Home.TheVariants.{Undef, Text, Rodata, Init, Zero}
 use Rattle.elf_obj.specs.declared.sizes.Sizes.{Sizes}
-use Rattle.elf_obj.specs.Records.{home_number, binding_of, function_type, type_of, symbol_record, reloc_record, tag_record, symbols_bytes, reloc_bytes, tag_bytes, name_bytes}
-use Rattle.elf_obj.specs.Rules.{is_in_order, is_named, is_empty, is_new, is_reference, has_place, symbol_keeps, symbols_keep}
+use Rattle.elf_obj.specs.Records.{home_number, binding_of, function_type, type_of, symbol_record, tag_record, symbols_bytes, reloc_bytes, tag_bytes, name_bytes}
+use Rattle.elf_obj.specs.Rules.{is_in_order, is_named, is_empty, is_new, has_place, symbol_keeps, symbols_keep}
 use Rattle.elf_obj.specs.ObjectFile.{NamesFit, AllCounted, AllNumbered, SymbolFits, RelocFits}
 use Rattle.elf_obj.specs.Claimed.{name_first, after_name, names_in, home_of, symbol_at, symbols_at, reloc_at, relocs_at, tag_at, tags_at, words_at}
 use Rattle.elf_obj.specs.Laws.Lengths.{length-sym, length-reloc_bytes, length-tag_bytes, length-word_bytes}
@@ -251,7 +251,7 @@ symbol_again s place at file fit low plainly h =
     let fits : FieldsFit fields =
     (omega (arith, low), (info_low, (omega arith, (home_low s.home, (omega (arith, value_fits), (omega (arith, size_fits), tt)))))) in
     let same : (number 4 (number_at 4 at file) ∷ number 1 (number_at 1 (at + 4) file) ∷ number 1 (number_at 1 (at + 4 + 1) file) ∷ number 2 (number_at 2 (at + 4 + 1 + 1) file)
-        ∷ number 8 (number_at 8 (at + 4 + 1 + 1 + 2) file) ∷ number 8 (number_at 8 (at + 4 + 1 + 1 + 2 + 8) file) ∷ []) ≡ fields = again fields at file fits h in
+    ∷ number 8 (number_at 8 (at + 4 + 1 + 1 + 2) file) ∷ number 8 (number_at 8 (at + 4 + 1 + 1 + 2 + 8) file) ∷ []) ≡ fields = again fields at file fits h in
     let info : number_at 1 (at + 4) file ≡ info_number = cc in
     let home_there : number_at 2 (at + 4 + 1 + 1) file ≡ home_number s.home = cc in
     let value_there : number_at 8 (at + 4 + 1 + 1 + 2) file ≡ s.value = cc in

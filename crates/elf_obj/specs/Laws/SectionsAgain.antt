@@ -1,6 +1,5 @@
 -- In the file of an object each section is as it should be.
 use Rattle.std.proofs.Common.{◌≡◌, ℕ, ◌+◌, ◌*◌, ◌<◌, ◌≤◌, ◌^◌, Bool, true, List, [], ◌∷◌, ◌++◌, length, ap, subst, arith}
-use Rattle.std.specs.Prelude.{◌&&◌}
 use Rattle.std.specs.List.{flat_map}
 use Rattle.mt_base.specs.Granules.{round16}
 use Rattle.elf_base.specs.Field.{StandsAt}

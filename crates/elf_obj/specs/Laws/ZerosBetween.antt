@@ -24,15 +24,15 @@ unfolding is_zero_between
 zero_between file from to h =
     let part : List ℕ = take (to - from) (drop from file) in
     are_zeros part (λ i lt.
-        let within : i < to - from = omega (arith, lt, length-take (to - from) (drop from file)) in
-        get_or-take (to - from) (drop from file) i 0 within ∙ get_or-drop from file i 0 ∙ h (from + i) (omega arith) (omega (arith, within)))
+    let within : i < to - from = omega (arith, lt, length-take (to - from) (drop from file)) in
+    get_or-take (to - from) (drop from file) i 0 within ∙ get_or-drop from file i 0 ∙ h (from + i) (omega arith) (omega (arith, within)))
 
 -- zeros that stand somewhere
 pub zeros_between : (file : List ℕ) (at n : ℕ) → StandsAt file at (replicate n 0) → is_zero_between file at (at + n) ≡ true
 zeros_between file at n h =
     let len = length-replicate {A = ℕ} n 0 in
     zero_between file at (at + n) (λ i low high.
-        byte_of file at (replicate n 0) i h low (omega (arith, high, len)) ∙ get_or-replicate n (i - at) 0 0 (omega (arith, low, high)))
+    byte_of file at (replicate n 0) i h low (omega (arith, high, len)) ∙ get_or-replicate n (i - at) 0 0 (omega (arith, low, high)))
 
 -- ---- the places between pieces
 

@@ -1,4 +1,4 @@
-use Rattle.std.proofs.Common.{◌≡◌, ℕ, List, ◌++◌, ap, ◌∙◌, inl, inr, append_assoc, ◌<◌, ◌^◌, length, sym, subst, arith, None, Some}
+use Rattle.std.proofs.Common.{◌≡◌, ℕ, List, ◌++◌, ap, ◌∙◌, inr, append_assoc, ◌<◌, ◌^◌, length, sym, subst, arith, None, Some}
 use Rattle.std.proofs.lemmas.Result.{err_from_is_err_and}
 use Rattle.elf_base.specs.Laws.Lengths.{IsBytes}
 use Rattle.elf_obj.specs.declared.refusal.ObjectRefusal.{ObjectRefusal}
