@@ -1,4 +1,4 @@
 pub mod Steps
-pub mod Small
 pub mod Faults
 pub mod Claims
+pub mod Names

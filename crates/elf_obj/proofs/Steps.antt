@@ -12,6 +12,7 @@ use Rattle.elf_obj.specs.Sections.{names_end, first_global, contents_end, header
 use Rattle.elf_obj.specs.Records.{symbol_record, symbols_bytes}
 use Rattle.elf_obj.specs.Contents.{header_bytes}
 use Rattle.elf_obj.specs.ObjectFile.{NamesFit, AllCounted, AllNumbered}
+use Rattle.elf_obj.specs.Laws.Ends.{contents_grow}
 
 -- what is left begins with the element of the turn
 pub left : {A : Type 0} (xs : List A) (i : ℕ) (x d : A) → i < length xs → x ≡ get_or xs i d → drop i xs ≡ x ∷ drop (i + 1) xs
@@ -27,10 +28,6 @@ left_at {A} (y ∷ ys) (suc i) x h =
     left_at ys i x h ∙ ap (λ (n : ℕ). x ∷ drop n (y ∷ ys)) (sym next)
 
 -- ---- names
-
-pub names-grow : (place : ℕ) (ss : List Symbol) → place ≤ names_end place ss
-names-grow place [] = omega arith
-names-grow place (s ∷ ss) = omega (arith, names-grow (place + length s.name + 1) ss)
 
 pub names-step : (ss : List Symbol) (i place end : ℕ) (s : Symbol) → drop i ss ≡ s ∷ drop (i + 1) ss → names_end place (drop i ss) ≡ end
     → names_end (place + length s.name + 1) (drop (i + 1) ss) ≡ end
@@ -77,10 +74,6 @@ numbered-at (t ∷ ts) (suc i) d h lt = numbered-at ts i d h.1 (omega arith)
 
 -- ---- sections
 
-pub contents-grow : (at : ℕ) (ss : List Section) → at ≤ contents_end at ss
-contents-grow at [] = omega arith
-contents-grow at (s ∷ ss) = omega (arith, contents-grow (round16 at + s.bytes) ss)
-
 pub contents-step : (ss : List Section) (i at end : ℕ) (s : Section) → drop i ss ≡ s ∷ drop (i + 1) ss → contents_end at (drop i ss) ≡ end
     → contents_end (round16 at + s.bytes) (drop (i + 1) ss) ≡ end
 contents-step ss i at end s is h = sym (ap (contents_end at) is) ∙ h
@@ -95,21 +88,10 @@ headers-step ss i at s all out more is h m =
 
 -- where a turn is, is below where all ends
 pub end-low : (ss : List Section) (i at : ℕ) → contents_end at (drop i ss) ≡ contents_end 64 ss → round16 (contents_end 64 ss) < 2 ^ 63 → at ≤ 2 ^ 63
-end-low ss i at h low = omega (arith, contents-grow at (drop i ss), h, low)
+end-low ss i at h low = omega (arith, contents_grow at (drop i ss), h, low)
 
 pub step-low : (ss : List Section) (i at : ℕ) (s : Section) → drop i ss ≡ s ∷ drop (i + 1) ss → contents_end at (drop i ss) ≡ contents_end 64 ss
     → round16 (contents_end 64 ss) < 2 ^ 63 → round16 at + s.bytes < 2 ^ 64
 step-low ss i at s is h low =
     let next = contents-step ss i at (contents_end 64 ss) s is h in
-    omega (arith, contents-grow (round16 at + s.bytes) (drop (i + 1) ss), next, low)
-
--- each content is below where all ends
-contents-reach : (at : ℕ) (ss : List Section) (i : ℕ) (s : Section) → slice_get ss i ≡ Some s → s.bytes ≤ contents_end at ss
-contents-reach at [] i s h = cc
-contents-reach at (x ∷ xs) zero s h =
-    let same : x ≡ s = cc in
-    omega (arith, ap (λ (t : Section). t.bytes) same, contents-grow (round16 at + x.bytes) xs)
-contents-reach at (x ∷ xs) (suc i) s h = contents-reach (round16 at + x.bytes) xs i s h
-
-pub part-low : (ss : List Section) (i : ℕ) (s : Section) → slice_get ss i ≡ Some s → round16 (contents_end 64 ss) + 768 < 2 ^ 63 → s.bytes < 2 ^ 63
-part-low ss i s h low = omega (arith, contents-reach 64 ss i s h, low)
+    omega (arith, contents_grow (round16 at + s.bytes) (drop (i + 1) ss), next, low)

@@ -12,3 +12,11 @@ pub mod ClaimsFit
 pub mod ClaimedRanges
 pub mod AllHold
 pub mod FileOfClaims
+pub mod Ends
+pub mod ZerosBetween
+pub mod ReadAgain
+pub mod RecordsAgain
+pub mod SectionsAgain
+pub mod Again
+pub mod NoFault
+pub mod OneObject

@@ -10,5 +10,6 @@ pub mod Claimed
 pub mod Conditions
 pub mod ObjectFault
 pub mod Small
+pub mod Repeats
 pub mod Laying
 pub mod Laws

@@ -9,6 +9,7 @@ mod put;
 mod read;
 mod refusal;
 mod relocs;
+mod repeats;
 mod section;
 mod sections;
 mod sizes;

@@ -4,12 +4,13 @@ ghost use Rattle.elf_base.specs.Records.{sym_fields};
 ghost use Rattle.elf_obj.specs.Sections.{names_end};
 ghost use Rattle.elf_obj.specs.Records.{symbol_record};
 ghost use Rattle.elf_obj.specs.Rules.{is_empty, is_named, is_new, is_whole, is_within, has_place, symbol_keeps};
+ghost use Rattle.elf_obj.specs.Repeats.{first_repeat};
 ghost use Rattle.elf_obj.specs.Claimed.{size_of};
 ghost use Rattle.elf_obj.specs.Conditions.{stands, first_fault};
 ghost use Rattle.elf_obj.specs.ObjectFault.{is_symbol, symbol_conditions};
 ghost use Rattle.elf_obj.specs.Laws.Held.{AreHeld};
 
-use crate::file::{size_of, stand_at};
+use crate::file::{both, size_of, stand_at};
 use crate::parts::{Home, Symbol};
 use crate::put::symbol_record;
 use crate::refusal::ObjectRefusal;
@@ -36,21 +37,6 @@ fn is_named(symbol: &Symbol) -> bool
 {
     let name = symbol.name.as_slice();
     !has_zero(name) && (symbol.local || !is_empty(name))
-}
-
-// No earlier symbol that others see has the name.
-fn is_new(earlier: &[Symbol], symbol: &Symbol) -> bool
-    ensures { result ≡ is_new earlier.now symbol.now }
-{
-    if symbol.local {
-        return true;
-    }
-    for other in earlier {
-        if !other.local && other.name.as_slice() == symbol.name.as_slice() {
-            return false;
-        }
-    }
-    true
 }
 
 fn is_whole(symbol: &Symbol) -> bool
@@ -81,16 +67,20 @@ fn has_place(sizes: &Sizes, symbol: &Symbol) -> bool
     }
 }
 
-// The symbol keeps the rules behind the earlier ones, which are all local or not.
+// The symbol keeps the rules behind the earlier ones, which are all local or not, and of which another that is seen has its name or none.
 #[tactic(auto, unfolding(crate::specs::Rules::symbol_keeps))]
-fn symbol_keeps(sizes: &Sizes, earlier: &[Symbol], all_local: bool, symbol: &Symbol) -> bool
-    requires { all_local ≡ list_all (λ e. e.local) earlier.now }
+fn symbol_keeps(
+    sizes: &Sizes,
+    earlier: &[Symbol],
+    all_local: bool,
+    new: bool,
+    symbol: &Symbol,
+) -> bool
+    requires locals { all_local ≡ list_all (λ e. e.local) earlier.now }
+    requires new { new ≡ is_new earlier.now symbol.now }
     ensures { result ≡ symbol_keeps sizes.now earlier.now symbol.now }
 {
-    (!symbol.local || all_local)
-        && is_named(symbol)
-        && is_new(earlier, symbol)
-        && has_place(sizes, symbol)
+    (!symbol.local || all_local) && is_named(symbol) && new && has_place(sizes, symbol)
 }
 
 // The record of the symbol and its name stand where they should, and it keeps the rules.
@@ -102,12 +92,14 @@ fn is_symbol(
     place: u64,
     earlier: &[Symbol],
     all_local: bool,
+    new: bool,
     symbol: &Symbol,
 ) -> bool
     requires start { 64 ≤ length file.now }
     requires held { AreHeld file.now }
     requires within { at + 24 ≤ length file.now }
     requires locals { all_local ≡ list_all (λ e. e.local) earlier.now }
+    requires new { new ≡ is_new earlier.now symbol.now }
     ensures { result ≡ is_symbol file.now sizes.now at place earlier.now symbol.now }
 {
     if place >= 0x1_0000_0000 {
@@ -118,20 +110,22 @@ fn is_symbol(
     write_sym(&symbol_record(place as u32, symbol), &mut bytes);
     stand_at(file, at, &bytes)
         && end <= size_of(file, 6)
-        && symbol_keeps(sizes, earlier, all_local, symbol)
+        && symbol_keeps(sizes, earlier, all_local, new, symbol)
 }
 
-// The first symbol that is not as it should be. Their records begin at a place of the file.
+// The first symbol that is not as it should be. Their records begin at a place of the file, and the first whose name is there already has a number.
 pub(crate) fn judge_symbols(
     file: &[u8],
     sizes: &Sizes,
     at: u64,
+    repeat: usize,
     symbols: &[Symbol],
 ) -> Result<(), ObjectRefusal>
     requires start { 64 ≤ length file.now }
     requires held { AreHeld file.now }
     requires within { 1 ≤ length symbols.now → at + 24 * length symbols.now ≤ length file.now }
     requires names { names_end 1 symbols.now < 2 ^ 64 }
+    requires repeat { repeat ≡ first_repeat 0 [] symbols.now }
     ensures { MatchResult result
         (λ _. first_fault (symbol_conditions file.now sizes.now at 1 1 [] symbols.now) ≡ None)
         (λ e. first_fault (symbol_conditions file.now sizes.now at 1 1 [] symbols.now) ≡ Some e) }
@@ -142,13 +136,14 @@ pub(crate) fn judge_symbols(
         let symbol = &symbols[index];
         let here = at + 24 * index as u64;
         let earlier = &symbols[..index];
-        if !is_symbol(file, sizes, here, place, earlier, all_local, symbol) {
+        let new = index != repeat;
+        if !is_symbol(file, sizes, here, place, earlier, all_local, new, symbol) {
             return Err(ObjectRefusal::BadSymbol {
                 index: index as u64 + 1,
             });
         }
         place += symbol.name.as_slice().len() as u64 + 1;
-        all_local = all_local && symbol.local;
+        all_local = both(all_local, symbol.local);
     }
     Ok(())
 }

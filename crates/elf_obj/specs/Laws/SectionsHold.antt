@@ -27,7 +27,7 @@ pub record SectionHolds (file : List ℕ) (at k : ℕ) (s : Section) : Type 0 wh
   pub header : StandsAt file (headers_at file + 64 * k) (header_bytes (header_of s (round16 at)))
   pub gap : is_zero_between file at (round16 at) ≡ true
 
-section_holds : (file : List ℕ) (at k : ℕ) (s : Section) → is_section file at k s ≡ true → at ≤ 2 ^ 63 → s.size < 2 ^ 64 → SectionHolds file at k s
+pub section_holds : (file : List ℕ) (at k : ℕ) (s : Section) → is_section file at k s ≡ true → at ≤ 2 ^ 63 → s.size < 2 ^ 64 → SectionHolds file at k s
 unfolding is_section
 section_holds file at k s h low small =
     let n : Named file k s (round16 at) = named file at k s h (omega (arith, low)) small in

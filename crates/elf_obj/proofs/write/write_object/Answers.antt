@@ -9,17 +9,17 @@ use Rattle.elf_obj.specs.Records.{header}
 use Rattle.elf_obj.specs.Laying.{put_next, put_contents}
 use Rattle.elf_obj.specs.Contents.{contents, header_bytes}
 use Rattle.elf_obj.specs.Laws.Whole.{first_bytes, written, is_file}
-use Rattle.elf_obj.proofs.Small.{valid-headers, valid-small}
+use Rattle.elf_obj.specs.Laws.Ends.{valid_headers, valid_small}
 use Rattle.elf_obj.proofs.write.write_object.Goals as goal
 
 pub sizes_of-sizes-requires : goal.sizes_of-sizes-requires
-sizes_of-sizes-requires c = valid-small (object_of c.args.parts.now) c.requires
+sizes_of-sizes-requires c = valid_small (object_of c.args.parts.now) c.requires
 
 pub headers_place-requires : goal.headers_place-requires
-headers_place-requires c = rw c.sizes_of-sizes.ensures (valid-headers (object_of c.args.parts.now) c.requires)
+headers_place-requires c = rw c.sizes_of-sizes.ensures (valid_headers (object_of c.args.parts.now) c.requires)
 
 pub put_end-requires-clause-small : goal.put_end-requires-clause-small
-put_end-requires-clause-small c = rw c.sizes_of-sizes.ensures (valid-headers (object_of c.args.parts.now) c.requires)
+put_end-requires-clause-small c = rw c.sizes_of-sizes.ensures (valid_headers (object_of c.args.parts.now) c.requires)
 
 pub returns : goal.returns
 returns c =
