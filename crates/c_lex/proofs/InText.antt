@@ -9,7 +9,7 @@ use Rattle.c_ast.specs.declared.int_type.IntType.{IntType}
 use Rattle.c_ast.specs.declared.token.Lexeme.{Lexeme}
 use Rattle.c_ast.specs.declared.token.Lexeme.TheVariants as lexeme
 use Rattle.c_ast.specs.Seen.{Seen}
-use Rattle.c_lex.specs.Numeral.{greatest, first_type, listed_types, is_constant_type}
+use Rattle.c_lex.specs.ConstantTypes.{greatest, first_type, listed_types, is_constant_type}
 use Rattle.c_lex.specs.Constant.{IsConstant}
 use Rattle.c_lex.specs.Spelling.{Spells}
 use Rattle.c_lex.specs.Tokens.{TokenAt, Reaches, start, gap, token, Tokens, IsTyped, IsInText}
@@ -48,7 +48,7 @@ spelled-typed (lexeme.Name name) bytes spells = tt
 spelled-typed (lexeme.Number value ty) bytes spells = of_constant spells
   where
     of_constant : IsConstant value ty bytes → (is_constant_type ty ≡ true) × (value ≤ greatest ty)
-    of_constant c = first_type-some value ty _ c.typed (listed-constant _ c.unsigned c.long)
+    of_constant c = first_type-some value ty _ c.typed (listed-constant _ c.written.unsigned c.written.long)
 spelled-typed (lexeme.Character value) bytes spells = tt
 spelled-typed (lexeme.Text values) bytes spells = tt
 spelled-typed (lexeme.Keyword number) bytes spells = tt

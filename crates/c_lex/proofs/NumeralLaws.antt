@@ -9,8 +9,10 @@ use Rattle.c_ast.specs.declared.int_type.IntType.TheVariants.{Char, SignedChar, 
 use Rattle.c_lex.specs.declared.reading.Reading.{Reading}
 use Rattle.c_lex.specs.Digits.{is_digit_of}
 use Rattle.c_lex.specs.Scan.Digits.{value_of}
-use Rattle.c_lex.specs.Numeral.{numeral_at, radix_of, prefix_bytes, is_unsigned_mark, is_long_mark, suffix_bytes, digit_count, digits_end}
-use Rattle.c_lex.specs.Numeral.{fitting_bytes, is_numeral, numeral_value, listed_types, greatest, first_type}
+use Rattle.c_lex.specs.ConstantTypes.{listed_types, greatest, first_type}
+use Rattle.c_lex.specs.Constant.{is_unsigned_mark, is_long_mark}
+use Rattle.c_lex.specs.Scan.Numeral.{numeral_at, radix_of, prefix_bytes, suffix_bytes, digit_count, digits_end}
+use Rattle.c_lex.specs.Scan.Numeral.{fitting_bytes, is_numeral, numeral_value}
 use Rattle.c_lex.specs.Scan.Reading.{typed_number, read_number}
 use Rattle.c_lex.specs.Laws.DigitValues.{value_of-number_of}
 

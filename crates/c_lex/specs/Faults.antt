@@ -3,11 +3,13 @@ use Rattle.std.specs.Prelude.{◌≡◌, ◌≢◌, ℕ, IsTrue, ◌+◌, ◌<�
 use Rattle.std.specs.Prelude.{slice_index, None}
 use Rattle.std.specs.Char.{is_ascii_digit}
 use Rattle.c_ast.specs.Seen.{Seen}
+use Rattle.c_ast.specs.declared.int_type.IntType.{IntType}
 use Rattle.c_ast.specs.Words.{punctuator_of}
 use Rattle.c_lex.specs.declared.fault.Fault.{Fault}
 use Rattle.c_lex.specs.declared.fault.Fault.TheVariants.{BadByte, UnclosedText, UnclosedComment, NumberTooLarge, BadDirective}
 use Rattle.c_lex.specs.Bytes.{is_white, is_letter, is_cut_off}
-use Rattle.c_lex.specs.Numeral.{numeral_at, is_numeral, fitting_bytes, numeral_type}
+use Rattle.c_lex.specs.Constant.{IsInteger, IsConstant}
+use Rattle.c_lex.specs.Number.{NumberAt, FitsTo}
 use Rattle.c_lex.specs.Written.{WrittenAt, IsUnwritten}
 use Rattle.c_lex.specs.Directive.{is_include_line}
 use Rattle.c_lex.specs.Gap.{begins_line_comment, begins_block_comment, block_comment}
@@ -45,12 +47,12 @@ pub data FaultAt (rest : List ℕ) : Fault → ℕ → Type 0 where
       ((bytes : ℕ) → bytes ≤ length rest → punctuator_of (take bytes rest) ≡ None) → FaultAt rest BadByte 0
   -- `/*` and no `*/` behind it
   unclosed_comment : begins_block_comment rest ≡ true → block_comment rest ≡ None → FaultAt rest UnclosedComment 0
-  -- a number, at its first byte that does not fit, which is the place behind `0x` where no digit follows
-  unfit_number : is_ascii_digit (slice_index rest 0) ≡ true → is_numeral (numeral_at rest) ≡ false
-      → FaultAt rest BadByte (fitting_bytes (numeral_at rest))
-  -- a number that no type of its list holds
-  large_number : is_ascii_digit (slice_index rest 0) ≡ true → is_numeral (numeral_at rest) ≡ true → numeral_type (numeral_at rest) ≡ None →
-      FaultAt rest NumberTooLarge 0
+  -- a number that is no integer constant, behind the bytes with which one may begin: behind `0x`, where no digit follows
+  unfit_number : {bytes place : ℕ} → NumberAt rest bytes → ¬ IsInteger (take bytes rest) → FitsTo (take bytes rest) place →
+      FaultAt rest BadByte place
+  -- an integer constant whose value no type of its list holds
+  large_number : {bytes : ℕ} → NumberAt rest bytes → IsInteger (take bytes rest) →
+      ((value : ℕ) (ty : IntType) → ¬ IsConstant value ty (take bytes rest)) → FaultAt rest NumberTooLarge 0
   -- a string, at the first place behind its items that holds what may not stand there
   wrong_in_text : {what : Fault} {place : ℕ} → slice_index rest 0 ≡ 34 → AreItems 34 (drop 1 rest) place
       → IsWrong 34 (drop (1 + place) rest) what →

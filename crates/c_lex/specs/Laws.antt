@@ -24,6 +24,8 @@ pub mod Literals
 pub mod Suffixes
 pub mod Constants
 pub mod ConstantNumbers
+pub mod Fitting
+pub mod NumberFaults
 pub mod Scanned
 pub mod ScannedFaults
 pub mod FaultForms

@@ -1,7 +1,8 @@
 pub mod Bytes
 pub mod Digits
-pub mod Numeral
+pub mod ConstantTypes
 pub mod Constant
+pub mod Number
 pub mod Escape
 pub mod Written
 pub mod Directive

@@ -1,11 +1,10 @@
 -- Which bytes spell which token (C11 6.4).
 use Rattle.std.specs.Prelude.{◌≡◌, ℕ, Bool, IsTrue, false, ◌&&◌, List, [], ◌∷◌, Some, None}
 use Rattle.std.specs.List.{list_all}
-use Rattle.std.specs.Char.{is_ascii_digit}
 use Rattle.c_ast.specs.declared.token.Lexeme.{Lexeme}
 use Rattle.c_ast.specs.declared.token.Lexeme.TheVariants.{Include, Name, Number, Character, Text, Keyword, Punct}
 use Rattle.c_ast.specs.Words.{keyword_of, punctuator_of}
-use Rattle.c_lex.specs.Bytes.{is_letter, is_word, is_numeral_byte}
+use Rattle.c_lex.specs.Bytes.{is_letter, is_word}
 use Rattle.c_lex.specs.Constant.{IsConstant}
 use Rattle.c_lex.specs.Written.{IsCharacter, IsText}
 use Rattle.c_lex.specs.Directive.{is_include}
@@ -14,11 +13,6 @@ use Rattle.c_lex.specs.Directive.{is_include}
 abbrev pub is_identifier : List ℕ → Bool
 is_identifier [] = false
 is_identifier (b ∷ rest) = is_letter b && list_all is_word rest
-
--- a digit, then digits, letters, `_` and `.` (C11 6.4.8, a preprocessing number without signs or a leading period)
-abbrev pub is_preprocessing_number : List ℕ → Bool
-is_preprocessing_number [] = false
-is_preprocessing_number (b ∷ rest) = is_ascii_digit b && list_all is_numeral_byte rest
 
 -- These bytes alone are this token. A name is its own spelling and no keyword; keywords and punctuators are spelled
 -- by their lists; a number is an integer constant of its value and type; a character and a string have the values of

@@ -5,7 +5,7 @@ use Rattle.c_ast.specs.declared.token.Lexeme.TheVariants as lexeme
 use Rattle.c_ast.specs.Seen.{Seen}
 use Rattle.c_lex.specs.declared.fault.Fault.{Fault}
 use Rattle.c_lex.specs.Gap.{begins_line_comment, begins_block_comment, gap_bytes}
-use Rattle.c_lex.specs.Numeral.{greatest, is_constant_type}
+use Rattle.c_lex.specs.ConstantTypes.{greatest, is_constant_type}
 use Rattle.c_lex.specs.Spelling.{Spells}
 use Rattle.c_lex.specs.Faults.{Faulty}
 

@@ -3,7 +3,9 @@
 ghost use Rattle.std.specs.Prelude.{◌≡◌, ℕ, ◌<◌, ◌≤◌, ◌^◌, length};
 ghost use Rattle.std.specs.List.{list_any};
 ghost use Rattle.std.specs.Option.{SomeIff};
-ghost use Rattle.c_lex.specs.Numeral as spec;
+ghost use Rattle.c_lex.specs.Constant as spec_constant;
+ghost use Rattle.c_lex.specs.ConstantTypes as spec_types;
+ghost use Rattle.c_lex.specs.Scan.Numeral as spec;
 ghost use Rattle.c_lex.specs.Scan.Reading as spec_reading;
 
 use crate::bytes::{Kind, byte, run};
@@ -34,13 +36,13 @@ fn prefix_bytes(radix: u8) -> usize
 }
 
 fn is_unsigned_mark(b: u8) -> bool
-    ensures { result ≡ spec.is_unsigned_mark b }
+    ensures { result ≡ spec_constant.is_unsigned_mark b }
 {
     b == b'u' || b == b'U'
 }
 
 fn is_long_mark(b: u8) -> bool
-    ensures { result ≡ spec.is_long_mark b }
+    ensures { result ≡ spec_constant.is_long_mark b }
 {
     b == b'l' || b == b'L'
 }
@@ -60,7 +62,7 @@ fn suffix_bytes(bytes: &[u8]) -> usize
 }
 
 fn listed_types(is_decimal: bool, is_unsigned: bool, is_long: bool) -> &'static [IntType]
-    ensures { result.now ≡ spec.listed_types is_decimal is_unsigned is_long }
+    ensures { result.now ≡ spec_types.listed_types is_decimal is_unsigned is_long }
 {
     match (is_decimal, is_unsigned, is_long) {
         (true, false, false) => &[IntType::Int, IntType::Long],
@@ -73,7 +75,7 @@ fn listed_types(is_decimal: bool, is_unsigned: bool, is_long: bool) -> &'static 
 }
 
 fn greatest(ty: IntType) -> u64
-    ensures { result ≡ spec.greatest ty }
+    ensures { result ≡ spec_types.greatest ty }
 {
     match ty {
         IntType::Char | IntType::UnsignedChar => u8::MAX as u64,
@@ -88,7 +90,7 @@ fn greatest(ty: IntType) -> u64
 }
 
 fn first_type(value: u64, mut types: &[IntType]) -> Option<IntType>
-    ensures { result ≡ spec.first_type value types.entry.now }
+    ensures { result ≡ spec_types.first_type value types.entry.now }
 {
     while let [ty, rest @ ..] = types {
         if value <= greatest(*ty) {
@@ -100,20 +102,20 @@ fn first_type(value: u64, mut types: &[IntType]) -> Option<IntType>
 }
 
 fn has_unsigned_mark(suffix: &[u8]) -> bool
-    ensures { result ≡ list_any spec.is_unsigned_mark suffix.now }
+    ensures { result ≡ list_any spec_constant.is_unsigned_mark suffix.now }
 {
     suffix.iter().any(|b| is_unsigned_mark(*b))
 }
 
 fn has_long_mark(suffix: &[u8]) -> bool
-    ensures { result ≡ list_any spec.is_long_mark suffix.now }
+    ensures { result ≡ list_any spec_constant.is_long_mark suffix.now }
 {
     suffix.iter().any(|b| is_long_mark(*b))
 }
 
 /// A number of so many bytes whose value is below 2^64, or too large for any type where it is not.
 fn typed_number(value: Option<u64>, types: &[IntType], bytes: usize) -> Reading
-    ensures { (n : ℕ) → SomeIff value (n < 2 ^ 64) n → result ≡ spec_reading.typed_number n (spec.first_type n types.now) bytes }
+    ensures { (n : ℕ) → SomeIff value (n < 2 ^ 64) n → result ≡ spec_reading.typed_number n (spec_types.first_type n types.now) bytes }
 {
     match value {
         None => Reading::Fault(Fault::NumberTooLarge, 0),

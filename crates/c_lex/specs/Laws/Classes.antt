@@ -12,7 +12,8 @@ use Rattle.c_ast.specs.Words.{keywords, punctuators, keyword_of, punctuator_of}
 use Rattle.c_lex.specs.Bytes.{is_white, is_letter, is_word, is_numeral_byte}
 use Rattle.c_lex.specs.Scan.Quoted.{character_of, text_of}
 use Rattle.c_lex.specs.Directive.{is_include}
-use Rattle.c_lex.specs.Spelling.{is_identifier, is_preprocessing_number}
+use Rattle.c_lex.specs.Number.{is_preprocessing_number}
+use Rattle.c_lex.specs.Spelling.{is_identifier}
 use Rattle.c_lex.specs.Laws.Scanned.{Scans}
 use Rattle.c_lex.specs.Scan.Words.{is_second_of_punctuator}
 use Rattle.c_lex.specs.Laws.Slices.{in_table}
@@ -87,7 +88,7 @@ number-class (b ∷ rest) h =
     let digit = (and_parts (is_ascii_digit b) (list_all is_numeral_byte rest) h).0 in
     rw (digit-is_no_letter b digit, digit) refl
 
-number-all : (bytes : List ℕ) → is_preprocessing_number bytes ≡ true → list_all is_numeral_byte bytes ≡ true
+pub number-all : (bytes : List ℕ) → is_preprocessing_number bytes ≡ true → list_all is_numeral_byte bytes ≡ true
 number-all [] h = cc
 number-all (b ∷ rest) h =
     let parts = and_parts (is_ascii_digit b) (list_all is_numeral_byte rest) h in

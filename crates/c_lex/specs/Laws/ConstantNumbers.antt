@@ -7,8 +7,8 @@ use Rattle.std.proofs.lemmas.List.Folds.{list_all-append}
 use Rattle.c_ast.specs.declared.int_type.IntType.{IntType}
 use Rattle.c_lex.specs.Bytes.{is_numeral_byte}
 use Rattle.c_lex.specs.Digits.{is_digit_of, are_digits}
-use Rattle.c_lex.specs.Spelling.{is_preprocessing_number}
-use Rattle.c_lex.specs.Constant.{Based, decimal, octal, hexadecimal, IsConstant}
+use Rattle.c_lex.specs.Number.{is_preprocessing_number}
+use Rattle.c_lex.specs.Constant.{Based, decimal, octal, hexadecimal, IsInteger, IsConstant}
 use Rattle.c_lex.specs.Laws.Suffixes.{suffix-found}
 
 -- a digit of any base is a digit or a letter
@@ -90,4 +90,7 @@ based-number suffix (hexadecimal {x = x} {first = first} {more = more} letter al
     (goes_on 16 (first ∷ more) suffix (omega arith) all marks)
 
 pub constant-number : (value : ℕ) (ty : IntType) (bytes : List ℕ) → IsConstant value ty bytes → is_preprocessing_number bytes ≡ true
-constant-number value ty bytes c = ap is_preprocessing_number c.parts ∙ based-number c.suffix c.based (suffix-found c.marked).numeral
+constant-number value ty bytes c = integer-number bytes c.written
+  where
+    integer-number : (bytes : List ℕ) → IsInteger bytes → is_preprocessing_number bytes ≡ true
+    integer-number bytes i = ap is_preprocessing_number i.parts ∙ based-number i.suffix i.based (suffix-found i.marked).numeral

@@ -8,10 +8,10 @@ use Rattle.std.proofs.lemmas.List.{take-append-drop, length-append}
 use Rattle.std.proofs.Math.Seq.{drop-append_seam, take-append_seam}
 use Rattle.c_ast.specs.declared.int_type.IntType.{IntType}
 use Rattle.c_lex.specs.Digits.{is_digit_of, are_digits, number_of}
-use Rattle.c_lex.specs.Numeral.{radix_of, prefix_bytes, is_unsigned_mark, is_long_mark, suffix_bytes, digit_count, digits_end}
-use Rattle.c_lex.specs.Numeral.{fitting_bytes}
-use Rattle.c_lex.specs.Numeral.{is_numeral, numeral_value, numeral_type, listed_types, first_type}
-use Rattle.c_lex.specs.Constant.{Based, decimal, octal, hexadecimal, IsConstant}
+use Rattle.c_lex.specs.ConstantTypes.{listed_types, first_type}
+use Rattle.c_lex.specs.Constant.{Based, decimal, octal, hexadecimal, is_unsigned_mark, is_long_mark, IsInteger, IsConstant}
+use Rattle.c_lex.specs.Scan.Numeral.{radix_of, prefix_bytes, suffix_bytes, digit_count, digits_end, fitting_bytes}
+use Rattle.c_lex.specs.Scan.Numeral.{is_numeral, numeral_value, numeral_type}
 use Rattle.c_lex.specs.Laws.Slices.{list_all-front}
 use Rattle.c_lex.specs.Laws.Suffixes.{IsSuffix, suffix-found, found-suffix}
 
@@ -75,10 +75,9 @@ suffix_whole bytes some fits =
     rw (ne_eqb (digit_count bytes) 0 (λ none. omega (arith, some, none))) at fitting in
     omega (arith, sum, length-drop (digits_end bytes) bytes)
 
--- what the scanner finds to be a number is an integer constant
-pub numeral-constant : (value : ℕ) (ty : IntType) (bytes : List ℕ) → is_numeral bytes ≡ true → value ≡ numeral_value bytes →
-    numeral_type bytes ≡ Some ty → IsConstant value ty bytes
-numeral-constant value ty bytes numeral value_is typed =
+-- what the scanner finds to be a number is written as an integer constant
+pub numeral-integer : (bytes : List ℕ) → is_numeral bytes ≡ true → IsInteger bytes
+numeral-integer bytes numeral =
     let tests = and_parts (ltb 0 (digit_count bytes)) (eqb (fitting_bytes bytes) (length bytes)) numeral in
     let some : 0 < digit_count bytes = ltb-true 0 (digit_count bytes) tests.0 in
     let prefix = prefix_bytes (radix_of bytes) in
@@ -96,6 +95,16 @@ numeral-constant value ty bytes numeral value_is typed =
           ∙ ap (λ l. take prefix bytes ++ l) (take-append-drop (digit_count bytes) behind) ∙ take-append-drop prefix bytes);
       based = numeral_fits bytes some;
       marked = found-suffix suffix (suffix_whole bytes some tests.1);
+    }
+
+-- and one of its value and type
+pub numeral-constant : (value : ℕ) (ty : IntType) (bytes : List ℕ) → is_numeral bytes ≡ true → value ≡ numeral_value bytes →
+    numeral_type bytes ≡ Some ty → IsConstant value ty bytes
+unfolding numeral-integer
+numeral-constant value ty bytes numeral value_is typed =
+    let suffix = drop (digits_end bytes) bytes in
+    record {
+      written = numeral-integer bytes numeral;
       valued = value_is;
       typed =
           ap (λ v. first_type v (listed_types (eqb (radix_of bytes) 10) (list_any is_unsigned_mark suffix) (list_any is_long_mark suffix)))
@@ -197,34 +206,51 @@ numeral_of radix prefix digits suffix bytes parts at =
           ∙ drop-append_seam digits suffix;
     }
 
--- an integer constant is what the scanner finds to be a number, with its value and type
+-- the number that is written, and the list of its types
+record IsFound (bytes : List ℕ) (i : IsInteger bytes) : Type 0 where
+  numeral : is_numeral bytes ≡ true
+  value_found : number_of i.radix i.digits ≡ numeral_value bytes
+  types_found : listed_types (eqb (radix_of bytes) 10) (list_any is_unsigned_mark (drop (digits_end bytes) bytes))
+      (list_any is_long_mark (drop (digits_end bytes) bytes)) ≡ listed_types (eqb i.radix 10) i.unsigned i.long
+
+found : (bytes : List ℕ) (i : IsInteger bytes) → IsFound bytes i
+found bytes i =
+    let marks = suffix-found i.marked in
+    let at = front i.based marks in
+    let is = numeral_of i.radix i.prefix i.digits i.suffix bytes i.parts at in
+    let some : digit_count bytes ≡ 0 → ⊥ = λ none. omega (arith, none, is.count_found, at.some) in
+    let size : prefix_bytes (radix_of bytes) ≡ length i.prefix = ap prefix_bytes is.radix_found ∙ at.prefix_is in
+    let whole : length bytes ≡ length i.prefix + (length i.digits + length i.suffix) =
+    ap length i.parts ∙ length-append i.prefix (i.digits ++ i.suffix) ∙ ap (λ n. length i.prefix + n) (length-append i.digits i.suffix) in
+    let marked : suffix_bytes (drop (digits_end bytes) bytes) ≡ length i.suffix = ap suffix_bytes is.suffix_found ∙ marks.whole in
+    let fitting : digits_end bytes + suffix_bytes (drop (digits_end bytes) bytes) ≡ length bytes =
+    omega (arith, size, is.count_found, marked, whole) in
+    let fits : fitting_bytes bytes ≡ length bytes = rw (ne_eqb (digit_count bytes) 0 some) fitting in
+    record {
+      numeral = and_from _ _ (lt-ltb 0 (digit_count bytes) (omega (arith, some))) (eq-eqb _ _ fits);
+      value_found = ap (λ r. number_of r i.digits) (sym is.radix_found) ∙ ap (number_of (radix_of bytes)) (sym is.digits_found);
+      types_found =
+          ap (λ r. listed_types (eqb r 10) (list_any is_unsigned_mark (drop (digits_end bytes) bytes))
+          (list_any is_long_mark (drop (digits_end bytes) bytes))) is.radix_found
+          ∙ ap (λ l. listed_types (eqb i.radix 10) (list_any is_unsigned_mark l) (list_any is_long_mark l)) is.suffix_found
+          ∙ ap (λ u. listed_types (eqb i.radix 10) u (list_any is_long_mark i.suffix)) marks.unsigned_mark
+          ∙ ap (λ l. listed_types (eqb i.radix 10) i.unsigned l) marks.long_mark;
+    }
+
+-- what is written as an integer constant is what the scanner finds to be a number
+pub integer-numeral : (bytes : List ℕ) → IsInteger bytes → is_numeral bytes ≡ true
+integer-numeral bytes i = (found bytes i).numeral
+
+-- and a constant has the value and type that it finds
 pub constant-numeral : (value : ℕ) (ty : IntType) (bytes : List ℕ) → IsConstant value ty bytes →
     (is_numeral bytes ≡ true) × (value ≡ numeral_value bytes) × (numeral_type bytes ≡ Some ty)
 constant-numeral value ty bytes c =
-    let marks = suffix-found c.marked in
-    let at = front c.based marks in
-    let found = numeral_of c.radix c.prefix c.digits c.suffix bytes c.parts at in
-    let some : digit_count bytes ≡ 0 → ⊥ = λ none. omega (arith, none, found.count_found, at.some) in
-    let value_is : value ≡ numeral_value bytes =
-    c.valued ∙ ap (λ r. number_of r c.digits) (sym found.radix_found) ∙ ap (number_of (radix_of bytes)) (sym found.digits_found) in
-    let size : prefix_bytes (radix_of bytes) ≡ length c.prefix = ap prefix_bytes found.radix_found ∙ at.prefix_is in
-    let whole : length bytes ≡ length c.prefix + (length c.digits + length c.suffix) =
-    ap length c.parts ∙ length-append c.prefix (c.digits ++ c.suffix) ∙ ap (λ n. length c.prefix + n) (length-append c.digits c.suffix) in
-    let marked : suffix_bytes (drop (digits_end bytes) bytes) ≡ length c.suffix = ap suffix_bytes found.suffix_found ∙ marks.whole in
-    let fitting : digits_end bytes + suffix_bytes (drop (digits_end bytes) bytes) ≡ length bytes =
-    omega (arith, size, found.count_found, marked, whole) in
-    let fits : fitting_bytes bytes ≡ length bytes = rw (ne_eqb (digit_count bytes) 0 some) fitting in
-    let types : listed_types (eqb (radix_of bytes) 10) (list_any is_unsigned_mark (drop (digits_end bytes) bytes))
-    (list_any is_long_mark (drop (digits_end bytes) bytes)) ≡ listed_types (eqb c.radix 10) c.unsigned c.long =
-    ap (λ r. listed_types (eqb r 10) (list_any is_unsigned_mark (drop (digits_end bytes) bytes))
-    (list_any is_long_mark (drop (digits_end bytes) bytes))) found.radix_found
-    ∙ ap (λ l. listed_types (eqb c.radix 10) (list_any is_unsigned_mark l) (list_any is_long_mark l)) found.suffix_found
-    ∙ ap (λ u. listed_types (eqb c.radix 10) u (list_any is_long_mark c.suffix)) marks.unsigned_mark
-    ∙ ap (λ l. listed_types (eqb c.radix 10) c.unsigned l) marks.long_mark in (
-      and_from _ _ (lt-ltb 0 (digit_count bytes) (omega (arith, some))) (eq-eqb _ _ fits),
+    let is = found bytes c.written in
+    let value_is : value ≡ numeral_value bytes = c.valued ∙ is.value_found in (
+      is.numeral,
       value_is,
-      ap (first_type (numeral_value bytes)) types
-          ∙ ap (λ v. first_type v (listed_types (eqb c.radix 10) c.unsigned c.long)) (sym value_is) ∙ c.typed,
+      ap (first_type (numeral_value bytes)) is.types_found
+          ∙ ap (λ v. first_type v (listed_types (eqb c.written.radix 10) c.written.unsigned c.written.long)) (sym value_is) ∙ c.typed,
     )
 
 -- the bytes of a constant have one value and one type

@@ -1,12 +1,15 @@
--- The faults by what is written between quotes are those by what the scanner finds there.
+-- The faults of the definitions are those by what the scanner finds.
 use Rattle.std.proofs.Common.{◌≡◌, ◌≢◌, ℕ, List, drop, get_or, ◌+◌, eqb, false, refl, subst, sym, ◌∙◌}
 use Rattle.std.proofs.lemmas.Bool.{eqb-false}
 use Rattle.c_lex.specs.declared.fault.Fault.{Fault}
 use Rattle.c_lex.specs.declared.fault.Fault.TheVariants.{BadByte, NumberTooLarge}
 use Rattle.c_lex.specs.Faults.{IsWrong, unwritten, large, AreItems, none, more, FaultAt, stray, unclosed_comment, unfit_number}
-use Rattle.c_lex.specs.Faults.{large_number}
 use Rattle.c_lex.specs.Faults.{wrong_in_text, unclosed_text, empty_character, wrong_in_character, long_character, unclosed_quote}
-use Rattle.c_lex.specs.Faults.{unclosed_character}
+use Rattle.c_lex.specs.Faults.{large_number, unclosed_character}
+use Rattle.c_lex.specs.Scan.Numeral.{numeral_at}
+use Rattle.c_lex.specs.Laws.Constants.{numeral-integer}
+use Rattle.c_lex.specs.Laws.NumberFaults.{at-digit, digit-at, no-numeral, no-integer, numeral-fits, fits-numeral, integer-found, no-type}
+use Rattle.c_lex.specs.Laws.NumberFaults.{no-constant}
 use Rattle.c_lex.specs.Laws.ScannedFaults as scanned
 use Rattle.c_lex.specs.Laws.ItemFaults.{IsWrongAs, item-wrong, wrong-item}
 use Rattle.c_lex.specs.Laws.Items.{byte-written, large-written, bad-unwritten, written-byte, written-large, unwritten-bad}
@@ -46,8 +49,9 @@ module _ (quote : ℕ) (usual : eqb 92 quote ≡ false) where
 pub fault-scanned : (rest : List ℕ) (what : Fault) (place : ℕ) → FaultAt rest what place → scanned.FaultAt rest what place
 fault-scanned rest _ _ (stray some other apart never) = scanned.stray some other apart never
 fault-scanned rest _ _ (unclosed_comment begins open_end) = scanned.unclosed_comment begins open_end
-fault-scanned rest _ _ (unfit_number digit unfit) = scanned.unfit_number digit unfit
-fault-scanned rest _ _ (large_number digit numeral over) = scanned.large_number digit numeral over
+fault-scanned rest _ _ (unfit_number at never fits) =
+    subst (scanned.FaultAt rest BadByte) (fits-numeral at fits) (scanned.unfit_number (at-digit at) (no-numeral at never))
+fault-scanned rest _ _ (large_number at i never) = scanned.large_number (at-digit at) (integer-found at i) (no-type at i never)
 fault-scanned rest _ _ (wrong_in_text {what = what} {place = place} is items bad) =
     scanned.wrong_in_text is (items-scanned 34 refl (drop 1 rest) place items) (wrong-scanned 34 refl (drop (1 + place) rest) what bad)
 fault-scanned rest _ _ (unclosed_text {place = place} is items ends) =
@@ -64,8 +68,10 @@ fault-scanned rest _ _ (unclosed_character {value = value} {bytes = bytes} is wr
 pub scanned-fault : (rest : List ℕ) (what : Fault) (place : ℕ) → scanned.FaultAt rest what place → FaultAt rest what place
 scanned-fault rest _ _ (scanned.stray some other apart never) = stray some other apart never
 scanned-fault rest _ _ (scanned.unclosed_comment begins open_end) = unclosed_comment begins open_end
-scanned-fault rest _ _ (scanned.unfit_number digit unfit) = unfit_number digit unfit
-scanned-fault rest _ _ (scanned.large_number digit numeral over) = large_number digit numeral over
+scanned-fault rest _ _ (scanned.unfit_number digit unfit) =
+    unfit_number (digit-at rest digit) (no-integer rest unfit) (numeral-fits rest digit)
+scanned-fault rest _ _ (scanned.large_number digit numeral over) =
+    large_number (digit-at rest digit) (numeral-integer (numeral_at rest) numeral) (no-constant rest over)
 scanned-fault rest _ _ (scanned.wrong_in_text {what = what} {place = place} is items bad) =
     wrong_in_text is (scanned-items 34 refl (drop 1 rest) place items) (scanned-wrong 34 refl (drop (1 + place) rest) what bad)
 scanned-fault rest _ _ (scanned.unclosed_text {place = place} is items ends) =

@@ -14,7 +14,7 @@ use Rattle.c_lex.specs.declared.reading.Line.{Line}
 use Rattle.c_lex.specs.declared.reading.Reading.{Reading}
 use Rattle.c_lex.specs.declared.reading.Reading.TheVariants.{Gap, Token, Fault}
 use Rattle.c_lex.specs.Bytes.{is_letter, is_white, is_in_line}
-use Rattle.c_lex.specs.Numeral.{numeral_value, numeral_type}
+use Rattle.c_lex.specs.Scan.Numeral.{numeral_value, numeral_type}
 use Rattle.c_lex.specs.Scan.Quoted.{character_of, text_of}
 use Rattle.c_lex.specs.Gap.{begins_line_comment, begins_block_comment, comment_end, block_comment, gap_bytes}
 use Rattle.c_lex.specs.Spelling.{Spells}

@@ -3,10 +3,11 @@ use Rattle.std.specs.Prelude.{◌≡◌, ℕ, IsTrue, List, Some, None}
 use Rattle.c_ast.specs.declared.token.Lexeme.{Lexeme}
 use Rattle.c_ast.specs.declared.token.Lexeme.TheVariants.{Include, Name, Number, Character, Text, Keyword, Punct}
 use Rattle.c_ast.specs.Words.{keyword_of, punctuator_of}
-use Rattle.c_lex.specs.Numeral.{is_numeral, numeral_value, numeral_type}
+use Rattle.c_lex.specs.Scan.Numeral.{is_numeral, numeral_value, numeral_type}
 use Rattle.c_lex.specs.Scan.Quoted.{character_of, text_of}
 use Rattle.c_lex.specs.Directive.{is_include}
-use Rattle.c_lex.specs.Spelling.{is_identifier, is_preprocessing_number, Spells}
+use Rattle.c_lex.specs.Number.{is_preprocessing_number}
+use Rattle.c_lex.specs.Spelling.{is_identifier, Spells}
 use Rattle.c_lex.specs.Laws.Literals.{character-spelled, spelled-character, text-spelled, spelled-text}
 use Rattle.c_lex.specs.Laws.Constants.{numeral-constant, constant-numeral}
 use Rattle.c_lex.specs.Laws.ConstantNumbers.{constant-number}

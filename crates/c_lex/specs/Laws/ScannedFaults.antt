@@ -1,4 +1,4 @@
--- The faults of a text by what the scanner finds of items: the rules of Faults, over items instead of bytes as they are written.
+-- The faults of a text by what the scanner finds: the rules of Faults, over items between quotes and the parts of numbers.
 use Rattle.std.specs.Prelude.{◌≡◌, ◌≢◌, ℕ, ◌+◌, ◌<◌, ◌≤◌, Bool, true, false, ◌||◌, ◌&&◌, ◌==◌, nat_lt, List, length, take, drop}
 use Rattle.std.specs.Prelude.{slice_index, None}
 use Rattle.std.specs.Char.{is_ascii_digit}
@@ -8,7 +8,7 @@ use Rattle.c_lex.specs.declared.fault.Fault.TheVariants.{BadByte, UnclosedText, 
 use Rattle.c_lex.specs.declared.escape.Item.TheVariants.{Byte}
 use Rattle.c_lex.specs.Bytes.{is_cut_off}
 use Rattle.c_lex.specs.Scan.Digits.{value_of}
-use Rattle.c_lex.specs.Numeral.{numeral_at, is_numeral, fitting_bytes, numeral_type}
+use Rattle.c_lex.specs.Scan.Numeral.{numeral_at, is_numeral, fitting_bytes, numeral_type}
 use Rattle.c_lex.specs.Escape.{simple_escape, is_plain}
 use Rattle.c_lex.specs.Scan.Escape.{octal_count, hex_count, item_at}
 use Rattle.c_lex.specs.Gap.{begins_line_comment, begins_block_comment, block_comment}

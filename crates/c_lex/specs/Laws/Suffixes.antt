@@ -5,8 +5,8 @@ use Rattle.std.specs.List.{prefix_len, list_all, list_any}
 use Rattle.std.proofs.lemmas.Bool.{or_cases, eqb-true}
 use Rattle.c_lex.specs.Bytes.{is_numeral_byte}
 use Rattle.c_lex.specs.Digits.{is_digit_of}
-use Rattle.c_lex.specs.Numeral.{is_unsigned_mark, is_long_mark, suffix_bytes}
-use Rattle.c_lex.specs.Constant.{Suffix, none, unsigned, long, unsigned_long, long_unsigned}
+use Rattle.c_lex.specs.Scan.Numeral.{suffix_bytes}
+use Rattle.c_lex.specs.Constant.{is_unsigned_mark, is_long_mark, Suffix, none, unsigned, long, unsigned_long, long_unsigned}
 
 -- what the scanner finds of a suffix: that it is all one, which marks it has, and that neither the digits nor the
 -- prefix before it go on into it

@@ -1,7 +1,8 @@
--- A text has one list of tokens or one first fault.
-use Rattle.std.proofs.Common.{◌≡◌, ℕ, zero, suc, ◌+◌, ◌<◌, ◌≤◌, ◌⊎◌, inl, inr, ⊎_elim, List, [], ◌∷◌, ◌++◌, length, drop, Some, Result, Ok}
-use Rattle.std.proofs.Common.{Err, refl, ap, subst, sym, ◌∙◌, arith, length-drop}
-use Rattle.std.proofs.lemmas.Bool.{cases_lt}
+-- A text has one list of tokens or one first fault: what the scanner finds.
+use Rattle.std.specs.Prelude.{if◌then◌else◌, nat_le}
+use Rattle.std.proofs.Common.{◌≡◌, ℕ, zero, suc, ◌+◌, ◌<◌, ◌≤◌, ◌⊎◌, inl, inr, ⊎_elim, List, [], ◌∷◌, ◌++◌, length, drop, get_or, Some}
+use Rattle.std.proofs.Common.{Result, Ok, Err, refl, ap, subst, sym, ◌∙◌, arith, length-drop}
+use Rattle.std.proofs.lemmas.Bool.{cases_lt, le-leb, lt-leb}
 use Rattle.c_ast.specs.declared.token.Lexeme.{Lexeme}
 use Rattle.c_ast.specs.Seen.{Seen}
 use Rattle.c_lex.specs.declared.fault.Fault.{Fault}
@@ -12,6 +13,7 @@ use Rattle.c_lex.specs.declared.reading.Reading.TheVariants as reading
 use Rattle.c_lex.specs.Gap.{gap_bytes}
 use Rattle.c_lex.specs.Faults.{Faulty}
 use Rattle.c_lex.specs.Scan.Reading.{read}
+use Rattle.c_lex.specs.Scan.Words.{line_behind}
 use Rattle.c_lex.specs.Tokens.{TokenAt, IsSound, Reaches, start, gap, token, Tokens, FirstFault, IsReadOneWay}
 use Rattle.c_lex.specs.Laws.FaultReads.{read-fault, fault-some, fault-read}
 use Rattle.c_lex.specs.Laws.ReadLaws.{gap-reads, reads-gap, gap-fits, reads-token, token-reads, token-sound}
@@ -20,28 +22,6 @@ use Rattle.c_lex.specs.Laws.Standing.{Standing, seen_at, standing-start, standin
 -- the tokens of a text, or its first fault and the byte where it stands
 abbrev Outcome : Type 0
 Outcome = Result (List Seen) (Fault × ℕ)
-
--- what comes of the text from a place on, behind these tokens
-data Leads (text : List ℕ) : ℕ → List Seen → Outcome → Type 0 where
-  ends : {place : ℕ} {tokens : List Seen} → length text ≡ place → Leads text place tokens (Ok tokens)
-  faulty : {place : ℕ} {tokens : List Seen} (what : Fault) (offset : ℕ) → Faulty text tokens place what offset
-      → Leads text place tokens (Err (what, place + offset))
-  passes : {place : ℕ} {tokens : List Seen} {outcome : Outcome} (bytes : ℕ) → gap_bytes (drop place text) ≡ Some bytes →
-      Leads text (place + bytes) tokens outcome → Leads text place tokens outcome
-  takes : {place : ℕ} {tokens : List Seen} {outcome : Outcome} (kind : Lexeme) (bytes : ℕ) → TokenAt (drop place text) kind bytes
-      → IsSound text tokens place →
-      Leads text (place + bytes) (tokens ++ seen_at text place kind bytes ∷ []) outcome → Leads text place tokens outcome
-
--- what leads on from a place that is reached leads from the start of the text
-reached-leads : (text : List ℕ) (place : ℕ) (tokens : List Seen) (outcome : Outcome) → Reaches text place tokens
-    → Leads text place tokens outcome → Leads text 0 [] outcome
-reached-leads text _ _ outcome start leads = leads
-reached-leads text _ tokens outcome (gap bytes reached is) leads = reached-leads text _ tokens outcome reached (passes bytes is leads)
-reached-leads text _ _ outcome (token {place = place} {tokens = tokens} kind bytes reached is sound) leads =
-    reached-leads text _ tokens outcome reached (takes kind bytes is sound leads)
-
-ended_empty : (text : List ℕ) (place : ℕ) → length text ≡ place → length (drop place text) ≡ 0
-ended_empty text place is = omega (arith, length-drop place text)
 
 -- what is read at a place, behind these tokens and with this before it on the line, where each of these stands
 module _ (text : List ℕ) (tokens : List Seen) (place : ℕ) (line : Line) (standing : Standing text tokens place line) where
@@ -57,20 +37,6 @@ module _ (text : List ℕ) (tokens : List Seen) (place : ℕ) (line : Line) (sta
   fault_read : (what : Fault) (offset : ℕ) → Faulty text tokens place what offset → read line (drop place text) ≡ reading.Fault what offset
   fault_read what offset is = fault-read line (drop place text) what offset (fault-on text tokens place line standing what offset is)
 
-  ended_gap : (bytes : ℕ) → length text ≡ place → gap_bytes (drop place text) ≡ Some bytes → ⊥
-  ended_gap bytes ended is = omega (arith, gap-fits (drop place text) bytes is, ended_empty text place ended)
-
-  ended_token : (kind : Lexeme) (bytes : ℕ) → length text ≡ place → TokenAt (drop place text) kind bytes → ⊥
-  ended_token kind bytes ended is = omega (arith, is.some, is.within, ended_empty text place ended)
-
-  ended_fault : (what : Fault) (offset : ℕ) → length text ≡ place → Faulty text tokens place what offset → ⊥
-  ended_fault what offset ended is =
-      omega (
-        arith,
-        fault-some line (drop place text) what offset (fault-on text tokens place line standing what offset is),
-        ended_empty text place ended,
-      )
-
   pub sound_token : (kind : Lexeme) (bytes : ℕ) → read line (drop place text) ≡ reading.Token kind bytes → IsSound text tokens place
   sound_token kind bytes is = λ what offset fault. token-sound line (drop place text) kind bytes is what offset
       (fault-on text tokens place line standing what offset fault)
@@ -80,63 +46,102 @@ module _ (text : List ℕ) (tokens : List Seen) (place : ℕ) (line : Line) (sta
   faulty_read what offset some is = on-fault text tokens place line standing what offset
       (read-fault line (drop place text) what offset some is)
 
--- one thing comes of a text from a place on
-leads-one : (text : List ℕ) (tokens : List Seen) (place : ℕ) (line : Line) → Standing text tokens place line → (one other : Outcome)
-    → Leads text place tokens one → Leads text place tokens other → one ≡ other
-leads-one text tokens place line standing _ _ (ends ended) (ends also) = refl
-leads-one text tokens place line standing _ _ (ends ended) (faulty what offset is) = absurd
-    (ended_fault text tokens place line standing what offset ended is)
-leads-one text tokens place line standing _ _ (ends ended) (passes bytes is leads) = absurd
-    (ended_gap text tokens place line standing bytes ended is)
-leads-one text tokens place line standing _ _ (ends ended) (takes kind bytes is sound leads) = absurd
-    (ended_token text tokens place line standing kind bytes ended is)
-leads-one text tokens place line standing _ _ (faulty what offset is) (ends ended) = absurd
-    (ended_fault text tokens place line standing what offset ended is)
-leads-one text tokens place line standing _ _ (faulty what offset is) (faulty other n also) =
-    let same : reading.Fault what offset ≡ reading.Fault other n = sym (fault_read text tokens place line standing what offset is)
-    ∙ fault_read text tokens place line standing other n also in cc
-leads-one text tokens place line standing _ _ (faulty what offset is) (passes bytes here leads) =
-    let clash : reading.Fault what offset ≡ reading.Gap bytes = sym (fault_read text tokens place line standing what offset is)
-    ∙ gap_read text tokens place line standing bytes here in cc
-leads-one text tokens place line standing _ _ (faulty what offset is) (takes kind bytes here sound leads) = absurd (sound what offset is)
-leads-one text tokens place line standing _ _ (passes bytes is leads) (ends ended) = absurd
-    (ended_gap text tokens place line standing bytes ended is)
-leads-one text tokens place line standing _ _ (passes bytes is leads) (faulty what offset fault) =
-    let clash : reading.Fault what offset ≡ reading.Gap bytes = sym (fault_read text tokens place line standing what offset fault)
-    ∙ gap_read text tokens place line standing bytes is in cc
-leads-one text tokens place line standing one other (passes bytes is leads) (passes n also goes) =
-    let same : bytes ≡ n = cc in
-    leads-one text tokens _ _ (standing-gap text tokens place bytes line standing is) one other leads
-    (subst (λ k. Leads text (place + k) tokens other) (sym same) goes)
-leads-one text tokens place line standing _ _ (passes bytes is leads) (takes kind n here sound goes) =
-    let clash : reading.Gap bytes ≡ reading.Token kind n = sym (gap_read text tokens place line standing bytes is)
-    ∙ token_read text tokens place line standing kind n here sound in cc
-leads-one text tokens place line standing _ _ (takes kind bytes here sound leads) (ends ended) = absurd
-    (ended_token text tokens place line standing kind bytes ended here)
-leads-one text tokens place line standing _ _ (takes kind bytes here sound leads) (faulty what offset is) = absurd (sound what offset is)
-leads-one text tokens place line standing _ _ (takes kind n here sound leads) (passes bytes is goes) =
-    let clash : reading.Gap bytes ≡ reading.Token kind n = sym (gap_read text tokens place line standing bytes is)
-    ∙ token_read text tokens place line standing kind n here sound in cc
-leads-one text tokens place line standing one other (takes kind bytes here sound leads) (takes also n there sound_too goes) =
-    let same : reading.Token kind bytes ≡ reading.Token also n =
-    sym (token_read text tokens place line standing kind bytes here sound)
-    ∙ token_read text tokens place line standing also n there sound_too in
-    let size : bytes ≡ n = cc in
-    let kinds : kind ≡ also = cc in
-    leads-one text _ _ Used (standing-token text tokens place bytes kind here.within) one other leads
-    (subst (λ k. Leads text (place + k) (tokens ++ seen_at text place kind k ∷ []) other) (sym size)
-    (subst (λ k. Leads text (place + n) (tokens ++ seen_at text place k n ∷ []) other) (sym kinds) goes))
+-- ---- what the scanner finds
 
--- ---- one outcome
+-- what comes of a reading, where `go` says what comes of the place behind it
+abbrev after : List ℕ → ℕ → Line → List Seen → (ℕ → Line → List Seen → Outcome) → Reading → Outcome
+after text place line tokens go (reading.Gap bytes) = go (place + bytes) (line_behind line (get_or (drop place text) 0 0)) tokens
+after text place line tokens go (reading.Token kind bytes) = go (place + bytes) Used (tokens ++ seen_at text place kind bytes ∷ [])
+after text place line tokens go (reading.Fault what offset) = Err (what, place + offset)
 
-tokens-lead : (text : List ℕ) (tokens : List Seen) → Tokens text tokens → Leads text 0 [] (Ok tokens)
-tokens-lead text tokens whole = reached-leads text (length text) tokens (Ok tokens) whole (ends refl)
+-- what it finds from a place on, in so many readings
+scanned : ℕ → List ℕ → ℕ → Line → List Seen → Outcome
+scanned zero text place line tokens = Ok tokens
+scanned (suc left) text place line tokens =
+    if nat_le (length text) place then Ok tokens else after text place line tokens (scanned left text) (read line (drop place text))
 
-fault-leads : (text : List ℕ) (what : Fault) (at : ℕ) → FirstFault text what at → Leads text 0 [] (Err (what, at))
-fault-leads text what at fault =
-    subst (λ n. Leads text 0 [] (Err (what, n))) (sym fault.there)
-    (reached-leads text fault.place fault.tokens (Err (what, fault.place + fault.offset)) fault.reached
-    (faulty what fault.offset fault.faulty))
+found : List ℕ → Outcome
+found text = scanned (suc (length text)) text 0 Clear []
+
+scanned-end : (text : List ℕ) (left : ℕ) (line : Line) (tokens : List Seen) → scanned left text (length text) line tokens ≡ Ok tokens
+unfolding scanned
+scanned-end text zero line tokens = refl
+scanned-end text (suc left) line tokens = rw (le-leb (length text) (length text) (omega arith)) refl
+
+scanned-goes : (text : List ℕ) (left place : ℕ) (line : Line) (tokens : List Seen) (is : Reading) → 0 < length (drop place text) →
+    read line (drop place text) ≡ is → scanned (suc left) text place line tokens ≡ after text place line tokens (scanned left text) is
+unfolding scanned
+scanned-goes text left place line tokens is some read_is =
+    rw (lt-leb (length text) place (omega (arith, some, length-drop place text)))
+    (ap (after text place line tokens (scanned left text)) read_is)
+
+-- it comes by each place that is reached
+record Passes (text : List ℕ) (place : ℕ) (tokens : List Seen) : Type 0 where
+  line : Line
+  standing : Standing text tokens place line
+  left : ℕ
+  enough : length text ≤ place + left
+  same : found text ≡ scanned (suc left) text place line tokens
+
+passes-gap : (text : List ℕ) (place bytes : ℕ) (tokens : List Seen) (line : Line) → Standing text tokens place line →
+    gap_bytes (drop place text) ≡ Some bytes → (left : ℕ) → length text ≤ place + left →
+    found text ≡ scanned (suc left) text place line tokens → Passes text (place + bytes) tokens
+passes-gap text place bytes tokens line standing is zero enough same =
+    absurd (omega (arith, gap-fits (drop place text) bytes is, length-drop place text))
+passes-gap text place bytes tokens line standing is (suc left) enough same =
+    let fits = gap-fits (drop place text) bytes is in
+    record {
+      line = line_behind line (get_or (drop place text) 0 0);
+      standing = standing-gap text tokens place bytes line standing is;
+      left = left;
+      enough = omega (arith, fits.0);
+      same = same ∙ scanned-goes text (suc left) place line tokens (reading.Gap bytes) (omega (arith, fits.0, fits.1))
+          (gap_read text tokens place line standing bytes is);
+    }
+
+passes-token : (text : List ℕ) (place bytes : ℕ) (kind : Lexeme) (tokens : List Seen) (line : Line) → Standing text tokens place line →
+    TokenAt (drop place text) kind bytes → IsSound text tokens place → (left : ℕ) → length text ≤ place + left →
+    found text ≡ scanned (suc left) text place line tokens → Passes text (place + bytes) (tokens ++ seen_at text place kind bytes ∷ [])
+passes-token text place bytes kind tokens line standing is sound zero enough same =
+    absurd (omega (arith, is.some, is.within, length-drop place text))
+passes-token text place bytes kind tokens line standing is sound (suc left) enough same = record {
+  line = Used;
+  standing = standing-token text tokens place bytes kind is.within;
+  left = left;
+  enough = omega (arith, is.some);
+  same = same ∙ scanned-goes text (suc left) place line tokens (reading.Token kind bytes) (omega (arith, is.some, is.within))
+      (token_read text tokens place line standing kind bytes is sound);
+}
+
+reached-passes : (text : List ℕ) (place : ℕ) (tokens : List Seen) → Reaches text place tokens → Passes text place tokens
+unfolding found
+reached-passes text _ _ start =
+    record { line = Clear; standing = standing-start text; left = length text; enough = omega arith; same = refl }
+reached-passes text _ _ (gap {place = place} {tokens = tokens} bytes reached is) =
+    let before = reached-passes text place tokens reached in
+    passes-gap text place bytes tokens before.line before.standing is before.left before.enough before.same
+reached-passes text _ _ (token {place = place} {tokens = tokens} kind bytes reached is sound) =
+    let before = reached-passes text place tokens reached in
+    passes-token text place bytes kind tokens before.line before.standing is sound before.left before.enough before.same
+
+-- the tokens of a text are what it finds, and so is the first fault
+tokens-found : (text : List ℕ) (tokens : List Seen) → Tokens text tokens → found text ≡ Ok tokens
+tokens-found text tokens whole =
+    let at = reached-passes text (length text) tokens whole in
+    at.same ∙ scanned-end text (suc at.left) at.line tokens
+
+fault-found : (text : List ℕ) (what : Fault) (at : ℕ) → FirstFault text what at → found text ≡ Err (what, at)
+fault-found text what at fault =
+    let here = reached-passes text fault.place fault.tokens fault.reached in
+    let rest = drop fault.place text in
+    let some = fault-some here.line rest what fault.offset
+    (fault-on text fault.tokens fault.place here.line here.standing what fault.offset fault.faulty) in
+    here.same
+    ∙ scanned-goes text here.left fault.place here.line fault.tokens (reading.Fault what fault.offset) some
+    (fault_read text fault.tokens fault.place here.line here.standing what fault.offset fault.faulty)
+    ∙ ap (λ n. Err (what, n)) (sym fault.there)
+
+-- ---- and it finds one of them
 
 abbrev SomeOutcome : List ℕ → Type 0
 SomeOutcome text = ((tokens : List Seen) × Tokens text tokens) ⊎ ((what : Fault) × (at : ℕ) × FirstFault text what at)
@@ -190,13 +195,12 @@ pub read_one_way : (text : List ℕ) → IsReadOneWay text
 read_one_way text = record {
   some = outcome-from text (length text) 0 Clear [] start (standing-start text) (omega arith) (omega arith);
   never_both = λ tokens what at whole fault.
-      let clash = leads-one text [] 0 Clear (standing-start text) _ _ (tokens-lead text tokens whole) (fault-leads text what at fault) in
-      cc;
+      let clash : Ok tokens ≡ Err (what, at) = sym (tokens-found text tokens whole) ∙ fault-found text what at fault in cc;
   one_list = λ tokens others whole also.
-      let same = leads-one text [] 0 Clear (standing-start text) _ _ (tokens-lead text tokens whole) (tokens-lead text others also) in cc;
+      let same : Ok tokens ≡ Ok others = sym (tokens-found text tokens whole) ∙ tokens-found text others also in cc;
   one_fault = λ what other at place fault also.
-      let same = leads-one text [] 0 Clear (standing-start text) _ _ (fault-leads text what at fault)
-      (fault-leads text other place also) in
+      let same : ◌≡◌ {A = Outcome} (Err (what, at)) (Err (other, place)) =
+      sym (fault-found text what at fault) ∙ fault-found text other place also in
       let pair : ◌≡◌ {A = Fault × ℕ} (what, at) (other, place) = cc in
       (ap (λ p. p.0) pair, ap (λ p. p.1) pair);
 }

@@ -1,6 +1,6 @@
 -- Words, numbers and punctuators are read as they are spelled.
-use Rattle.std.proofs.Common.{◌≡◌, ℕ, ◌+◌, ◌<◌, ◌≤◌, List, [], ◌∷◌, length, take, drop, get_or, Bool, true, false, cond, ◌||◌, eqb, leb}
-use Rattle.std.proofs.Common.{Option, Some, None, refl, ap, ◌∙◌, arith, length-take-le, length-drop, ⊎_elim}
+use Rattle.std.proofs.Common.{◌≡◌, ℕ, ◌+◌, ◌<◌, ◌≤◌, List, ◌∷◌, length, take, get_or, Bool, true, false, cond, leb}
+use Rattle.std.proofs.Common.{Option, Some, None, refl, ap, ◌∙◌, arith, length-take-le, ⊎_elim}
 use Rattle.std.proofs.Math.Numerals.{one-add}
 use Rattle.std.specs.List.{prefix_len}
 use Rattle.std.specs.Char.{is_ascii_digit}
@@ -13,10 +13,9 @@ use Rattle.c_ast.specs.Words.{keyword_of, punctuator_of}
 use Rattle.c_lex.specs.declared.fault.Fault.TheVariants.{BadByte}
 use Rattle.c_lex.specs.declared.reading.Reading.TheVariants.{Fault}
 use Rattle.c_lex.specs.Bytes.{is_letter, is_word, is_numeral_byte}
-use Rattle.c_lex.specs.Digits.{is_digit_of}
-use Rattle.c_lex.specs.Numeral.{numeral_at, radix_of, prefix_bytes, is_unsigned_mark, is_long_mark, suffix_bytes, digit_count, digits_end}
-use Rattle.c_lex.specs.Numeral.{fitting_bytes, is_numeral, numeral_value, numeral_type}
-use Rattle.c_lex.specs.Spelling.{is_identifier, is_preprocessing_number}
+use Rattle.c_lex.specs.Scan.Numeral.{numeral_at, fitting_bytes, is_numeral, numeral_value, numeral_type}
+use Rattle.c_lex.specs.Number.{is_preprocessing_number}
+use Rattle.c_lex.specs.Spelling.{is_identifier}
 use Rattle.c_lex.specs.Laws.Scanned.{Scans}
 use Rattle.c_lex.specs.Scan.Reading.{keyword_or_name, word_at, read_word, typed_number, read_number, punctuator_or, punctuator_at}
 use Rattle.c_lex.specs.Scan.Reading.{read_single, read_punctuator}
@@ -24,6 +23,7 @@ use Rattle.c_lex.specs.Scan.Words.{is_second_of_punctuator}
 use Rattle.c_lex.specs.Laws.Slices.{list_all-front, front-bound}
 use Rattle.c_lex.specs.Laws.Classes.{class_of, front-class, word-bytes, number-bytes, punctuator-bytes, punctuator-continues}
 use Rattle.c_lex.specs.Laws.Classes.{digit-is_numeral_byte, digit-class}
+use Rattle.c_lex.specs.Laws.Fitting.{fitting-bound}
 use Rattle.c_lex.specs.Laws.Tells.{IsToken, Tells}
 
 -- ---- words
@@ -59,46 +59,6 @@ word-tells b rest letter =
     }
 
 -- ---- numbers
-
--- the marks of a suffix stand in the bytes
-suffix-bound : (bytes : List ℕ) → suffix_bytes bytes ≤ length bytes
-suffix-bound [] = omega arith
-suffix-bound (a ∷ []) =
-    cond_both (is_unsigned_mark a) 1 (cond (is_long_mark a) 1 0) (λ n. n ≤ 1) (λ _. omega arith)
-    (λ _. cond_both (is_long_mark a) 1 0 (λ n. n ≤ 1) (λ _. omega arith) (λ _. omega arith))
-suffix-bound (a ∷ b ∷ rest) =
-    let limit = length (a ∷ b ∷ rest) in
-    let small = λ (n : ℕ). n ≤ limit in
-    let both = λ (c : Bool). cond_both c 2 1 small (λ _. omega arith) (λ _. omega arith) in
-    cond_both (is_unsigned_mark a) (cond (is_long_mark b) 2 1) (cond (is_long_mark a) (cond (is_unsigned_mark b) 2 1) 0) small
-    (λ _. both (is_long_mark b))
-    (λ _. cond_both (is_long_mark a) (cond (is_unsigned_mark b) 2 1) 0 small (λ _. both (is_unsigned_mark b)) (λ _. omega arith))
-
--- the prefix stands in the bytes
-prefix-bound : (bytes : List ℕ) → prefix_bytes (radix_of bytes) ≤ length bytes
-prefix-bound [] = omega arith
-prefix-bound (a ∷ []) =
-    cond_both (eqb a 48) 8 10 (λ radix. prefix_bytes radix ≤ 1) (λ _. omega arith) (λ _. omega arith)
-prefix-bound (a ∷ b ∷ rest) =
-    let limit = length (a ∷ b ∷ rest) in
-    let small = λ (radix : ℕ). prefix_bytes radix ≤ limit in
-    cond_both (eqb a 48) (cond (eqb b 120 || eqb b 88) 16 8) 10 small
-    (λ _. cond_both (eqb b 120 || eqb b 88) 16 8 small (λ _. omega arith) (λ _. omega arith)) (λ _. omega arith)
-
--- what fits stands in the bytes
-fitting-bound : (bytes : List ℕ) → fitting_bytes bytes ≤ length bytes
-fitting-bound bytes =
-    let behind = drop (prefix_bytes (radix_of bytes)) bytes in
-    let suffix = drop (digits_end bytes) bytes in
-    let in_digits : digits_end bytes ≤ length bytes =
-    omega (
-      arith,
-      prefix-bound bytes,
-      prefix_len-le-length (is_digit_of (radix_of bytes)) behind,
-      length-drop (prefix_bytes (radix_of bytes)) bytes,
-    ) in
-    cond_both (eqb (digit_count bytes) 0) 0 (suffix_bytes suffix) (λ n. digits_end bytes + n ≤ length bytes)
-    (λ _. omega arith) (λ _. omega (arith, suffix-bound suffix, length-drop (digits_end bytes) bytes))
 
 numeral-length : (rest : List ℕ) → length (numeral_at rest) ≡ prefix_len is_numeral_byte rest
 numeral-length rest = length-take-le (prefix_len is_numeral_byte rest) rest (prefix_len-le-length is_numeral_byte rest)

@@ -15,7 +15,7 @@ use Rattle.c_lex.specs.declared.reading.Line.TheVariants.{Clear, Spaced, Used}
 use Rattle.c_lex.specs.declared.reading.Reading.{Reading}
 use Rattle.c_lex.specs.declared.reading.Reading.TheVariants.{Gap, Token, Fault}
 use Rattle.c_lex.specs.Bytes.{is_letter, is_word, is_white, is_in_line, is_cut_off}
-use Rattle.c_lex.specs.Numeral.{numeral_at, is_numeral, fitting_bytes, numeral_value, numeral_type}
+use Rattle.c_lex.specs.Scan.Numeral.{numeral_at, is_numeral, fitting_bytes, numeral_value, numeral_type}
 use Rattle.c_lex.specs.Scan.Escape.{item_at}
 use Rattle.c_lex.specs.Scan.Quoted.{Body, closed, wrong, cut, body}
 use Rattle.c_lex.specs.Directive.{include_line}

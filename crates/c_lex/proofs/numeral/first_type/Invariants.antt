@@ -1,5 +1,5 @@
 use Rattle.std.proofs.Common.{◌≡◌, length}
-use Rattle.c_lex.specs.Numeral.{first_type}
+use Rattle.c_lex.specs.ConstantTypes.{first_type}
 use Rattle.c_lex.proofs.numeral.first_type.Given as goal
 
 abbrev pub invariant-loop-types : goal.invariant-loop-types
