@@ -1,15 +1,2 @@
-pub mod SizeExamples
-pub mod GivenTrees
 pub mod RuleExamples
-pub mod ArithmeticExamples
-pub mod ExpressionExamples
 pub mod SameSpanExamples
-pub mod WalkedLaws
-pub mod WrapLaws
-pub mod EachLaws
-pub mod OperandLaws
-pub mod NodeLaws
-pub mod RowLaws
-pub mod CallLaws
-pub mod ScopeLaws
-pub mod ArmLaws

@@ -13,19 +13,20 @@ use Rattle.c_ast.specs.declared.statement.Item.TheVariants as item
 use Rattle.c_ast.specs.declared.program.Program.{Program}
 use Rattle.c_ast.specs.declared.program.External.{External}
 use Rattle.c_ast.specs.declared.program.External.TheVariants as external
-use Rattle.c_types.specs.declared.ty.Ty.TheVariants as ty
-use Rattle.c_types.specs.declared.expr.TNode.TheVariants as tnode
-use Rattle.c_types.specs.declared.statement.TStmt.TheVariants as tstmt
-use Rattle.c_types.specs.declared.statement.TItem.TheVariants as titem
-use Rattle.c_types.specs.Faults.{fault, NoLater, ends_first, starts_last}
-use Rattle.c_types.specs.Known.{texpr}
+use Rattle.c_type_base.specs.declared.ty.Ty.TheVariants as ty
+use Rattle.c_type_base.specs.declared.expr.TNode.TheVariants as tnode
+use Rattle.c_type_base.specs.declared.statement.TStmt.TheVariants as tstmt
+use Rattle.c_type_base.specs.declared.statement.TItem.TheVariants as titem
+use Rattle.c_type_expr.specs.Faults.{fault, NoLater, ends_first, starts_last}
+use Rattle.c_type_base.specs.Known.{texpr}
 use Rattle.c_types.specs.Files.{file_names}
 use Rattle.c_types.specs.Units.{judged, typed_by}
-use Rattle.c_types.specs.Laws.SaidLaws.{written-void, written-int, written-struct, written-pointer, written-array, written-open, said-constant, said-text, said-variable, said-assign, said-one, said-block, said-expression, said-return, judged-statement}
-use Rattle.c_types.specs.Laws.SizeLaws.{size-int, size-pointer, size-array, size-struct, complete-int, complete-pointer, complete-array, complete-struct}
-use Rattle.c_types.specs.Laws.TypeLaws.{same-int}
-use Rattle.c_types.specs.Laws.Opened.{given_types}
-use Rattle.c_types.proofs.GivenTrees.{span, int_type, constant, name, decl, main_at, program, returns}
+use Rattle.c_type_expr.specs.Laws.SaidLaws.{written-void, written-int, written-struct, written-pointer, written-array, written-open, said-constant, said-text, said-variable, said-assign}
+use Rattle.c_types.specs.Laws.SaidLaws.{said-one, said-block, said-expression, said-return, judged-statement}
+use Rattle.c_type_base.specs.Laws.SizeLaws.{size-int, size-pointer, size-array, size-struct, complete-int, complete-pointer, complete-array, complete-struct}
+use Rattle.c_type_base.specs.Laws.TypeLaws.{same-int}
+use Rattle.c_type_base.specs.Laws.Opened.{given_types}
+use Rattle.c_type_expr.specs.Laws.GivenTrees.{span, int_type, constant, name, decl, main_at, program, returns}
 
 -- ---- functions
 

@@ -12,35 +12,36 @@ use Rattle.c_ast.specs.declared.expr.Node.TheVariants as node
 use Rattle.c_ast.specs.declared.declaration.Decl.{Decl}
 use Rattle.c_ast.specs.declared.declaration.Init.{Init}
 use Rattle.c_ast.specs.declared.declaration.Init.TheVariants as init
-use Rattle.c_types.specs.declared.ty.Ty.TheVariants as ty
-use Rattle.c_types.specs.declared.expr.Callee.TheVariants as callee
-use Rattle.c_types.specs.declared.typed.StructInfo.{StructInfo}
+use Rattle.c_type_base.specs.declared.ty.Ty.TheVariants as ty
+use Rattle.c_type_base.specs.declared.expr.Callee.TheVariants as callee
+use Rattle.c_type_base.specs.declared.typed.StructInfo.{StructInfo}
 use Rattle.std.proofs.lemmas.List.Elements.{All-cons}
 use Rattle.c_ast.specs.declared.declaration.Storage.TheVariants as storage
 use Rattle.c_ast.specs.declared.program.Program.{Program}
 use Rattle.c_ast.specs.declared.program.External.TheVariants as external
-use Rattle.c_types.specs.declared.fault.Fault.{Fault}
-use Rattle.c_types.specs.Faults.{fault, NoLater, smaller, IsFirst}
+use Rattle.c_type_expr.specs.declared.fault.Fault.{Fault}
+use Rattle.c_type_expr.specs.Faults.{fault, NoLater, smaller, IsFirst}
 use Rattle.c_types.specs.Units.{judged}
 use Rattle.c_types.specs.WellTyped.{FirstBroken}
-use Rattle.c_types.specs.Laws.FirstLaws.{no_later-itself}
-use Rattle.c_types.specs.Layout.{first_scalar}
-use Rattle.c_types.specs.declared.scopes.Signature.{Signature}
-use Rattle.c_types.specs.declared.scopes.Meaning.TheVariants as means
-use Rattle.c_types.specs.declared.scopes.Place.TheVariants as place
-use Rattle.c_types.specs.Environment.{Env, binds}
-use Rattle.c_types.specs.Expressions.{expression, written}
-use Rattle.c_types.specs.Outcomes.{Outcome}
+use Rattle.c_type_expr.specs.Laws.FirstLaws.{no_later-itself}
+use Rattle.c_type_base.specs.Layout.{first_scalar}
+use Rattle.c_type_expr.specs.declared.scopes.Signature.{Signature}
+use Rattle.c_type_expr.specs.declared.scopes.Meaning.TheVariants as means
+use Rattle.c_type_expr.specs.declared.scopes.Place.TheVariants as place
+use Rattle.c_type_expr.specs.Environment.{Env, binds}
+use Rattle.c_type_expr.specs.Expressions.{expression, written}
+use Rattle.c_type_expr.specs.Outcomes.{Outcome}
 use Rattle.c_types.specs.Initials.{Fitted, initialiser, piece}
-use Rattle.c_types.specs.declared.typed.InitPiece.{InitPiece}
-use Rattle.c_types.specs.declared.typed.InitValue.TheVariants as initial_value
+use Rattle.c_type_base.specs.declared.typed.InitPiece.{InitPiece}
+use Rattle.c_type_base.specs.declared.typed.InitValue.TheVariants as initial_value
 use Rattle.c_types.specs.Declarations.{local}
-use Rattle.c_types.specs.Laws.SaidLaws.{written-int, written-open, written-void, written-struct, written-pointer, written-array, said-constant, said-variable, said-unary, said-call, said-cast, said-member, said-one, said-list}
-use Rattle.c_types.specs.Laws.SizeLaws.{size-int, size-array, size-struct, complete-int, complete-array, complete-struct}
-use Rattle.c_types.specs.Laws.FirstScalarLaws.{first-int, first-array, first-struct}
-use Rattle.c_types.specs.Laws.TypeLaws.{same-struct}
-use Rattle.c_types.specs.Laws.Opened.{given_types}
-use Rattle.c_types.proofs.GivenTrees.{span, int_type, constant, name, decl, program}
+use Rattle.c_type_expr.specs.Laws.SaidLaws.{written-int, written-open, written-void, written-struct, written-pointer, written-array, said-constant, said-variable, said-unary, said-call, said-cast, said-member}
+use Rattle.c_types.specs.Laws.SaidLaws.{said-one, said-list}
+use Rattle.c_type_base.specs.Laws.SizeLaws.{size-int, size-array, size-struct, complete-int, complete-array, complete-struct}
+use Rattle.c_type_base.specs.Laws.FirstScalarLaws.{first-int, first-array, first-struct}
+use Rattle.c_type_base.specs.Laws.TypeLaws.{same-struct}
+use Rattle.c_type_base.specs.Laws.Opened.{given_types}
+use Rattle.c_type_expr.specs.Laws.GivenTrees.{span, int_type, constant, name, decl, program}
 
 -- struct s{int a;}x; struct q; struct q*p; int f(void); void g(void);
 abbrev has_a : StructInfo

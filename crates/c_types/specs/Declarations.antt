@@ -3,26 +3,22 @@ use Rattle.std.specs.Prelude.{ℕ, Bool, true, false, ◌&&◌, leb, List, [], �
 use Rattle.std.specs.Str.{bytes_eq}
 use Rattle.c_ast.specs.declared.token.Span.{Span}
 use Rattle.c_ast.specs.declared.declaration.Decl.{Decl}
-use Rattle.c_types.specs.declared.ty.Ty.{Ty}
-use Rattle.c_types.specs.declared.ty.Ty.TheVariants as ty
-use Rattle.c_types.specs.declared.scopes.Place.TheVariants as place
-use Rattle.c_types.specs.declared.statement.TDecl.{TDecl}
-use Rattle.c_types.specs.declared.typed.LocalInfo.{LocalInfo}
-use Rattle.c_types.specs.declared.typed.StructInfo.{StructInfo}
-use Rattle.c_types.specs.Sizes.{size, is_complete, largest}
-use Rattle.c_types.specs.Types.{is_char_type, is_there}
-use Rattle.c_types.specs.Faults.{Rule, rule, broken, all_kept}
-use Rattle.c_types.specs.declared.scopes.Meaning.TheVariants as means
-use Rattle.c_types.specs.Environment.{Env, binds, in_scope, innermost}
-use Rattle.c_types.specs.Outcomes.{Judged, sure, not_known, on, behind, joined}
-use Rattle.c_types.specs.declared.known.Written.{Written}
-use Rattle.c_types.specs.declared.known.Written.TheVariants.{Whole, Open}
-use Rattle.c_types.specs.Expressions.{written}
+use Rattle.c_type_base.specs.declared.ty.Ty.{Ty}
+use Rattle.c_type_base.specs.declared.ty.Ty.TheVariants as ty
+use Rattle.c_type_expr.specs.declared.scopes.Place.TheVariants as place
+use Rattle.c_type_base.specs.declared.statement.TDecl.{TDecl}
+use Rattle.c_type_base.specs.declared.typed.LocalInfo.{LocalInfo}
+use Rattle.c_type_base.specs.declared.typed.StructInfo.{StructInfo}
+use Rattle.c_type_base.specs.Sizes.{size, is_complete, largest}
+use Rattle.c_type_base.specs.Types.{is_char_type, is_there}
+use Rattle.c_type_expr.specs.Faults.{Rule, rule, broken, all_kept}
+use Rattle.c_type_expr.specs.declared.scopes.Meaning.TheVariants as means
+use Rattle.c_type_expr.specs.Environment.{Env, binds, in_scope, innermost}
+use Rattle.c_type_expr.specs.Outcomes.{option_map, Judged, sure, not_known, on, behind, joined}
+use Rattle.c_type_base.specs.declared.known.Written.{Written}
+use Rattle.c_type_base.specs.declared.known.Written.TheVariants.{Whole, Open}
+use Rattle.c_type_expr.specs.Expressions.{written}
 use Rattle.c_types.specs.Initials.{InitSaid, Fitted, initialiser, tree_of}
-
-abbrev pub option_map : {A B : Type 0} → (A → B) → Option A → Option B
-option_map f None = None
-option_map f (Some x) = Some (f x)
 
 abbrev pub no : Bool → Bool
 no b = (if b then false else true)

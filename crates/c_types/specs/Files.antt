@@ -8,11 +8,11 @@ use Rattle.c_ast.specs.declared.declaration.Storage.TheVariants as storage
 use Rattle.c_ast.specs.declared.program.Program.{Program}
 use Rattle.c_ast.specs.declared.program.External.{External}
 use Rattle.c_ast.specs.declared.program.External.TheVariants as external
-use Rattle.c_types.specs.declared.expr.Callee.{Callee}
-use Rattle.c_types.specs.declared.expr.Callee.TheVariants as callee
-use Rattle.c_types.specs.declared.scopes.Place.{Place}
-use Rattle.c_types.specs.declared.scopes.Place.TheVariants as place
-use Rattle.c_types.specs.Types.{is_there}
+use Rattle.c_type_base.specs.declared.expr.Callee.{Callee}
+use Rattle.c_type_base.specs.declared.expr.Callee.TheVariants as callee
+use Rattle.c_type_expr.specs.declared.scopes.Place.{Place}
+use Rattle.c_type_expr.specs.declared.scopes.Place.TheVariants as place
+use Rattle.c_type_base.specs.Types.{is_there}
 use Rattle.c_types.specs.Declarations.{no}
 
 -- a declaration at file scope: of a function or of an object, and whether it defines it

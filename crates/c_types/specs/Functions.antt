@@ -4,20 +4,20 @@ use Rattle.std.specs.Str.{bytes_eq}
 use Rattle.c_ast.specs.declared.int_type.IntType.TheVariants as int
 use Rattle.c_ast.specs.declared.declaration.Decl.{Decl}
 use Rattle.c_ast.specs.declared.program.Function.{Function}
-use Rattle.c_types.specs.declared.ty.Ty.{Ty, out-Ty}
-use Rattle.c_types.specs.declared.ty.Ty.TheVariants as ty
-use Rattle.c_types.specs.declared.ty.Ty.TheOpen.{Ty-F}
-use Rattle.c_types.specs.declared.typed.StructInfo.{StructInfo}
-use Rattle.c_types.specs.Sizes.{size, is_complete, largest}
-use Rattle.c_types.specs.Types.{TyLayer, same_type, is_void, is_scalar}
-use Rattle.c_types.specs.Faults.{Rule, rule}
-use Rattle.c_types.specs.declared.scopes.Signature.{Signature}
-use Rattle.c_types.specs.Environment.{Env, opened}
-use Rattle.c_types.specs.Outcomes.{Judged, on, each, behind, joined}
-use Rattle.c_types.specs.declared.known.Written.{Written}
-use Rattle.c_types.specs.declared.known.Written.TheVariants.{Whole, Open}
-use Rattle.c_types.specs.Said.{whole}
-use Rattle.c_types.specs.Expressions.{written}
+use Rattle.c_type_base.specs.declared.ty.Ty.{Ty, out-Ty}
+use Rattle.c_type_base.specs.declared.ty.Ty.TheVariants as ty
+use Rattle.c_type_base.specs.declared.ty.Ty.TheOpen.{Ty-F}
+use Rattle.c_type_base.specs.declared.typed.StructInfo.{StructInfo}
+use Rattle.c_type_base.specs.Sizes.{size, is_complete, largest}
+use Rattle.c_type_base.specs.Types.{TyLayer, same_type, is_void, is_scalar}
+use Rattle.c_type_expr.specs.Faults.{Rule, rule}
+use Rattle.c_type_expr.specs.declared.scopes.Signature.{Signature}
+use Rattle.c_type_expr.specs.Environment.{Env, opened}
+use Rattle.c_type_expr.specs.Outcomes.{Judged, on, each, behind, joined}
+use Rattle.c_type_base.specs.declared.known.Written.{Written}
+use Rattle.c_type_base.specs.declared.known.Written.TheVariants.{Whole, Open}
+use Rattle.c_type_expr.specs.Said.{whole}
+use Rattle.c_type_expr.specs.Expressions.{written}
 use Rattle.c_types.specs.Declarations.{no, is_new, declares_local}
 use Rattle.c_types.specs.Files.{is_static}
 

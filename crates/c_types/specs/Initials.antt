@@ -9,31 +9,31 @@ use Rattle.c_ast.specs.declared.expr.CType.TheOpen.{Node-F}
 use Rattle.c_ast.specs.declared.declaration.Init.{Init}
 use Rattle.c_ast.specs.declared.declaration.Init.TheOpen.{Init-F}
 use Rattle.c_ast.specs.declared.declaration.Init.TheFolds.{fold-Init}
-use Rattle.c_types.specs.declared.ty.Ty.{Ty, out-Ty}
-use Rattle.c_types.specs.declared.ty.Ty.TheVariants as ty
-use Rattle.c_types.specs.declared.ty.Ty.TheOpen.{Ty-F}
-use Rattle.c_types.specs.declared.statement.TInit.{TInit}
-use Rattle.c_types.specs.declared.statement.TInit.TheVariants as tinit
-use Rattle.c_types.specs.declared.typed.StructInfo.{StructInfo}
-use Rattle.c_types.specs.declared.typed.MemberInfo.{MemberInfo}
-use Rattle.c_types.specs.declared.typed.InitPiece.{InitPiece}
-use Rattle.c_types.specs.declared.typed.InitValue.{InitValue}
-use Rattle.c_types.specs.declared.typed.InitValue.TheVariants as initial_value
-use Rattle.c_types.specs.declared.typed.Target.{Target}
-use Rattle.c_types.specs.Sizes.{int_bytes, size, is_complete}
-use Rattle.c_types.specs.Layout.{members_of, first_scalar}
-use Rattle.c_types.specs.Types.{TyLayer, same_int, is_char_type, is_array, is_struct, is_there}
-use Rattle.c_types.specs.Conversions.{wrap}
-use Rattle.c_types.specs.Faults.{rule, fault}
-use Rattle.c_types.specs.Outcomes.{Judged, sure, not_known, both, each, on, either, asked, ruled, known_as}
-use Rattle.c_types.specs.declared.known.Known.{Known}
-use Rattle.c_types.specs.declared.known.Constancy.{Constancy}
-use Rattle.c_types.specs.declared.known.Fixed.{Fixed}
-use Rattle.c_types.specs.declared.known.Constancy.TheVariants.{Is}
-use Rattle.c_types.specs.Known.{value, converted, is_null, is_value, assignable}
-use Rattle.c_types.specs.Operators.{breaks}
-use Rattle.c_types.specs.Said.{Said}
-use Rattle.c_types.specs.Expressions.{expression}
+use Rattle.c_type_base.specs.declared.ty.Ty.{Ty, out-Ty}
+use Rattle.c_type_base.specs.declared.ty.Ty.TheVariants as ty
+use Rattle.c_type_base.specs.declared.ty.Ty.TheOpen.{Ty-F}
+use Rattle.c_type_base.specs.declared.statement.TInit.{TInit}
+use Rattle.c_type_base.specs.declared.statement.TInit.TheVariants as tinit
+use Rattle.c_type_base.specs.declared.typed.StructInfo.{StructInfo}
+use Rattle.c_type_base.specs.declared.typed.MemberInfo.{MemberInfo}
+use Rattle.c_type_base.specs.declared.typed.InitPiece.{InitPiece}
+use Rattle.c_type_base.specs.declared.typed.InitValue.{InitValue}
+use Rattle.c_type_base.specs.declared.typed.InitValue.TheVariants as initial_value
+use Rattle.c_type_base.specs.declared.typed.Target.{Target}
+use Rattle.c_type_base.specs.Sizes.{int_bytes, size, is_complete}
+use Rattle.c_type_base.specs.Layout.{members_of, first_scalar}
+use Rattle.c_type_base.specs.Types.{TyLayer, same_int, is_char_type, is_array, is_struct, is_there}
+use Rattle.c_type_base.specs.Conversions.{wrap}
+use Rattle.c_type_expr.specs.Faults.{rule, fault}
+use Rattle.c_type_expr.specs.Outcomes.{Judged, sure, not_known, both, each, on, either, asked, ruled, known_as}
+use Rattle.c_type_base.specs.declared.known.Known.{Known}
+use Rattle.c_type_base.specs.declared.known.Constancy.{Constancy}
+use Rattle.c_type_base.specs.declared.known.Fixed.{Fixed}
+use Rattle.c_type_base.specs.declared.known.Constancy.TheVariants.{Is}
+use Rattle.c_type_base.specs.Known.{value, converted, is_null, is_value, assignable}
+use Rattle.c_type_expr.specs.Operators.{breaks}
+use Rattle.c_type_expr.specs.Said.{Said}
+use Rattle.c_type_expr.specs.Expressions.{expression}
 
 -- what an initialiser is in the typed program, and the bytes with which an object of the whole run begins
 pub record Fitted : Type 0 where

@@ -1,13 +1,4 @@
-pub mod Opened
-pub mod SizeLaws
-pub mod LayoutLaws
-pub mod FirstScalarLaws
-pub mod StructLaws
-pub mod FirstLaws
-pub mod LeastLaws
 pub mod WellTypedLaws
 pub mod SaidLaws
-pub mod TypeLaws
-pub mod GrowthLaws
 pub mod TableLaws
 pub mod PromiseLaws

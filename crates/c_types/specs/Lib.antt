@@ -1,16 +1,3 @@
-pub mod Sizes
-pub mod Layout
-pub mod Types
-pub mod Conversions
-pub mod Arithmetic
-pub mod Faults
-pub mod Environment
-pub mod Outcomes
-pub mod Known
-pub mod Operators
-pub mod Said
-pub mod Postfix
-pub mod Expressions
 pub mod Initials
 pub mod Declarations
 pub mod Statements
@@ -20,10 +7,4 @@ pub mod Functions
 pub mod Structs
 pub mod Units
 pub mod WellTyped
-pub mod Names
-pub mod Scoping
-pub mod Least
-pub mod Walked
-pub mod Parts
-pub mod Sorted
 pub mod Laws

@@ -4,10 +4,10 @@ use Rattle.std.specs.Prelude.{ℕ, Bool, true, false, ◌&&◌, List, [], ◌∷
 use Rattle.std.specs.List.{list_all}
 use Rattle.std.specs.Str.{bytes_eq}
 use Rattle.c_ast.specs.declared.int_type.IntType.TheVariants as int
-use Rattle.c_types.specs.declared.ty.Ty.{Ty}
-use Rattle.c_types.specs.declared.ty.Ty.TheVariants as ty
-use Rattle.c_types.specs.Types.{same_type}
-use Rattle.c_types.specs.declared.scopes.Signature.{Signature}
+use Rattle.c_type_base.specs.declared.ty.Ty.{Ty}
+use Rattle.c_type_base.specs.declared.ty.Ty.TheVariants as ty
+use Rattle.c_type_base.specs.Types.{same_type}
+use Rattle.c_type_expr.specs.declared.scopes.Signature.{Signature}
 use Rattle.c_types.specs.Declarations.{no, eof_name}
 use Rattle.c_types.specs.Files.{FileNames, putchar_name, getchar_name}
 

@@ -6,20 +6,21 @@ use Rattle.c_ast.specs.declared.declaration.Decl.{Decl}
 use Rattle.c_ast.specs.declared.statement.Stmt.{Stmt}
 use Rattle.c_ast.specs.declared.statement.Item.TheOpen.{Item-F, Stmt-F}
 use Rattle.c_ast.specs.declared.statement.Item.TheFolds.{fold-Stmt}
-use Rattle.c_types.specs.declared.ty.Ty.{Ty}
-use Rattle.c_types.specs.declared.expr.TExpr.{TExpr}
-use Rattle.c_types.specs.declared.statement.TItem.{TItem}
-use Rattle.c_types.specs.declared.statement.TItem.TheVariants as titem
-use Rattle.c_types.specs.declared.statement.TStmt.{TStmt}
-use Rattle.c_types.specs.declared.statement.TStmt.TheVariants as tstmt
-use Rattle.c_types.specs.Types.{is_scalar, is_void}
-use Rattle.c_types.specs.Faults.{rule}
-use Rattle.c_types.specs.Environment.{opened}
-use Rattle.c_types.specs.Outcomes.{Judged, sure, not_known, both, each, perhaps, on, ruled, enclosed}
-use Rattle.c_types.specs.declared.known.Known.{Known}
-use Rattle.c_types.specs.Known.{converted, assignable}
-use Rattle.c_types.specs.Expressions.{judged_value}
-use Rattle.c_types.specs.Declarations.{option_map, no, local}
+use Rattle.c_type_base.specs.declared.ty.Ty.{Ty}
+use Rattle.c_type_base.specs.declared.expr.TExpr.{TExpr}
+use Rattle.c_type_base.specs.declared.statement.TItem.{TItem}
+use Rattle.c_type_base.specs.declared.statement.TItem.TheVariants as titem
+use Rattle.c_type_base.specs.declared.statement.TStmt.{TStmt}
+use Rattle.c_type_base.specs.declared.statement.TStmt.TheVariants as tstmt
+use Rattle.c_type_base.specs.Types.{is_scalar, is_void}
+use Rattle.c_type_expr.specs.Faults.{rule}
+use Rattle.c_type_expr.specs.Environment.{opened}
+use Rattle.c_type_expr.specs.Outcomes.{Judged, sure, not_known, both, each, perhaps, on, ruled, enclosed}
+use Rattle.c_type_base.specs.declared.known.Known.{Known}
+use Rattle.c_type_base.specs.Known.{converted, assignable}
+use Rattle.c_type_expr.specs.Expressions.{judged_value}
+use Rattle.c_type_expr.specs.Outcomes.{option_map}
+use Rattle.c_types.specs.Declarations.{no, local}
 
 -- what is said of a statement: as it stands, and as the body of a function, whose names share a scope with the parameters (6.2.1
 -- paragraph 4)

@@ -3,15 +3,15 @@ use Rattle.std.specs.Prelude.{ℕ, Bool, false, leb, List, [], ◌∷◌, ◌++�
 use Rattle.std.specs.List.{list_any}
 use Rattle.std.specs.Str.{bytes_eq}
 use Rattle.c_ast.specs.declared.declaration.Decl.{Decl}
-use Rattle.c_types.specs.declared.ty.Ty.{Ty}
-use Rattle.c_types.specs.declared.typed.StructInfo.{StructInfo}
-use Rattle.c_types.specs.declared.typed.MemberInfo.{MemberInfo}
-use Rattle.c_types.specs.Sizes.{largest, has_members}
-use Rattle.c_types.specs.Layout.{places, struct_align, struct_size}
-use Rattle.c_types.specs.Faults.{Rule, rule, broken}
-use Rattle.c_types.specs.Outcomes.{Judged, sure, on, behind, joined}
-use Rattle.c_types.specs.Said.{whole}
-use Rattle.c_types.specs.Expressions.{written}
+use Rattle.c_type_base.specs.declared.ty.Ty.{Ty}
+use Rattle.c_type_base.specs.declared.typed.StructInfo.{StructInfo}
+use Rattle.c_type_base.specs.declared.typed.MemberInfo.{MemberInfo}
+use Rattle.c_type_base.specs.Sizes.{largest, has_members}
+use Rattle.c_type_base.specs.Layout.{places, struct_align, struct_size}
+use Rattle.c_type_expr.specs.Faults.{Rule, rule, broken}
+use Rattle.c_type_expr.specs.Outcomes.{Judged, sure, on, behind, joined}
+use Rattle.c_type_expr.specs.Said.{whole}
+use Rattle.c_type_expr.specs.Expressions.{written}
 use Rattle.c_types.specs.Declarations.{no, object_rules}
 
 -- a member by its name and its type, before it has a place

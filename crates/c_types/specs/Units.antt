@@ -10,25 +10,25 @@ use Rattle.c_ast.specs.declared.program.Program.{Program}
 use Rattle.c_ast.specs.declared.program.Function.{Function}
 use Rattle.c_ast.specs.declared.program.External.{External}
 use Rattle.c_ast.specs.declared.program.External.TheVariants as external
-use Rattle.c_types.specs.declared.ty.Ty.{Ty}
-use Rattle.c_types.specs.declared.ty.Ty.TheVariants as ty
-use Rattle.c_types.specs.declared.expr.Callee.TheVariants as callee
-use Rattle.c_types.specs.declared.statement.TStmt.{TStmt}
-use Rattle.c_types.specs.declared.typed.Typed.{Typed}
-use Rattle.c_types.specs.declared.typed.StructInfo.{StructInfo}
-use Rattle.c_types.specs.declared.typed.GlobalInfo.{GlobalInfo}
-use Rattle.c_types.specs.declared.typed.InitPiece.{InitPiece}
-use Rattle.c_types.specs.declared.typed.TFunction.{TFunction}
-use Rattle.c_types.specs.declared.typed.ExternInfo.{ExternInfo}
-use Rattle.c_types.specs.declared.typed.LocalInfo.{LocalInfo}
-use Rattle.c_types.specs.Types.{is_there}
-use Rattle.c_types.specs.declared.fault.Fault.{Fault}
-use Rattle.c_types.specs.Faults.{rule, fault, broken}
-use Rattle.c_types.specs.declared.scopes.Binding.{Binding}
-use Rattle.c_types.specs.declared.scopes.Signature.{Signature}
-use Rattle.c_types.specs.declared.scopes.Meaning.TheVariants as means
-use Rattle.c_types.specs.Environment.{Env, binds, tag_number}
-use Rattle.c_types.specs.Outcomes.{Outcome, behind}
+use Rattle.c_type_base.specs.declared.ty.Ty.{Ty}
+use Rattle.c_type_base.specs.declared.ty.Ty.TheVariants as ty
+use Rattle.c_type_base.specs.declared.expr.Callee.TheVariants as callee
+use Rattle.c_type_base.specs.declared.statement.TStmt.{TStmt}
+use Rattle.c_type_base.specs.declared.typed.Typed.{Typed}
+use Rattle.c_type_base.specs.declared.typed.StructInfo.{StructInfo}
+use Rattle.c_type_base.specs.declared.typed.GlobalInfo.{GlobalInfo}
+use Rattle.c_type_base.specs.declared.typed.InitPiece.{InitPiece}
+use Rattle.c_type_base.specs.declared.typed.TFunction.{TFunction}
+use Rattle.c_type_base.specs.declared.typed.ExternInfo.{ExternInfo}
+use Rattle.c_type_base.specs.declared.typed.LocalInfo.{LocalInfo}
+use Rattle.c_type_base.specs.Types.{is_there}
+use Rattle.c_type_expr.specs.declared.fault.Fault.{Fault}
+use Rattle.c_type_expr.specs.Faults.{rule, fault, broken}
+use Rattle.c_type_expr.specs.declared.scopes.Binding.{Binding}
+use Rattle.c_type_expr.specs.declared.scopes.Signature.{Signature}
+use Rattle.c_type_expr.specs.declared.scopes.Meaning.TheVariants as means
+use Rattle.c_type_expr.specs.Environment.{Env, binds, tag_number}
+use Rattle.c_type_expr.specs.Outcomes.{Outcome, behind}
 use Rattle.c_types.specs.Initials.{InitSaid, Fitted}
 use Rattle.c_types.specs.Declarations.{no, init_of, declared_type, object_rules, initialised, eof_name}
 use Rattle.c_types.specs.Statements.{statement}

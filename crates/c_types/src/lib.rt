@@ -1,30 +1,8 @@
-//! The types of the C profile: the typed program, and the sizes of its types.
+//! The types of the C profile: which programs keep the rules, and the typed program.
 #![tactic(auto)]
 
-mod address;
-mod arithmetic;
-mod constant;
-mod expr;
-mod fault;
-mod kinds;
-mod known;
-mod length;
-mod parts;
-mod rows;
-mod scopes;
-mod size;
-mod statement;
-mod ty;
-mod typed;
-mod values;
-mod walk;
-mod written;
-
-pub use expr::{Callee, TExpr, TNode};
-pub use size::{align_of, member_offset, size_of};
-pub use statement::{TDecl, TInit, TItem, TStmt};
-pub use ty::Ty;
-pub use typed::{
-    ExternInfo, GlobalInfo, InitPiece, InitValue, LocalInfo, MemberInfo, StructInfo, TFunction,
-    Target, Typed,
+pub use c_type_base::{
+    Callee, ExternInfo, GlobalInfo, InitPiece, InitValue, LocalInfo, MemberInfo, StructInfo, TDecl,
+    TExpr, TFunction, TInit, TItem, TNode, TStmt, Target, Ty, Typed, align_of, member_offset,
+    size_of,
 };

@@ -9,26 +9,26 @@ use Rattle.c_ast.specs.declared.program.Program.{Program}
 use Rattle.c_ast.specs.declared.program.Function.{Function}
 use Rattle.c_ast.specs.declared.program.External.{External}
 use Rattle.c_ast.specs.declared.program.External.TheVariants as external
-use Rattle.c_types.specs.declared.ty.Ty.{Ty}
-use Rattle.c_types.specs.declared.typed.Typed.{Typed}
-use Rattle.c_types.specs.declared.typed.StructInfo.{StructInfo}
-use Rattle.c_types.specs.Sizes.{size, complete_struct, is_complete, has_members, largest}
-use Rattle.c_types.specs.Layout.{LaidOut, struct_size}
-use Rattle.c_types.specs.Faults.{Rule, rule, broken}
-use Rattle.c_types.specs.Environment.{Env, tag_number}
-use Rattle.c_types.specs.Outcomes.{Outcome, behind}
+use Rattle.c_type_base.specs.declared.ty.Ty.{Ty}
+use Rattle.c_type_base.specs.declared.typed.Typed.{Typed}
+use Rattle.c_type_base.specs.declared.typed.StructInfo.{StructInfo}
+use Rattle.c_type_base.specs.Sizes.{size, complete_struct, is_complete, has_members, largest}
+use Rattle.c_type_base.specs.Layout.{LaidOut, struct_size}
+use Rattle.c_type_expr.specs.Faults.{Rule, rule, broken}
+use Rattle.c_type_expr.specs.Environment.{Env, tag_number}
+use Rattle.c_type_expr.specs.Outcomes.{Outcome, behind}
 use Rattle.c_types.specs.Declarations.{no, object_rules}
 use Rattle.c_types.specs.Files.{FileNames, file_names}
 use Rattle.c_types.specs.Structs.{Member, ty_in, members, member_type, found_member, with_member, has_body, body_rules}
 use Rattle.c_types.specs.Units.{Judgement, start, with_outcome, with_tag, known_members, with_body, with_members, struct_judged, object_judged, objects_judged, with_function, function_judged, part_judged, parts_judged}
 use Rattle.c_types.specs.Functions.{parameters, result_type}
-use Rattle.c_types.specs.Types.{is_there}
+use Rattle.c_type_base.specs.Types.{is_there}
 use Rattle.std.specs.Prelude.{leb}
 use Rattle.std.proofs.lemmas.Bool.{leb-true}
 use Rattle.std.specs.List.{list_any}
 use Rattle.std.specs.Str.{bytes_eq}
 use Rattle.c_types.specs.WellTyped.{WellTyped}
-use Rattle.c_types.specs.Laws.GrowthLaws.{AllComplete, none, some}
+use Rattle.c_type_base.specs.Laws.GrowthLaws.{AllComplete, none, some}
 use Rattle.c_types.specs.Laws.TableLaws.{AllReady, ready-laid_out, none_ready, tag_added, body_added}
 
 front : {A : Type 0} (a b : List A) → a ++ b ≡ [] → a ≡ []

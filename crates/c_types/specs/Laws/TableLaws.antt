@@ -1,10 +1,10 @@
 -- Tables of structs that are laid out stay so: where a tag is added, and where one that has no body gets one whose members are complete.
 use Rattle.std.proofs.Common.{◌≡◌, refl, sym, ◌∙◌, ap, subst, ℕ, zero, suc, ◌+◌, ◌⊎◌, inl, inr, true, false, List, [], ◌∷◌, ◌++◌, map, slice_get, slice_set, Some, ◌≤◌, lit≤}
-use Rattle.c_types.specs.declared.typed.StructInfo.{StructInfo}
-use Rattle.c_types.specs.Sizes.{size, align, complete_struct, largest}
-use Rattle.c_types.specs.Layout.{round_up, places, struct_align, struct_size, IsLaidOut, LaidOut, offset_in, type_of}
+use Rattle.c_type_base.specs.declared.typed.StructInfo.{StructInfo}
+use Rattle.c_type_base.specs.Sizes.{size, align, complete_struct, largest}
+use Rattle.c_type_base.specs.Layout.{round_up, places, struct_align, struct_size, IsLaidOut, LaidOut, offset_in, type_of}
 use Rattle.c_types.specs.Structs.{Member, ty_in, with_places, struct_with, tag_alone}
-use Rattle.c_types.specs.Laws.GrowthLaws.{Extends, AllComplete, none, all-kept, laid_out-kept}
+use Rattle.c_type_base.specs.Laws.GrowthLaws.{Extends, AllComplete, none, all-kept, laid_out-kept}
 
 -- a struct of a table: its numbers are those of the rule, its members are complete, and it is not too large
 pub record Ready (structs : List StructInfo) (info : StructInfo) : Type 0 where

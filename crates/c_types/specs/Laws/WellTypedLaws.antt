@@ -3,13 +3,13 @@
 use Rattle.std.proofs.Common.{◌≡◌, refl, sym, ◌∙◌, subst, ℕ, List, [], ◌∷◌}
 use Rattle.c_ast.specs.declared.token.Span.{Span}
 use Rattle.c_ast.specs.declared.program.Program.{Program}
-use Rattle.c_types.specs.declared.typed.Typed.{Typed}
-use Rattle.c_types.specs.declared.fault.Fault.{Fault}
-use Rattle.c_types.specs.Faults.{fault, IsFirst}
+use Rattle.c_type_base.specs.declared.typed.Typed.{Typed}
+use Rattle.c_type_expr.specs.declared.fault.Fault.{Fault}
+use Rattle.c_type_expr.specs.Faults.{fault, IsFirst}
 use Rattle.c_types.specs.Files.{file_names}
 use Rattle.c_types.specs.Units.{judged, typed_by}
 use Rattle.c_types.specs.WellTyped.{WellTyped, FirstBroken}
-use Rattle.c_types.specs.Laws.FirstLaws.{one_first, no_first, some_first}
+use Rattle.c_type_expr.specs.Laws.FirstLaws.{one_first, no_first, some_first}
 
 -- a program with its types, or the first rule that it breaks
 pub data Verdict (program : Program) : Type 0 where

@@ -1,0 +1,5 @@
+pub mod ExpressionExamples
+pub mod OperandLaws
+pub mod CallLaws
+pub mod ScopeLaws
+pub mod ArmLaws

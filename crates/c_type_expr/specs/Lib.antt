@@ -1,0 +1,14 @@
+pub mod Faults
+pub mod Environment
+pub mod Outcomes
+pub mod Operators
+pub mod Said
+pub mod Postfix
+pub mod Expressions
+pub mod Names
+pub mod Scoping
+pub mod Least
+pub mod Walked
+pub mod Parts
+pub mod Sorted
+pub mod Laws

@@ -1,7 +1,0 @@
-use Rattle.std.proofs.Common.{rules}
-use Rattle.c_types.proofs.CallLaws.{assignable_over}
-use Rattle.c_types.proofs.rows.call.all_assignable.Goals as goal
-
-pub returns : goal.returns
-returns c = assignable_over c.loop-argument.argument-index c.loop-argument.left.now c.args.params.now c.args.arguments.now
-    c.loop-argument.invariant (search rules)
