@@ -1,12 +1,13 @@
 -- Accesses, comparisons and cells, computed: a file with an object of 8 bytes and the text "ab", and a dead local.
-use Rattle.std.specs.Prelude.{◌-◌, ◌^◌}
+use Rattle.block_meaning.specs.declared.reason.Reason.{Reason}
+use Rattle.std.specs.Prelude.{Option, slice_get, ◌-◌, ◌^◌}
 use Rattle.std.proofs.Common.{◌≡◌, refl, List, [], ◌∷◌, Some, None, false, true, Bool}
 use Rattle.c_ast.specs.declared.int_type.IntType.TheVariants as int
 use Rattle.c_ast.specs.declared.operator.BinaryOperator.TheVariants as binary
 use Rattle.c_type_base.specs.Laws.Opened.{given_types}
 use Rattle.c_type_base.specs.declared.ty.Ty.TheVariants as ty
 use Rattle.block_meaning.specs.declared.reason.Reason.TheVariants.{Misaligned, Null, Dead, Outside, ReadOnly, Indeterminate, Part}
-use Rattle.block_meaning.specs.Access.{Access, wrong, Reads, Wrong, scalar_in, overlap}
+use Rattle.block_meaning.specs.Access.{Access, reason_against, ReadsAs, UndefinedBy, scalar_in, overlap}
 use Rattle.block_meaning.specs.Blocks.{Block, Nothing, Byte, Global, Text, Local, Pointer, pointer, null, null_block, block_of, fresh, ended}
 use Rattle.block_meaning.specs.Compare.{compared, pointer_truth, objects_between}
 use Rattle.block_meaning.specs.Values.{Number, Address, number_cells, pointer_cells}
@@ -16,62 +17,70 @@ blocks =
     null_block ∷ block_of (Global 0 0) (pointer_cells null) ∷ block_of (Text 0 0) (Byte 97 ∷ Byte 98 ∷ Byte 0 ∷ [])
     ∷ ended (fresh (Local 1 0) 4) ∷ fresh (Local 0 0) 4 ∷ []
 
+-- why an access to one of them is undefined
+abbrev against_block : Option Block → Access → Option Reason
+against_block None a = None
+against_block (Some b) a = reason_against b a
+
+abbrev against : Access → Option Reason
+against a = against_block (slice_get blocks a.at.block) a
+
 -- four bytes at a place
 abbrev four : Bool → Pointer → Access
 four writes p = record { at = p; size = 4; align = 4; writes = writes; scalar = true }
 
-inside : wrong blocks (four true (pointer 1 4)) ≡ None
+inside : against (four true (pointer 1 4)) ≡ None
 inside = refl
 
-off_its_alignment : wrong blocks (four false (pointer 1 2)) ≡ Some Misaligned
+off_its_alignment : against (four false (pointer 1 2)) ≡ Some Misaligned
 off_its_alignment = refl
 
 -- the alignment is judged first
-unaligned_null : wrong blocks (four false (pointer 0 1)) ≡ Some Misaligned
+unaligned_null : against (four false (pointer 0 1)) ≡ Some Misaligned
 unaligned_null = refl
 
-of_null : wrong blocks (four false null) ≡ Some Null
+of_null : against (four false null) ≡ Some Null
 of_null = refl
 
-after_its_life : wrong blocks (four false (pointer 3 0)) ≡ Some Dead
+after_its_life : against (four false (pointer 3 0)) ≡ Some Dead
 after_its_life = refl
 
 -- a dead block is dead outside too
-outside_after_its_life : wrong blocks (four false (pointer 3 8)) ≡ Some Dead
+outside_after_its_life : against (four false (pointer 3 8)) ≡ Some Dead
 outside_after_its_life = refl
 
-past_the_end : wrong blocks (four false (pointer 1 8)) ≡ Some Outside
+past_the_end : against (four false (pointer 1 8)) ≡ Some Outside
 past_the_end = refl
 
 -- 4 bytes of a text of 3
-into_a_text_and_past_it : wrong blocks (four true (pointer 2 0)) ≡ Some Outside
+into_a_text_and_past_it : against (four true (pointer 2 0)) ≡ Some Outside
 into_a_text_and_past_it = refl
 
-into_a_text : wrong blocks (record { at = pointer 2 1; size = 1; align = 1; writes = true; scalar = true }) ≡ Some ReadOnly
+into_a_text : against (record { at = pointer 2 1; size = 1; align = 1; writes = true; scalar = true }) ≡ Some ReadOnly
 into_a_text = refl
 
-never_written : scalar_in (ty.Int int.Char) (Nothing ∷ []) ≡ Wrong Indeterminate
+never_written : scalar_in (ty.Int int.Char) (Nothing ∷ []) ≡ UndefinedBy Indeterminate
 never_written = refl
 
 -- -2 in two bytes
-negative_short : scalar_in (ty.Int int.Short) (number_cells 2 (2 ^ 64 - 2)) ≡ Reads (Number (2 ^ 64 - 2))
+negative_short : scalar_in (ty.Int int.Short) (number_cells 2 (2 ^ 64 - 2)) ≡ ReadsAs (Number (2 ^ 64 - 2))
 unfolding given_types
 negative_short = refl
 
-unsigned_short : scalar_in (ty.Int int.UShort) (number_cells 2 (2 ^ 64 - 2)) ≡ Reads (Number 65534)
+unsigned_short : scalar_in (ty.Int int.UShort) (number_cells 2 (2 ^ 64 - 2)) ≡ ReadsAs (Number 65534)
 unfolding given_types
 unsigned_short = refl
 
-stored_pointer : scalar_in (ty.Pointer (ty.Int int.Int)) (pointer_cells (pointer 1 4)) ≡ Reads (Address (pointer 1 4))
+stored_pointer : scalar_in (ty.Pointer (ty.Int int.Int)) (pointer_cells (pointer 1 4)) ≡ ReadsAs (Address (pointer 1 4))
 unfolding given_types
 stored_pointer = refl
 
 -- the bytes of a pointer are no number, and bytes are no pointer
-pointer_as_long : scalar_in (ty.Int int.Long) (pointer_cells (pointer 1 4)) ≡ Wrong Part
+pointer_as_long : scalar_in (ty.Int int.Long) (pointer_cells (pointer 1 4)) ≡ UndefinedBy Part
 unfolding given_types
 pointer_as_long = refl
 
-long_as_pointer : scalar_in (ty.Pointer (ty.Int int.Int)) (number_cells 8 0) ≡ Wrong Part
+long_as_pointer : scalar_in (ty.Pointer (ty.Int int.Int)) (number_cells 8 0) ≡ UndefinedBy Part
 unfolding given_types
 long_as_pointer = refl
 

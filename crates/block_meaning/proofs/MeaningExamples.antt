@@ -10,7 +10,7 @@ use Rattle.c_type_base.specs.declared.statement.TItem.{TItem}
 use Rattle.c_type_base.specs.declared.statement.TItem.TheVariants as item
 use Rattle.c_type_base.specs.declared.statement.TStmt.TheVariants as stmt
 use Rattle.block_meaning.proofs.Trees.{span, int_at, constant, returns, function_with, file_of, program_of}
-use Rattle.block_meaning.specs.Meaning.{run_program, end_of, now_of, Done, Stopped}
+use Rattle.block_meaning.specs.Meaning.{run_program, end_of, state_of, Done, Stopped}
 use Rattle.block_meaning.specs.Running.{Program, Divide, More, Deep}
 
 -- int main(void){ .. } in a frame of 32 bytes
@@ -68,7 +68,7 @@ abbrev letters : Program
 letters = main_of (item.Stmt (stmt.For [] None None None (stmt.Expr (puts 65))) ∷ [])
 
 -- the call of `main` spends a unit, and each turn three
-ten_units_give_three_letters : (now_of (run_program 20 letters [] 10)).output ≡ 65 ∷ 65 ∷ 65 ∷ []
+ten_units_give_three_letters : (state_of (run_program 20 letters [] 10)).output ≡ 65 ∷ 65 ∷ 65 ∷ []
 unfolding given_typed given_types
 ten_units_give_three_letters = refl
 
@@ -83,11 +83,11 @@ echo = main_of (item.Stmt (stmt.While (constant 0 0 1) (stmt.Block (
     item.Stmt (stmt.Expr (int_at 0 0 (node.Call callee.Putchar (int_at 0 0 (node.Call callee.Getchar []) ∷ [])))) ∷
     item.Stmt (stmt.Break (span 0 0)) ∷ []))) ∷ [])
 
-echo_puts_a_byte : (now_of (run_program 20 echo (7 ∷ 8 ∷ []) 99)).output ≡ 7 ∷ []
+echo_puts_a_byte : (state_of (run_program 20 echo (7 ∷ 8 ∷ []) 99)).output ≡ 7 ∷ []
 unfolding given_typed given_types
 echo_puts_a_byte = refl
 
-echo_leaves_a_byte : (now_of (run_program 20 echo (7 ∷ 8 ∷ []) 99)).input ≡ 8 ∷ []
+echo_leaves_a_byte : (state_of (run_program 20 echo (7 ∷ 8 ∷ []) 99)).input ≡ 8 ∷ []
 unfolding given_typed given_types
 echo_leaves_a_byte = refl
 
@@ -96,7 +96,7 @@ unfolding given_typed given_types
 echo_gives_0 = refl
 
 -- -1 modulo 256
-at_the_end_echo_puts_255 : (now_of (run_program 20 echo [] 99)).output ≡ 255 ∷ []
+at_the_end_echo_puts_255 : (state_of (run_program 20 echo [] 99)).output ≡ 255 ∷ []
 unfolding given_typed given_types
 at_the_end_echo_puts_255 = refl
 

@@ -10,7 +10,7 @@ pub data Cell : Type 0 where
   Part : (k block offset : ℕ) → Cell
 
 -- What a block is. Objects, texts and functions of a file have its number and their own there. A parameter or local has the number of its
--- call, which is how many calls were entered before, and its own in the function.
+-- call, which is how many calls were made before, and its own in the function.
 pub data Kind : Type 0 where
   NullBlock : Kind
   Global : (unit number : ℕ) → Kind
@@ -69,8 +69,12 @@ with_block number f blocks = changed f (slice_get blocks number) number blocks
 abbrev pub cells_in : Block → ℕ → ℕ → List Cell
 cells_in b offset bytes = take bytes (drop offset b.cells)
 
-abbrev pub with_cells : ℕ → List Cell → Block → Block
-with_cells offset cells b = record b { cells = take offset b.cells ++ cells ++ drop (offset + length cells) b.cells }
+-- some cells with others from an offset on
+abbrev pub with_cells : ℕ → List Cell → List Cell → List Cell
+with_cells offset new cells = take offset cells ++ new ++ drop (offset + length new) cells
+
+abbrev pub with_cells_in : ℕ → List Cell → Block → Block
+with_cells_in offset new b = record b { cells = with_cells offset new b.cells }
 
 abbrev pub cells_at_block : Option Block → ℕ → ℕ → List Cell
 cells_at_block None offset bytes = []
@@ -82,4 +86,4 @@ cells_at blocks p bytes = cells_at_block (slice_get blocks p.block) p.offset byt
 
 -- the blocks with these cells from a place on
 abbrev pub stored : Pointer → List Cell → List Block → List Block
-stored p cells = with_block p.block (with_cells p.offset cells)
+stored p cells = with_block p.block (with_cells_in p.offset cells)

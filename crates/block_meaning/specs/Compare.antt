@@ -3,21 +3,18 @@
 use Rattle.std.specs.Prelude.{ℕ, ◌+◌, ◌-◌, ◌/◌, ◌%◌, ◌^◌, Bool, true, false, ◌&&◌, ◌||◌, leb, ltb, nat_eq, List, slice_get, Option, Some, None, if◌then◌else◌}
 use Rattle.c_ast.specs.declared.operator.BinaryOperator.{BinaryOperator}
 use Rattle.c_ast.specs.declared.operator.BinaryOperator.TheVariants as binary
-use Rattle.c_type_base.specs.Arithmetic.{negated}
+use Rattle.c_ast.specs.declared.int_type.IntType.TheVariants as int
+use Rattle.c_type_base.specs.Arithmetic.{is_negative, quotient}
 use Rattle.block_meaning.specs.Access.{negation}
 use Rattle.block_meaning.specs.Blocks.{Block, Pointer, null}
 
--- the difference of two offsets, modulo 2^64
+-- the difference of two offsets, modulo 2^64: a number of type long
 abbrev pub difference : Pointer → Pointer → ℕ
 difference p q = (p.offset + (2 ^ 64 - q.offset)) % 2 ^ 64
 
--- a number modulo 2^64 that stands for one below 0
-abbrev pub below_zero : ℕ → Bool
-below_zero d = leb (2 ^ 63) d
-
 -- within a block, by the difference as a signed number
 abbrev pub is_before : Pointer → Pointer → Bool
-is_before p q = below_zero (difference p q)
+is_before p q = is_negative int.Long (difference p q)
 
 abbrev pub is_same : Pointer → Pointer → Bool
 is_same p q = nat_eq p.offset q.offset
@@ -47,8 +44,8 @@ abbrev pub is_at_most_at_end : List Block → Pointer → Bool
 is_at_most_at_end blocks p = lives_within leb (slice_get blocks p.block) p
 
 -- two pointers of different blocks that are known to differ
-abbrev pub apart : List Block → Pointer → Pointer → Bool
-apart blocks p q =
+abbrev pub known_to_differ : List Block → Pointer → Pointer → Bool
+known_to_differ blocks p q =
     (is_inside blocks p && is_inside blocks q)
     || (is_null p && is_at_most_at_end blocks q)
     || (is_null q && is_at_most_at_end blocks p)
@@ -61,16 +58,12 @@ of_different _ _ = None
 -- a comparison of two pointers
 abbrev pub compared : List Block → BinaryOperator → Pointer → Pointer → Option Bool
 compared blocks o p q =
-    (if nat_eq p.block q.block then within_block o p q else of_different o (apart blocks p q))
+    (if nat_eq p.block q.block then within_block o p q else of_different o (known_to_differ blocks p q))
 
 -- a pointer as a condition is compared with the null pointer
 abbrev pub pointer_truth : List Block → Pointer → Option Bool
 pointer_truth blocks p = compared blocks binary.NotEqual p null
 
--- a difference divided by a size, toward 0
-abbrev pub over : ℕ → ℕ → ℕ
-over d size = (if below_zero d then negated (negated d / size) else d / size)
-
 -- how many objects of a size lie between two pointers
 abbrev pub objects_between : Pointer → Pointer → ℕ → Option ℕ
-objects_between p q size = (if nat_eq p.block q.block then Some (over (difference p q) size) else None)
+objects_between p q size = (if nat_eq p.block q.block then Some (quotient int.Long (difference p q) size) else None)

@@ -6,7 +6,9 @@ pub mod Running
 pub mod Linkage
 pub mod Memory
 pub mod Opening
+pub mod Operators
 pub mod Expressions
 pub mod Locals
 pub mod Statements
 pub mod Meaning
+pub mod Laws

@@ -97,13 +97,13 @@ abbrev pub definition_of : List Typed → Option ExternInfo → Option Definitio
 definition_of units None = None
 definition_of units (Some e) = defined units e.name
 
-abbrev pub block_of_definition : List Typed → Option Definition → ℕ
-block_of_definition units None = 0
-block_of_definition units (Some (AnObject unit number)) = object_block units unit number
-block_of_definition units (Some (AFunction f)) = code_block units f.unit f.number
+abbrev pub block_of_definition : List Typed → Option Definition → Option ℕ
+block_of_definition units None = None
+block_of_definition units (Some (AnObject unit number)) = Some (object_block units unit number)
+block_of_definition units (Some (AFunction f)) = Some (code_block units f.unit f.number)
 
 -- what a file declares and another defines: a function is a block without bytes
-abbrev pub extern_block : List Typed → ℕ → ℕ → ℕ
+abbrev pub extern_block : List Typed → ℕ → ℕ → Option ℕ
 extern_block units unit number = block_of_definition units (definition_of units (extern_at units unit number))
 
 -- ---- functions
@@ -154,16 +154,8 @@ abbrev pub agrees_with : List StructInfo → List StructInfo → ExternInfo → 
 agrees_with these those e None = false
 agrees_with these those e (Some f) = same_across these those e.result f.result && all_same_across these those e.params (parameter_types f)
 
--- the function that a definition is, where it has the type by which it was declared
-abbrev pub called_as : List Typed → ℕ → ExternInfo → Option Definition → Option Function
-called_as units unit e (Some (AFunction f)) =
+-- the function that a definition is, where it has the type by which a file declares it
+abbrev pub called_as : List Typed → ℕ → ExternInfo → Definition → Option Function
+called_as units unit e (AFunction f) =
     (if agrees_with (structs_of units unit) (structs_of units f.unit) e (function_named units f) then Some f else None)
-called_as units unit e _ = None
-
-abbrev pub callee_of : List Typed → ℕ → Option ExternInfo → Option Function
-callee_of units unit None = None
-callee_of units unit (Some e) = called_as units unit e (defined units e.name)
-
--- the function that another file defines, where it has the type by which this one declares it
-abbrev pub extern_function : List Typed → ℕ → ℕ → Option Function
-extern_function units unit number = callee_of units unit (extern_at units unit number)
+called_as units unit e (AnObject v number) = None

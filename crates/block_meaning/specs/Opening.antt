@@ -1,6 +1,6 @@
 -- What the blocks hold before the call of `main` (ISO C11 5.1.2, 6.7.9 paragraph 10): objects with their initialisers, of which the rest
 -- is zero, and texts.
-use Rattle.std.specs.Prelude.{ℕ, ℤ, pos, negsuc, zero, suc, ◌+◌, ◌-◌, ◌^◌, List, [], ◌∷◌, ◌++◌, length, map, replicate, take, drop, slice_get, Option, Some}
+use Rattle.std.specs.Prelude.{ℕ, ℤ, pos, negsuc, zero, suc, ◌+◌, ◌-◌, ◌^◌, List, [], ◌∷◌, ◌++◌, length, map, replicate, take, drop, slice_get, Option, Some, None}
 use Rattle.c_type_base.specs.declared.ty.Ty.{Ty}
 use Rattle.c_type_base.specs.declared.ty.Ty.TheOpen.{Ty-F}
 use Rattle.c_type_base.specs.declared.ty.Ty.TheFolds.{fold-Ty}
@@ -16,13 +16,9 @@ use Rattle.c_type_base.specs.declared.typed.Target.{Target}
 use Rattle.c_type_base.specs.declared.typed.Target.TheVariants as target
 use Rattle.c_type_base.specs.Sizes.{int_bytes, bytes_of_struct}
 use Rattle.c_type_base.specs.Layout.{members_of}
-use Rattle.block_meaning.specs.Blocks.{Cell, Byte, Part, Block, Global, Text, Code, pointer, null, null_block, block_of}
+use Rattle.block_meaning.specs.Blocks.{Cell, Byte, Part, Block, Global, Text, Code, pointer, null, null_block, block_of, with_cells}
 use Rattle.block_meaning.specs.Linkage.{object_block, text_block, extern_block}
 use Rattle.block_meaning.specs.Values.{number_cells, pointer_cells}
-
--- some cells with others from a place on
-abbrev pub with_over : List Cell → ℕ → List Cell → List Cell
-with_over cells offset over = take offset cells ++ over ++ drop (offset + length over) cells
 
 -- ---- zero: numbers are 0, and pointers null
 
@@ -43,7 +39,7 @@ zero_by of_struct = fold-Ty (List Cell) (zero_step of_struct)
 
 abbrev pub zero_members : (Ty → List Cell) → List MemberInfo → List Cell → List Cell
 zero_members zeros [] cells = cells
-zero_members zeros (m ∷ ms) cells = zero_members zeros ms (with_over cells m.offset (zeros m.ty))
+zero_members zeros (m ∷ ms) cells = zero_members zeros ms (with_cells m.offset (zeros m.ty) cells)
 
 -- of the struct of a number, through so many structs in one another at most
 abbrev pub zero_in_struct : ℕ → List StructInfo → ℕ → List Cell
@@ -63,9 +59,14 @@ abbrev pub unsigned : ℤ → ℕ
 unsigned (pos n) = n
 unsigned (negsuc n) = 2 ^ 64 - 1 - n
 
+abbrev pub or_null : Option ℕ → ℕ
+or_null None = 0
+or_null (Some block) = block
+
+-- a name that no file defines is linked to nothing
 abbrev pub target_block : List Typed → ℕ → Target → ℕ
 target_block units unit (target.Global n) = object_block units unit n
-target_block units unit (target.Extern n) = extern_block units unit n
+target_block units unit (target.Extern n) = or_null (extern_block units unit n)
 target_block units unit (target.Text n) = text_block units unit n
 
 abbrev pub number_at : Option Cell → ℕ → ℕ → List Cell
@@ -78,7 +79,7 @@ scalar_over units unit there (initial.Number n bytes) = number_at there bytes n
 scalar_over units unit there (initial.Address t offset) = pointer_cells (pointer (target_block units unit t) (unsigned offset))
 
 abbrev pub with_piece : List Typed → ℕ → InitPiece → List Cell → List Cell
-with_piece units unit p cells = with_over cells p.offset (scalar_over units unit (slice_get cells p.offset) p.value)
+with_piece units unit p cells = with_cells p.offset (scalar_over units unit (slice_get cells p.offset) p.value) cells
 
 abbrev pub with_pieces : List Typed → ℕ → List InitPiece → List Cell → List Cell
 with_pieces units unit [] cells = cells

@@ -1,5 +1,5 @@
 -- A run: what it may change, how it stops before its end, and how its parts follow one another.
-use Rattle.std.specs.Prelude.{ℕ, zero, suc, List, [], ◌∷◌, Option}
+use Rattle.std.specs.Prelude.{ℕ, zero, suc, List, [], ◌∷◌, Option, Bool, Some, None, if◌then◌else◌}
 use Rattle.c_ast.specs.declared.token.Span.{Span}
 use Rattle.c_type_base.specs.declared.typed.Typed.{Typed}
 use Rattle.block_meaning.specs.declared.reason.Reason.{Reason}
@@ -11,15 +11,15 @@ pub record Function : Type 0 where
   pub unit : ℕ
   pub number : ℕ
 
--- a call that is open
+-- a call that was made
 pub record Call : Type 0 where
+  -- how many calls were made before it
+  pub number : ℕ
   pub function : Function
-  -- the frame bytes of the calls that are open with it, its own among them
+  -- the frame bytes of the calls that were open with it, its own among them
   pub place : ℕ
-  -- the functions of all calls that were entered before it, in order
-  pub earlier : List Function
 
--- a step that has no meaning
+-- A step that has no meaning. The calls before one are the first of all calls, as many as its number says.
 pub record Undefined : Type 0 where
   pub why : Reason
   -- the number of the file, and where in it
@@ -27,8 +27,12 @@ pub record Undefined : Type 0 where
   pub span : Span
   -- where it is an access
   pub access : Option Access
-  -- the calls that are open, the latest first; which locals of theirs are live, the blocks tell
+  -- the calls that are open, the latest first
+  pub open_calls : List Call
+  -- all calls so far, in order
   pub calls : List Call
+  -- which say what each one is, whose local, and whether it is live
+  pub blocks : List Block
 
 -- why a run stops
 pub data Stop : Type 0 where
@@ -39,26 +43,26 @@ pub data Stop : Type 0 where
   -- a unit of work is to be spent, and none is left
   More : Stop
   IsUndefined : Undefined → Stop
-  -- the turns of this definition are used up, or a tree has no type: more turns do not stop so, where a program is well typed
+  -- the bound of this definition was too small, or a tree is not that of a well-typed program whose names are linked
   Stuck : Stop
 
 -- what a run changes
-pub record Now : Type 0 where
+pub record State : Type 0 where
   pub blocks : List Block
   -- the units of work that are left
   pub work : ℕ
   pub input : List ℕ
   pub output : List ℕ
-  -- the functions of all calls so far, in order
-  pub entered : List Function
+  -- all calls so far, in order
+  pub calls : List Call
 
 pub data Result (A : Type 0) : Type 0 where
-  Goes : A → Now → Result A
-  Stops : Stop → Now → Result A
+  Goes : A → State → Result A
+  Stops : Stop → State → Result A
 
 -- something that runs and gives a value
 abbrev pub Run : Type 0 → Type 0
-Run A = Now → Result A
+Run A = State → Result A
 
 abbrev pub gives : {A : Type 0} → A → Run A
 gives a now = Goes a now
@@ -70,21 +74,21 @@ abbrev pub goes_on : {A B : Type 0} → Result A → (A → Run B) → Result B
 goes_on (Goes a now) f = f a now
 goes_on (Stops why now) f = Stops why now
 
--- the one, and then what it says of its value
+-- the one, and then what follows for its value
 abbrev pub and_then : {A B : Type 0} → Run A → (A → Run B) → Run B
 and_then m f now = goes_on (m now) f
 
-abbrev pub spend : {A : Type 0} → ℕ → Run A → Run A
-spend zero m now = Stops More now
-spend (suc left) m now = m (record now { work = left })
+abbrev pub one_of : {A : Type 0} → ℕ → Run A → Run A
+one_of zero m now = Stops More now
+one_of (suc rest) m now = m (record now { work = rest })
 
--- a unit of work, and then the rest
+-- a unit of work, and then something
 abbrev pub unit_then : {A : Type 0} → Run A → Run A
-unit_then m now = spend now.work m now
+unit_then m now = one_of now.work m now
 
 -- a unit of work, and then a value
-abbrev pub spent : {A : Type 0} → A → Run A
-spent a = unit_then (gives a)
+abbrev pub unit_gives : {A : Type 0} → A → Run A
+unit_gives a = unit_then (gives a)
 
 -- by what the blocks are now
 abbrev pub by_blocks : {A : Type 0} → (List Block → Run A) → Run A
@@ -93,6 +97,19 @@ by_blocks f now = f now.blocks now
 -- the blocks are changed
 abbrev pub with_blocks : (List Block → List Block) → Run (Unit {0})
 with_blocks f now = Goes tt (record now { blocks = f now.blocks })
+
+-- the one where a condition holds, and else the other
+abbrev pub choice : {A : Type 0} → Bool → Run A → Run A → Run A
+choice b m n now = (if b then m now else n now)
+
+-- for want of a part that a well-typed program has
+abbrev pub stuck : {A : Type 0} → Run A
+stuck = stops Stuck
+
+-- with something that is there
+abbrev pub with_some : {A B : Type 0} → Option A → (A → Run B) → Run B
+with_some None f = stuck
+with_some (Some a) f = f a
 
 -- each in turn
 abbrev pub all_of : {A : Type 0} → List (Run A) → Run (List A)
@@ -107,16 +124,17 @@ pub record Program : Type 0 where
   pub frames : List (List ℕ)
   pub stack : ℕ
 
-pub record Here : Type 0 where
+pub record Context : Type 0 where
   pub program : Program
   -- the file of the function that runs
   pub unit : ℕ
   -- the calls that are open, the latest first
-  pub calls : List Call
+  pub open_calls : List Call
   -- the blocks of its locals, by their numbers
-  pub local : ℕ → ℕ
+  pub local : ℕ → Option ℕ
 
 -- an undefined step
-abbrev pub undefined : {A : Type 0} → Here → Span → Option Access → Reason → Run A
-undefined here span access why =
-    stops (IsUndefined (record { why = why; file = here.unit; span = span; access = access; calls = here.calls }))
+abbrev pub undefined : {A : Type 0} → Context → Span → Option Access → Reason → Run A
+undefined here span access why now = Stops (IsUndefined (record {
+  why = why; file = here.unit; span = span; access = access; open_calls = here.open_calls; calls = now.calls; blocks = now.blocks;
+})) now
