@@ -1,7 +1,7 @@
 -- Parameters and locals: how their blocks come and go (ISO C11 6.2.4 paragraph 6), and their initialisers (6.7.9). A parameter and a local
 -- of a function's outermost block live until the call ends, any other from the entry of its block, or of its `for`, until that is left.
 use Rattle.std.specs.Prelude.{ℕ, zero, suc, ◌+◌, ◌*◌, Bool, true, false, ◌||◌, List, [], ◌∷◌, ◌++◌, length, map, take, slice_get, nat_eq, Option, Some, None, if◌then◌else◌}
-use Rattle.c_type_base.specs.declared.ty.Ty.{Ty, out-Ty}
+use Rattle.c_type_base.specs.declared.ty.Ty.{out-Ty}
 use Rattle.c_type_base.specs.declared.ty.Ty.TheOpen.{Ty-F}
 use Rattle.c_type_base.specs.declared.expr.TExpr.{TExpr}
 use Rattle.c_type_base.specs.declared.expr.TNode.{out-TNode}
@@ -15,12 +15,12 @@ use Rattle.c_type_base.specs.declared.typed.LocalInfo.{LocalInfo}
 use Rattle.c_type_base.specs.declared.typed.MemberInfo.{MemberInfo}
 use Rattle.c_type_base.specs.Types.{TyLayer, is_struct, is_array}
 use Rattle.c_type_base.specs.Layout.{members_of}
-use Rattle.block_meaning.specs.Blocks.{Byte, Kind, Local, Block, Pointer, pointer, moved, fresh, ended, with_block, stored}
+use Rattle.block_meaning.specs.Blocks.{Byte, Local, Block, Pointer, pointer, moved, fresh, ended, with_block, stored}
 use Rattle.block_meaning.specs.Expressions.{NodeLayer, ExprParts, value_of}
 use Rattle.block_meaning.specs.Linkage.{function_named}
 use Rattle.block_meaning.specs.Memory.{Object, object, structs_at, bytes_of, write, copy_struct}
 use Rattle.block_meaning.specs.Opening.{zero_cells}
-use Rattle.block_meaning.specs.Running.{Call, State, Goes, Run, gives, stuck, and_then, unit_then, with_blocks, with_some, Context}
+use Rattle.block_meaning.specs.Running.{Call, Goes, Run, gives, stuck, and_then, unit_then, with_blocks, with_some, Context}
 use Rattle.block_meaning.specs.Values.{pointer_in}
 
 -- ---- the locals of the call that runs

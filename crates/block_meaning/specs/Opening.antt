@@ -1,6 +1,6 @@
 -- What the blocks hold before the call of `main` (ISO C11 5.1.2, 6.7.9 paragraph 10): objects with their initialisers, of which the rest
 -- is zero, and texts.
-use Rattle.std.specs.Prelude.{ℕ, ℤ, pos, negsuc, zero, suc, ◌+◌, ◌-◌, ◌^◌, List, [], ◌∷◌, ◌++◌, length, map, replicate, take, drop, slice_get, Option, Some, None}
+use Rattle.std.specs.Prelude.{ℕ, ℤ, pos, negsuc, zero, suc, ◌+◌, ◌-◌, ◌^◌, List, [], ◌∷◌, ◌++◌, length, map, replicate, slice_get, Option, Some, None}
 use Rattle.c_type_base.specs.declared.ty.Ty.{Ty}
 use Rattle.c_type_base.specs.declared.ty.Ty.TheOpen.{Ty-F}
 use Rattle.c_type_base.specs.declared.ty.Ty.TheFolds.{fold-Ty}
