@@ -399,12 +399,12 @@ larger_bound (suc more) bound program input work whole =
     ap (λ k. run_program k program input work) next
     ∙ one_larger (more + bound) program input work (subst IsWhole (sym below) whole) ∙ below
 
-whole_result : (r : Result Value) → end_of r ≢ Stopped Stuck → IsWhole r
+pub whole_result : (r : Result Value) → end_of r ≢ Stopped Stuck → IsWhole r
 whole_result (Goes v now) ends = tt
 whole_result (Stops Stuck now) ends = absurd (ends refl)
 whole_result (Stops _ now) ends = tt
 
-whole_meaning : {program : Program} {input : List ℕ} {work : ℕ} {outcome : Outcome} → (m : Meaning program input work outcome) →
+pub whole_meaning : {program : Program} {input : List ℕ} {work : ℕ} {outcome : Outcome} → (m : Meaning program input work outcome) →
     IsWhole (run_program m.bound program input work)
 whole_meaning {program = program} {input = input} {work = work} m =
     whole_result (run_program m.bound program input work) (λ is. m.suffices (ap (λ o. o.end) m.is ∙ is))
