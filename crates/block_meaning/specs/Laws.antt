@@ -1,0 +1,4 @@
+pub mod Settled
+pub mod Bound
+pub mod Steady
+pub mod MoreWork

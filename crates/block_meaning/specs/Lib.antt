@@ -1,0 +1,14 @@
+pub mod Blocks
+pub mod Values
+pub mod Access
+pub mod Compare
+pub mod Running
+pub mod Linkage
+pub mod Memory
+pub mod Opening
+pub mod Operators
+pub mod Expressions
+pub mod Locals
+pub mod Statements
+pub mod Meaning
+pub mod Laws
