@@ -1,8 +1,8 @@
-pub mod StepsAmong
 pub mod Fixed
 pub mod CodeAt
 pub mod Straight
 pub mod CodeWords
+pub mod EachStep
 pub mod Outputs
 pub mod Failures
 pub mod Inputs

@@ -7,7 +7,3 @@ use Rattle.mte_machine.specs.Run.{Steps}
 pub record StepsWithin (Inside : State → Type 0) (n : ℕ) (from to : State) : Type 0 where
   pub steps : Steps n from to
   pub inside : (k : ℕ) → k < n → (s : State) → Steps k from s → Inside s
-
--- every state is
-abbrev pub Anywhere : State → Type 0
-Anywhere s = Unit {0}

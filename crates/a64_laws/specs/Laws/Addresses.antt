@@ -15,6 +15,7 @@ use Rattle.a64_laws.specs.Constants.{PutsConstant}
 use Rattle.a64_laws.specs.Sequences.{page_field, page_instr, address_instrs, got_instrs, IsPageNear}
 use Rattle.a64_laws.specs.Runs.{Runs}
 use Rattle.a64_laws.specs.Laws.OpenMemory.{IsReadable-kept}
+use Rattle.a64_laws.specs.Laws.Constants.{SameButRegisters-put, SameButRegisters-then}
 use Rattle.a64_laws.specs.Laws.Loads.{load_through}
 use Rattle.a64_laws.specs.Laws.Pages.{page_put}
 use Rattle.a64_laws.specs.Laws.Results.{number_added}
@@ -39,17 +40,7 @@ puts_second rd first second {instrs} s two runs = record {
   holds = with_value-same (with_value s.register rd.0 first) rd.0 second;
   registers = λ r other. with_value-other (with_value s.register rd.0 first) rd.0 second r other
       ∙ with_value-other s.register rd.0 first r other;
-  same = record {
-    sp = refl;
-    flags = refl;
-    byte = refl;
-    tag = refl;
-    regions = refl;
-    guard = refl;
-    choices = refl;
-    drawn = refl;
-    outside = refl;
-  };
+  same = SameButRegisters-then (SameButRegisters-put rd first s) (SameButRegisters-put rd second (puts_register rd first s));
 }
   where
     t : State

@@ -37,7 +37,22 @@ halfword_3 bits rd s small fits clear =
 
 -- ---- lists
 
-SameButRegisters-then : {r s t : State} → SameButRegisters r s → SameButRegisters s t → SameButRegisters r t
+-- a number is put into a register, and then perhaps another
+pub SameButRegisters-put : (rd : Reg) (value : ℕ) (s : State) → SameButRegisters s (puts_register rd value s)
+unfolding puts_register
+SameButRegisters-put rd value s = record {
+  sp = refl;
+  flags = refl;
+  byte = refl;
+  tag = refl;
+  regions = refl;
+  guard = refl;
+  choices = refl;
+  drawn = refl;
+  outside = refl;
+}
+
+pub SameButRegisters-then : {r s t : State} → SameButRegisters r s → SameButRegisters s t → SameButRegisters r t
 SameButRegisters-then first rest = record {
   sp = rest.sp ∙ first.sp;
   flags = rest.flags ∙ first.flags;
@@ -69,18 +84,7 @@ and_halfword {instrs} {rd} {value} {s} hw (suc bits) next is moves fits puts = r
       (n : ℕ). n + suc bits * 2 ^ (16 * hw)) puts.holds ∙ sym is;
   registers = λ r other. with_value-other puts.to.register rd.0 (puts.to.register rd.0 + suc bits * 2 ^ (16 * hw)) r other
       ∙ puts.registers r other;
-  same = SameButRegisters-then puts.same
-      (record {
-        sp = refl;
-        flags = refl;
-        byte = refl;
-        tag = refl;
-        regions = refl;
-        guard = refl;
-        choices = refl;
-        drawn = refl;
-        outside = refl;
-      });
+  same = SameButRegisters-then puts.same (SameButRegisters-put rd (puts.to.register rd.0 + suc bits * 2 ^ (16 * hw)) puts.to);
 }
 
 first_halfword : (bits : ℕ) (rd : Reg) (s : State) → rd.0 < 31 → s.pc + 4 < 2 ^ 64 → PutsConstant rd bits (Movz true 0 bits rd ∷ []) s
@@ -90,17 +94,7 @@ first_halfword bits rd s small fits = record {
   runs = Runs-one (constant_moved bits rd s small) refl fits;
   holds = with_value-same s.register rd.0 bits;
   registers = λ r other. with_value-other s.register rd.0 bits r other;
-  same = record {
-    sp = refl;
-    flags = refl;
-    byte = refl;
-    tag = refl;
-    regions = refl;
-    guard = refl;
-    choices = refl;
-    drawn = refl;
-    outside = refl;
-  };
+  same = SameButRegisters-put rd bits s;
 }
 
 kept_few : (hw bits : ℕ) (rd : Reg) → length (kept_halfword hw bits rd) ≤ 1

@@ -19,8 +19,8 @@ use Rattle.a64_code.specs.Results.{result_of}
 use Rattle.a64_laws.specs.Laws.Effects.Open.{IsReadable, in_readable, allowed_unchecked, allowed_single, loads-done, loads-caught}
 use Rattle.a64_code.specs.Effect.{effect}
 use Rattle.a64_laws.specs.Forms.{Points, Load, Whole, Word, Half, Byte, SignedWord, SignedHalf, SignedByte, load_size, extended}
-use Rattle.a64_laws.specs.Forms.{load_instr}
-use Rattle.a64_laws.specs.Forms.{stack_pointer, puts_register}
+use Rattle.a64_laws.specs.Forms.{load_instr, stack_pointer, puts_register}
+use Rattle.a64_laws.specs.Laws.Pointers.{sp_address}
 
 pub load_is_size : (l : Load) → IsSize (load_size l)
 load_is_size Whole = inr (inr (inr refl))
@@ -77,36 +77,24 @@ caught n ext pointer at tag rt s points aligned memory differs =
 
 -- ---- at SP
 
-sp_address : (sp n imm12 at : ℕ) → at ≡ sp + imm12 * n → at < 2 ^ 56 → address_of ((sp + imm12 * n) % 2 ^ 64) ≡ at
-sp_address sp n imm12 at is below = omega (arith, is, below)
+-- each kind of load is one of these
+loads_at_sp : (l : Load) (imm12 : ℕ) (rt : Reg) (s : State) → effect (load_instr l imm12 stack_pointer rt) s ≡
+    loaded (load_size l) (extended l) ((s.sp + imm12 * load_size l) % 2 ^ 64) false rt s
+loads_at_sp Whole imm12 rt s = refl
+loads_at_sp Word imm12 rt s = refl
+loads_at_sp Half imm12 rt s = refl
+loads_at_sp Byte imm12 rt s = refl
+loads_at_sp SignedWord imm12 rt s = refl
+loads_at_sp SignedHalf imm12 rt s = refl
+loads_at_sp SignedByte imm12 rt s = refl
 
 pub load_at_sp : (l : Load) (imm12 at : ℕ) (rt : Reg) (s : State) → rt.0 < 31 → at ≡ s.sp + imm12 * load_size l → at < 2 ^ 56 →
     at % load_size l ≡ 0 → IsReadable s at (load_size l) →
     effect (load_instr l imm12 stack_pointer rt) s ≡ Leads (puts_register rt (extended l (load (load_size l) s.byte at)) s)
-load_at_sp Whole imm12 at rt s small is below aligned memory =
-    at_sp (load_size Whole) (extended Whole)
-    ((s.sp + imm12 * load_size Whole) % 2 ^ 64) at rt s small (sp_address s.sp (load_size Whole) imm12 at is below) aligned memory
-load_at_sp Word imm12 at rt s small is below aligned memory =
-    at_sp (load_size Word) (extended Word)
-    ((s.sp + imm12 * load_size Word) % 2 ^ 64) at rt s small (sp_address s.sp (load_size Word) imm12 at is below) aligned memory
-load_at_sp Half imm12 at rt s small is below aligned memory =
-    at_sp (load_size Half) (extended Half)
-    ((s.sp + imm12 * load_size Half) % 2 ^ 64) at rt s small (sp_address s.sp (load_size Half) imm12 at is below) aligned memory
-load_at_sp Byte imm12 at rt s small is below aligned memory =
-    at_sp (load_size Byte) (extended Byte)
-    ((s.sp + imm12 * load_size Byte) % 2 ^ 64) at rt s small (sp_address s.sp (load_size Byte) imm12 at is below) aligned memory
-load_at_sp SignedWord imm12 at rt s small is below aligned memory =
-    at_sp (load_size SignedWord) (extended SignedWord)
-    ((s.sp + imm12 * load_size SignedWord) % 2 ^ 64) at rt s small
-    (sp_address s.sp (load_size SignedWord) imm12 at is below) aligned memory
-load_at_sp SignedHalf imm12 at rt s small is below aligned memory =
-    at_sp (load_size SignedHalf) (extended SignedHalf)
-    ((s.sp + imm12 * load_size SignedHalf) % 2 ^ 64) at rt s small
-    (sp_address s.sp (load_size SignedHalf) imm12 at is below) aligned memory
-load_at_sp SignedByte imm12 at rt s small is below aligned memory =
-    at_sp (load_size SignedByte) (extended SignedByte)
-    ((s.sp + imm12 * load_size SignedByte) % 2 ^ 64) at rt s small
-    (sp_address s.sp (load_size SignedByte) imm12 at is below) aligned memory
+load_at_sp l imm12 at rt s small is below aligned memory =
+    loads_at_sp l imm12 rt s
+    ∙ at_sp (load_size l) (extended l) ((s.sp + imm12 * load_size l) % 2 ^ 64) at rt s small
+    (sp_address s.sp (load_size l) imm12 at is below) aligned memory
 
 -- ---- in 32 bits
 
@@ -127,60 +115,32 @@ signed_low bits value few = elim (cases_lt (value % 2 ^ bits) (2 ^ (bits - 1))) 
 
 -- ---- through a pointer
 
+-- each kind of load is one of these
+loads_through : (l : Load) (imm12 : ℕ) (rn rt : Reg) (s : State) → rn.0 < 31 → effect (load_instr l imm12 rn rt) s ≡
+    loaded (load_size l) (extended l) ((s.register rn.0 + imm12 * load_size l) % 2 ^ 64) true rt s
+loads_through Whole imm12 rn rt s base = rw (lt-ltb rn.0 31 base) refl
+loads_through Word imm12 rn rt s base = rw (lt-ltb rn.0 31 base) refl
+loads_through Half imm12 rn rt s base = rw (lt-ltb rn.0 31 base) refl
+loads_through Byte imm12 rn rt s base = rw (lt-ltb rn.0 31 base) refl
+loads_through SignedWord imm12 rn rt s base = rw (lt-ltb rn.0 31 base) refl
+loads_through SignedHalf imm12 rn rt s base = rw (lt-ltb rn.0 31 base) refl
+loads_through SignedByte imm12 rn rt s base = rw (lt-ltb rn.0 31 base) refl
+
 -- the tag of the granule is the pointer's
 pub load_through : (l : Load) (imm12 at tag : ℕ) (rn rt : Reg) (s : State) → rn.0 < 31 → rt.0 < 31 →
     Points ((s.register rn.0 + imm12 * load_size l) % 2 ^ 64) at tag → at % load_size l ≡ 0 →
     IsReadable s at (load_size l) → s.tag (granule_of at) ≡ tag →
     effect (load_instr l imm12 rn rt) s ≡ Leads (puts_register rt (extended l (load (load_size l) s.byte at)) s)
-unfolding puts_register
-load_through Whole imm12 at tag rn rt s base small points aligned memory agrees =
-    rw (lt-ltb rn.0 31 base) (through (load_size Whole) (extended Whole)
-    ((s.register rn.0 + imm12 * load_size Whole) % 2 ^ 64) at tag rt s (load_is_size Whole) small points aligned memory agrees)
-load_through Word imm12 at tag rn rt s base small points aligned memory agrees =
-    rw (lt-ltb rn.0 31 base) (through (load_size Word) (extended Word)
-    ((s.register rn.0 + imm12 * load_size Word) % 2 ^ 64) at tag rt s (load_is_size Word) small points aligned memory agrees)
-load_through Half imm12 at tag rn rt s base small points aligned memory agrees =
-    rw (lt-ltb rn.0 31 base) (through (load_size Half) (extended Half)
-    ((s.register rn.0 + imm12 * load_size Half) % 2 ^ 64) at tag rt s (load_is_size Half) small points aligned memory agrees)
-load_through Byte imm12 at tag rn rt s base small points aligned memory agrees =
-    rw (lt-ltb rn.0 31 base) (through (load_size Byte) (extended Byte)
-    ((s.register rn.0 + imm12 * load_size Byte) % 2 ^ 64) at tag rt s (load_is_size Byte) small points aligned memory agrees)
-load_through SignedWord imm12 at tag rn rt s base small points aligned memory agrees =
-    rw (lt-ltb rn.0 31 base) (through (load_size SignedWord) (extended SignedWord)
-    ((s.register rn.0 + imm12 * load_size SignedWord) % 2 ^ 64) at tag rt s
-    (load_is_size SignedWord) small points aligned memory agrees)
-load_through SignedHalf imm12 at tag rn rt s base small points aligned memory agrees =
-    rw (lt-ltb rn.0 31 base) (through (load_size SignedHalf) (extended SignedHalf)
-    ((s.register rn.0 + imm12 * load_size SignedHalf) % 2 ^ 64) at tag rt s
-    (load_is_size SignedHalf) small points aligned memory agrees)
-load_through SignedByte imm12 at tag rn rt s base small points aligned memory agrees =
-    rw (lt-ltb rn.0 31 base) (through (load_size SignedByte) (extended SignedByte)
-    ((s.register rn.0 + imm12 * load_size SignedByte) % 2 ^ 64) at tag rt s
-    (load_is_size SignedByte) small points aligned memory agrees)
+load_through l imm12 at tag rn rt s base small points aligned memory agrees =
+    loads_through l imm12 rn rt s base
+    ∙ through (load_size l) (extended l) ((s.register rn.0 + imm12 * load_size l) % 2 ^ 64) at tag rt s (load_is_size l) small points
+    aligned memory agrees
 
 -- it is another: the run ends with just these numbers, and nothing is changed
 pub load_caught : (l : Load) (imm12 at tag : ℕ) (rn rt : Reg) (s : State) → rn.0 < 31 →
     Points ((s.register rn.0 + imm12 * load_size l) % 2 ^ 64) at tag → at % load_size l ≡ 0 →
     IsReadable s at (load_size l) → s.tag (granule_of at) ≢ tag →
     effect (load_instr l imm12 rn rt) s ≡ Ends (TagFault at tag (s.tag (granule_of at)))
-load_caught Whole imm12 at tag rn rt s base points aligned memory differs =
-    rw (lt-ltb rn.0 31 base) (caught (load_size Whole) (extended Whole)
-    ((s.register rn.0 + imm12 * load_size Whole) % 2 ^ 64) at tag rt s points aligned memory differs)
-load_caught Word imm12 at tag rn rt s base points aligned memory differs =
-    rw (lt-ltb rn.0 31 base) (caught (load_size Word) (extended Word)
-    ((s.register rn.0 + imm12 * load_size Word) % 2 ^ 64) at tag rt s points aligned memory differs)
-load_caught Half imm12 at tag rn rt s base points aligned memory differs =
-    rw (lt-ltb rn.0 31 base) (caught (load_size Half) (extended Half)
-    ((s.register rn.0 + imm12 * load_size Half) % 2 ^ 64) at tag rt s points aligned memory differs)
-load_caught Byte imm12 at tag rn rt s base points aligned memory differs =
-    rw (lt-ltb rn.0 31 base) (caught (load_size Byte) (extended Byte)
-    ((s.register rn.0 + imm12 * load_size Byte) % 2 ^ 64) at tag rt s points aligned memory differs)
-load_caught SignedWord imm12 at tag rn rt s base points aligned memory differs =
-    rw (lt-ltb rn.0 31 base) (caught (load_size SignedWord) (extended SignedWord)
-    ((s.register rn.0 + imm12 * load_size SignedWord) % 2 ^ 64) at tag rt s points aligned memory differs)
-load_caught SignedHalf imm12 at tag rn rt s base points aligned memory differs =
-    rw (lt-ltb rn.0 31 base) (caught (load_size SignedHalf) (extended SignedHalf)
-    ((s.register rn.0 + imm12 * load_size SignedHalf) % 2 ^ 64) at tag rt s points aligned memory differs)
-load_caught SignedByte imm12 at tag rn rt s base points aligned memory differs =
-    rw (lt-ltb rn.0 31 base) (caught (load_size SignedByte) (extended SignedByte)
-    ((s.register rn.0 + imm12 * load_size SignedByte) % 2 ^ 64) at tag rt s points aligned memory differs)
+load_caught l imm12 at tag rn rt s base points aligned memory differs =
+    loads_through l imm12 rn rt s base
+    ∙ caught (load_size l) (extended l) ((s.register rn.0 + imm12 * load_size l) % 2 ^ 64) at tag rt s points aligned memory differs

@@ -1,6 +1,7 @@
 -- Pointers and their parts: an address below 2 ^ 56, and a tag (this project's own).
-use Rattle.std.specs.Prelude.{ℕ, ◌+◌, ◌-◌, ◌*◌, ◌%◌, ◌^◌, ◌<◌, ◌≤◌}
+use Rattle.std.specs.Prelude.{◌≡◌, ℕ, ◌+◌, ◌-◌, ◌*◌, ◌%◌, ◌^◌, ◌<◌, ◌≤◌}
 use Rattle.std.proofs.Common.{arith}
+use Rattle.mt_base.specs.Pointers.{address_of}
 use Rattle.a64_laws.specs.Forms.{Points}
 
 -- a block's start with its tag, and an offset behind it
@@ -26,3 +27,7 @@ Points-on {pointer} {at} {tag} n below p =
 -- SP, or any address without a tag
 pub Points-address : (at : ℕ) → at < 2 ^ 56 → Points at at 0
 Points-address at below = record { is_at = omega (arith, below); has_tag = omega (arith, below) }
+
+-- the address of SP and an offset on, in an instruction
+pub sp_address : (sp n imm12 at : ℕ) → at ≡ sp + imm12 * n → at < 2 ^ 56 → address_of ((sp + imm12 * n) % 2 ^ 64) ≡ at
+sp_address sp n imm12 at is below = omega (arith, is, below)

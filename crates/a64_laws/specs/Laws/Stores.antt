@@ -16,6 +16,7 @@ use Rattle.a64_laws.specs.Laws.Effects.Open.{IsOpen, in_open, allowed_unchecked,
 use Rattle.a64_code.specs.Effect.{effect}
 use Rattle.a64_laws.specs.Forms.{Points, Store, StoreWhole, StoreWord, StoreHalf, StoreByte, store_size, store_instr, stack_pointer}
 use Rattle.a64_laws.specs.Forms.{puts_bytes}
+use Rattle.a64_laws.specs.Laws.Pointers.{sp_address}
 
 pub store_is_size : (k : Store) → IsSize (store_size k)
 store_is_size StoreWhole = inr (inr (inr refl))
@@ -64,60 +65,47 @@ caught n pointer at tag rt s points aligned memory differs =
 
 -- ---- at SP; the register 31 is zero
 
-sp_address : (sp n imm12 at : ℕ) → at ≡ sp + imm12 * n → at < 2 ^ 56 → address_of ((sp + imm12 * n) % 2 ^ 64) ≡ at
-sp_address sp n imm12 at is below = omega (arith, is, below)
+-- each kind of store is one of these
+stores_at_sp : (k : Store) (imm12 : ℕ) (rt : Reg) (s : State) → effect (store_instr k imm12 stack_pointer rt) s ≡
+    stored (store_size k) ((s.sp + imm12 * store_size k) % 2 ^ 64) false rt s
+stores_at_sp StoreWhole imm12 rt s = refl
+stores_at_sp StoreWord imm12 rt s = refl
+stores_at_sp StoreHalf imm12 rt s = refl
+stores_at_sp StoreByte imm12 rt s = refl
 
 pub store_at_sp : (k : Store) (imm12 at : ℕ) (rt : Reg) (s : State) → at ≡ s.sp + imm12 * store_size k → at < 2 ^ 56 →
     at % store_size k ≡ 0 → IsOpen s at (store_size k) →
     effect (store_instr k imm12 stack_pointer rt) s ≡ Leads (puts_bytes (store (store_size k) s.byte at (general s rt)) s)
-store_at_sp StoreWhole imm12 at rt s is below aligned memory =
-    at_sp (store_size StoreWhole)
-    ((s.sp + imm12 * store_size StoreWhole) % 2 ^ 64) at rt s (sp_address s.sp (store_size StoreWhole) imm12 at is below) aligned memory
-store_at_sp StoreWord imm12 at rt s is below aligned memory =
-    at_sp (store_size StoreWord)
-    ((s.sp + imm12 * store_size StoreWord) % 2 ^ 64) at rt s (sp_address s.sp (store_size StoreWord) imm12 at is below) aligned memory
-store_at_sp StoreHalf imm12 at rt s is below aligned memory =
-    at_sp (store_size StoreHalf)
-    ((s.sp + imm12 * store_size StoreHalf) % 2 ^ 64) at rt s (sp_address s.sp (store_size StoreHalf) imm12 at is below) aligned memory
-store_at_sp StoreByte imm12 at rt s is below aligned memory =
-    at_sp (store_size StoreByte)
-    ((s.sp + imm12 * store_size StoreByte) % 2 ^ 64) at rt s (sp_address s.sp (store_size StoreByte) imm12 at is below) aligned memory
+store_at_sp k imm12 at rt s is below aligned memory =
+    stores_at_sp k imm12 rt s
+    ∙ at_sp (store_size k) ((s.sp + imm12 * store_size k) % 2 ^ 64) at rt s (sp_address s.sp (store_size k) imm12 at is below)
+    aligned memory
 
 -- ---- through a pointer
+
+-- each kind of store is one of these
+stores_through : (k : Store) (imm12 : ℕ) (rn rt : Reg) (s : State) → rn.0 < 31 → effect (store_instr k imm12 rn rt) s ≡
+    stored (store_size k) ((s.register rn.0 + imm12 * store_size k) % 2 ^ 64) true rt s
+stores_through StoreWhole imm12 rn rt s base = rw (lt-ltb rn.0 31 base) refl
+stores_through StoreWord imm12 rn rt s base = rw (lt-ltb rn.0 31 base) refl
+stores_through StoreHalf imm12 rn rt s base = rw (lt-ltb rn.0 31 base) refl
+stores_through StoreByte imm12 rn rt s base = rw (lt-ltb rn.0 31 base) refl
 
 -- the tag of the granule is the pointer's
 pub store_through : (k : Store) (imm12 at tag : ℕ) (rn rt : Reg) (s : State) → rn.0 < 31 →
     Points ((s.register rn.0 + imm12 * store_size k) % 2 ^ 64) at tag → at % store_size k ≡ 0 →
     IsOpen s at (store_size k) → s.tag (granule_of at) ≡ tag →
     effect (store_instr k imm12 rn rt) s ≡ Leads (puts_bytes (store (store_size k) s.byte at (general s rt)) s)
-unfolding puts_bytes
-store_through StoreWhole imm12 at tag rn rt s base points aligned memory agrees =
-    rw (lt-ltb rn.0 31 base) (through (store_size StoreWhole)
-    ((s.register rn.0 + imm12 * store_size StoreWhole) % 2 ^ 64) at tag rt s (store_is_size StoreWhole) points aligned memory agrees)
-store_through StoreWord imm12 at tag rn rt s base points aligned memory agrees =
-    rw (lt-ltb rn.0 31 base) (through (store_size StoreWord)
-    ((s.register rn.0 + imm12 * store_size StoreWord) % 2 ^ 64) at tag rt s (store_is_size StoreWord) points aligned memory agrees)
-store_through StoreHalf imm12 at tag rn rt s base points aligned memory agrees =
-    rw (lt-ltb rn.0 31 base) (through (store_size StoreHalf)
-    ((s.register rn.0 + imm12 * store_size StoreHalf) % 2 ^ 64) at tag rt s (store_is_size StoreHalf) points aligned memory agrees)
-store_through StoreByte imm12 at tag rn rt s base points aligned memory agrees =
-    rw (lt-ltb rn.0 31 base) (through (store_size StoreByte)
-    ((s.register rn.0 + imm12 * store_size StoreByte) % 2 ^ 64) at tag rt s (store_is_size StoreByte) points aligned memory agrees)
+store_through k imm12 at tag rn rt s base points aligned memory agrees =
+    stores_through k imm12 rn rt s base
+    ∙ through (store_size k) ((s.register rn.0 + imm12 * store_size k) % 2 ^ 64) at tag rt s (store_is_size k) points aligned memory
+    agrees
 
 -- it is another: the run ends with just these numbers, and nothing is changed
 pub store_caught : (k : Store) (imm12 at tag : ℕ) (rn rt : Reg) (s : State) → rn.0 < 31 →
     Points ((s.register rn.0 + imm12 * store_size k) % 2 ^ 64) at tag → at % store_size k ≡ 0 →
     IsOpen s at (store_size k) → s.tag (granule_of at) ≢ tag →
     effect (store_instr k imm12 rn rt) s ≡ Ends (TagFault at tag (s.tag (granule_of at)))
-store_caught StoreWhole imm12 at tag rn rt s base points aligned memory differs =
-    rw (lt-ltb rn.0 31 base) (caught (store_size StoreWhole)
-    ((s.register rn.0 + imm12 * store_size StoreWhole) % 2 ^ 64) at tag rt s points aligned memory differs)
-store_caught StoreWord imm12 at tag rn rt s base points aligned memory differs =
-    rw (lt-ltb rn.0 31 base) (caught (store_size StoreWord)
-    ((s.register rn.0 + imm12 * store_size StoreWord) % 2 ^ 64) at tag rt s points aligned memory differs)
-store_caught StoreHalf imm12 at tag rn rt s base points aligned memory differs =
-    rw (lt-ltb rn.0 31 base) (caught (store_size StoreHalf)
-    ((s.register rn.0 + imm12 * store_size StoreHalf) % 2 ^ 64) at tag rt s points aligned memory differs)
-store_caught StoreByte imm12 at tag rn rt s base points aligned memory differs =
-    rw (lt-ltb rn.0 31 base) (caught (store_size StoreByte)
-    ((s.register rn.0 + imm12 * store_size StoreByte) % 2 ^ 64) at tag rt s points aligned memory differs)
+store_caught k imm12 at tag rn rt s base points aligned memory differs =
+    stores_through k imm12 rn rt s base
+    ∙ caught (store_size k) ((s.register rn.0 + imm12 * store_size k) % 2 ^ 64) at tag rt s points aligned memory differs

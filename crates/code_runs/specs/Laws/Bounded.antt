@@ -18,9 +18,6 @@ pub record IsLooser (a b : Account) : Type 0 where
 pub record IsWider (first second : Room) : Type 0 where
   pub wider : second.spare + first.over ≤ first.spare + second.over
 
-pub IsLooser-same : (a : Account) → IsLooser a a
-IsLooser-same a = record { least = omega arith; most = omega arith }
-
 pub IsWider-same : (room : Room) → IsWider room room
 IsWider-same room = record { wider = omega arith }
 

@@ -1,30 +1,19 @@
 -- What a run leaves of the input: what is behind the bytes that it took (this project's own).
-use Rattle.std.specs.Prelude.{◌≡◌, ℕ, zero, suc, List, map, Option, Some, None, refl}
-use Rattle.std.proofs.Common.{subst}
-use Rattle.a64_code.specs.declared.instr.Instr.{Instr}
+use Rattle.std.specs.Prelude.{◌≡◌, ℕ, zero, suc, List, map, Some, refl}
 use Rattle.a64_code.specs.State.{State}
 use Rattle.a64_code.specs.Stepped.{Stepped, Leads, Ends}
-use Rattle.a64_code.specs.Step.{fetched, carried_out, step}
+use Rattle.a64_code.specs.Step.{step}
 use Rattle.a64_laws.specs.Laws.Effects.Leaves.{OnLeads}
 use Rattle.a64_laws.specs.Laws.Effects.Takes.{LeftOf, LeftOf-all, LeftOf-then, Takes, Takes-same, Takes-then, effect-takes}
-use Rattle.mte_machine.specs.Run.{Running, run, run_after, Steps, answers_after}
-use Rattle.mte_machine.specs.Laws.Steps.{Steps-first}
+use Rattle.mte_machine.specs.Run.{run, run_after, Steps, answers_after}
+use Rattle.code_runs.specs.Laws.EachStep.{each-step, each-Steps}
 
 pub step-takes : (s : State) → OnLeads (step s) (Takes s)
-step-takes s = by_instr (fetched s)
-  where
-    by_instr : (instr : Option Instr) → OnLeads (carried_out instr s) (Takes s)
-    by_instr None = tt
-    by_instr (Some instr) = effect-takes instr s
-
-step_led : (s t : State) → step s ≡ Leads t → Takes s t
-step_led s t leads = subst (λ (done : Stepped). OnLeads done (Takes s)) leads (step-takes s)
+step-takes s = each-step (Takes s) s (λ instr. effect-takes instr s)
 
 pub Takes-Steps : (n : ℕ) {s t : State} → Steps n s t → Takes s t
-Takes-Steps zero {s} {t} steps = let running : Running s ≡ Running t = steps.runs in let same : s ≡ t = cc in
-    subst (Takes s) same (Takes-same s s refl)
-Takes-Steps (suc n) {s} {t} steps = let parts = Steps-first n s t steps in
-    Takes-then (step_led s parts.next parts.first) (Takes-Steps n parts.rest)
+Takes-Steps n steps =
+    each-Steps Takes (record { same = λ s. Takes-same s s refl; then = λ s t u first second. Takes-then first second }) step-takes n steps
 
 after_first : (n : ℕ) (s : State) (bytes : List ℕ) (first : Stepped) → OnLeads first (Takes s) → s.outside.answers ≡ map Some bytes →
     ((t : State) (left : List ℕ) → t.outside.answers ≡ map Some left → LeftOf left (answers_after (run n t))) →

@@ -1,34 +1,25 @@
 -- What a run has put begins with what it had put after fewer steps (this project's own).
-use Rattle.std.specs.Prelude.{◌≡◌, ℕ, zero, suc, ◌+◌, Bool, true, false, if◌then◌else◌, List, [], ◌∷◌, ◌++◌, Option, Some, None, refl}
+use Rattle.std.specs.Prelude.{◌≡◌, ℕ, zero, suc, ◌+◌, Bool, true, false, if◌then◌else◌, List, [], ◌∷◌, ◌++◌, refl}
 use Rattle.std.proofs.Common.{ap, sym, ◌∙◌, subst}
 use Rattle.std.proofs.lemmas.List.{append_assoc, append-nil}
-use Rattle.a64_code.specs.declared.instr.Instr.{Instr}
 use Rattle.a64_code.specs.declared.end.MachineEnd.{MachineEnd}
 use Rattle.a64_code.specs.declared.end.MachineEnd.TheVariants.{OutputFault}
 use Rattle.a64_code.specs.State.{State}
 use Rattle.a64_code.specs.Stepped.{Stepped, Leads, Ends}
 use Rattle.a64_code.specs.Services.{low_byte, output_at}
-use Rattle.a64_code.specs.Step.{fetched, carried_out, step}
+use Rattle.a64_code.specs.Step.{step}
 use Rattle.a64_laws.specs.Laws.Effects.Leaves.{OnLeads}
 use Rattle.a64_laws.specs.Laws.Effects.Grows.{Grows, Grows-same, Grows-then, effect-grows}
 use Rattle.mte_machine.specs.Run.{Run, Running, Stopped, run, run_after, Steps, output_after}
-use Rattle.mte_machine.specs.Laws.Steps.{run_on, run-add, Steps-first}
+use Rattle.mte_machine.specs.Laws.Steps.{run_on, run-add}
+use Rattle.code_runs.specs.Laws.EachStep.{each-step, each-Steps}
 
 pub step-grows : (s : State) → OnLeads (step s) (Grows s)
-step-grows s = by_instr (fetched s)
-  where
-    by_instr : (instr : Option Instr) → OnLeads (carried_out instr s) (Grows s)
-    by_instr None = tt
-    by_instr (Some instr) = effect-grows instr s
-
-step_led : (s t : State) → step s ≡ Leads t → Grows s t
-step_led s t leads = subst (λ (done : Stepped). OnLeads done (Grows s)) leads (step-grows s)
+step-grows s = each-step (Grows s) s (λ instr. effect-grows instr s)
 
 pub Grows-Steps : (n : ℕ) {s t : State} → Steps n s t → Grows s t
-Grows-Steps zero {s} {t} steps = let running : Running s ≡ Running t = steps.runs in let same : s ≡ t = cc in
-    subst (Grows s) same (Grows-same s s refl)
-Grows-Steps (suc n) {s} {t} steps = let parts = Steps-first n s t steps in
-    Grows-then (step_led s parts.next parts.first) (Grows-Steps n parts.rest)
+Grows-Steps n steps =
+    each-Steps Grows (record { same = λ s. Grows-same s s refl; then = λ s t u first second. Grows-then first second }) step-grows n steps
 
 -- the first list is a prefix of the second
 pub record IsPrefix (first whole : List ℕ) : Type 0 where

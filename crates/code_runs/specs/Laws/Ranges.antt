@@ -1,26 +1,27 @@
 -- A run leaves the numbers of its state in range (this project's own).
-use Rattle.std.specs.Prelude.{◌≡◌, ◌≢◌, ℕ, zero, suc, ◌^◌, ◌<◌, List, [], ◌∷◌, length, All, refl}
-use Rattle.std.proofs.Common.{subst, arith, mod-lt}
+use Rattle.std.specs.Prelude.{◌≢◌, ℕ, ◌^◌, ◌<◌, List, [], ◌∷◌, length, All, refl}
+use Rattle.std.proofs.Common.{arith, mod-lt}
 use Rattle.tag_mem.specs.declared.access.TagMemory.{Ghosts}
 use Rattle.a64_code.specs.Outside.{Outside}
 use Rattle.a64_code.specs.State.{State}
-use Rattle.a64_code.specs.Stepped.{Stepped, Leads}
+use Rattle.a64_code.specs.Stepped.{Stepped, Leads, Ends}
 use Rattle.a64_code.specs.Step.{step}
 use Rattle.a64_laws.specs.Laws.Effects.Leaves.{OnLeads}
 use Rattle.a64_laws.specs.Laws.Effects.InRange.{AnswersFit, IsInRange, choices-lt}
 use Rattle.a64_laws.specs.Laws.Effects.StepRange.{step-range}
 use Rattle.mte_machine.specs.Machine.{initial_state}
-use Rattle.mte_machine.specs.Run.{Running, Steps}
-use Rattle.mte_machine.specs.Laws.Steps.{StepsFrom, Steps-first}
+use Rattle.mte_machine.specs.Run.{Steps}
+use Rattle.code_runs.specs.Laws.EachStep.{each-Steps}
 
-step_led : (s t : State) → step s ≡ Leads t → IsInRange s → IsInRange t
-step_led s t leads range = subst (λ (done : Stepped). OnLeads done IsInRange) leads (step-range s range)
+where_in_range : (s : State) (first : Stepped) → (IsInRange s → OnLeads first IsInRange) → OnLeads first (λ t. IsInRange s → IsInRange t)
+where_in_range s (Leads t) all = all
+where_in_range s (Ends end) all = tt
 
 pub IsInRange-Steps : (n : ℕ) {s t : State} → Steps n s t → IsInRange s → IsInRange t
-IsInRange-Steps zero {s} {t} steps range = let running : Running s ≡ Running t = steps.runs in let same : s ≡ t = cc in
-    subst IsInRange same range
-IsInRange-Steps (suc n) {s} {t} steps range =
-    let parts : StepsFrom n s t = Steps-first n s t steps in IsInRange-Steps n parts.rest (step_led s parts.next parts.first range)
+IsInRange-Steps n steps =
+    each-Steps (λ s t. IsInRange s → IsInRange t)
+    (record { same = λ s range. range; then = λ s t u first second range. second (first range) })
+    (λ s. where_in_range s (step s) (step-range s)) n steps
 
 -- and so they are at the start, where memory has bytes and tags, as `TagMemory` promises
 pub IsInRange-initial : {M : Type 0} (shown : Ghosts M) (memory : M) (pc sp : ℕ) (choices : List ℕ) (drawn : ℕ) (outside : Outside) →

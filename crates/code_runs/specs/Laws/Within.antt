@@ -5,7 +5,7 @@ use Rattle.std.proofs.lemmas.Bool.{cases_lt}
 use Rattle.a64_code.specs.State.{State}
 use Rattle.mte_machine.specs.Run.{Steps}
 use Rattle.mte_machine.specs.Laws.Steps.{Steps-none, Steps-add, Steps-same, Steps-split}
-use Rattle.code_runs.specs.Within.{StepsWithin, Anywhere}
+use Rattle.code_runs.specs.Within.{StepsWithin}
 
 pub StepsWithin-none : (Inside : State → Type 0) (s : State) → StepsWithin Inside 0 s s
 StepsWithin-none Inside s = record { steps = Steps-none s; inside = λ k none t led. absurd (omega (arith, none)) }
@@ -43,7 +43,3 @@ StepsWithin-first {Inside} {m} {s} {t} n fewer all =
 pub StepsWithin-wider : {Inside Wider : State → Type 0} {n : ℕ} {s t : State} → ((u : State) → Inside u → Wider u) →
     StepsWithin Inside n s t → StepsWithin Wider n s t
 StepsWithin-wider wider among = record { steps = among.steps; inside = λ k within u led. wider u (among.inside k within u led) }
-
--- and all steps are anywhere
-pub StepsWithin-anywhere : {n : ℕ} {s t : State} → Steps n s t → StepsWithin Anywhere n s t
-StepsWithin-anywhere steps = record { steps = steps; inside = λ k within u led. tt }

@@ -1,38 +1,12 @@
--- Where branches go: on or back by so many words, where the test holds (this project's own).
-use Rattle.std.specs.Prelude.{◌≡◌, ◌≢◌, ℕ, suc, ◌+◌, ◌-◌, ◌*◌, ◌%◌, ◌^◌, ◌<◌, ◌≤◌, Bool, false, refl}
+-- Where branches go: on or back by so many words (this project's own).
+use Rattle.std.specs.Prelude.{◌≡◌, ℕ, suc, ◌+◌, ◌-◌, ◌*◌, ◌%◌, ◌^◌, ◌<◌, ◌≤◌}
 use Rattle.std.proofs.Common.{arith, ap, ◌∙◌, pow_pos, pow_mono}
 use Rattle.std.proofs.Math.Nat.{two-pow-succ}
-use Rattle.std.proofs.lemmas.Bool.{ne_eqb}
 use Rattle.mt_base.specs.Extension.{sign_extend}
 use Rattle.mt_base.specs.Laws.Extension.{sign_extend_low, sign_extend_high}
 use Rattle.mt_base.specs.Laws.Wrapping.{wrap_below}
-use Rattle.a64_code.specs.declared.instr.Instr.TheVariants.{Cbz, Cbnz}
-use Rattle.a64_code.specs.declared.instr.Reg.{Reg}
-use Rattle.a64_code.specs.State.{State, at_pc, advanced}
-use Rattle.a64_code.specs.Stepped.{Leads}
-use Rattle.a64_code.specs.Results.{number}
+use Rattle.a64_code.specs.State.{State}
 use Rattle.a64_code.specs.Branches.{target}
-use Rattle.a64_code.specs.Effect.{effect}
-
--- ---- compare and branch
-
-pub cbz-zero : (wide : Bool) (imm19 : ℕ) (rt : Reg) (s : State) → number false wide s rt ≡ 0 →
-    effect (Cbz wide imm19 rt) s ≡ Leads (at_pc (target 19 imm19 s) s)
-cbz-zero wide imm19 rt s is = rw is refl
-
-pub cbz-other : (wide : Bool) (imm19 : ℕ) (rt : Reg) (s : State) → number false wide s rt ≢ 0 →
-    effect (Cbz wide imm19 rt) s ≡ Leads (advanced s)
-cbz-other wide imm19 rt s other = rw (ne_eqb (number false wide s rt) 0 other) refl
-
-pub cbnz-zero : (wide : Bool) (imm19 : ℕ) (rt : Reg) (s : State) → number false wide s rt ≡ 0 →
-    effect (Cbnz wide imm19 rt) s ≡ Leads (advanced s)
-cbnz-zero wide imm19 rt s is = rw is refl
-
-pub cbnz-other : (wide : Bool) (imm19 : ℕ) (rt : Reg) (s : State) → number false wide s rt ≢ 0 →
-    effect (Cbnz wide imm19 rt) s ≡ Leads (at_pc (target 19 imm19 s) s)
-cbnz-other wide imm19 rt s other = rw (ne_eqb (number false wide s rt) 0 other) refl
-
--- ---- targets
 
 -- half of the numbers of so many bits are not negative
 halves : (bits : ℕ) → 1 ≤ bits → 2 ^ bits ≡ 2 ^ (bits - 1) + 2 ^ (bits - 1)

@@ -1,6 +1,6 @@
 -- An instruction leaves the numbers of a state in range (this project's own).
 use Rattle.std.specs.Prelude.{ℕ, zero, suc, ◌+◌, ◌-◌, ◌*◌, ◌/◌, ◌%◌, ◌^◌, ◌<◌, ◌≤◌, ◌==◌, nat_le, Bool, true, false, if◌then◌else◌}
-use Rattle.std.specs.Prelude.{int_div}
+use Rattle.std.specs.Prelude.{int_div, bit_and, bit_or, bit_xor}
 use Rattle.std.proofs.Common.{arith, mod-lt, pow_pos, lit≤}
 use Rattle.std.proofs.Math.Nat.{lt_of_le_of_lt, le_trans, mod-le, div-le_self}
 use Rattle.std.proofs.lemmas.Nat.{and_le_l, or_lt, xor_lt}
@@ -9,31 +9,29 @@ use Rattle.mt_base.specs.TwosComplement.{to_signed, from_signed}
 use Rattle.mt_base.specs.Laws.TwosComplement.{from_signed-lt}
 use Rattle.mt_base.specs.Extension.{zero_extend, sign_extend}
 use Rattle.mt_base.specs.Laws.Extension.{sign_extend-lt}
-use Rattle.mt_base.specs.Shifts.{shift_left, shift_right}
+use Rattle.mt_base.specs.Shifts.{shift_left, shift_right, arithmetic_shift_right}
 use Rattle.mt_base.specs.Laws.Shifts.{shift_left-lt, shift_right_le, arithmetic_shift_right-lt}
 use Rattle.mt_base.specs.Memory.{load, store}
 use Rattle.mt_base.specs.Laws.Memory.{load-lt}
 use Rattle.mt_base.specs.Pointers.{with_tag, address_of}
 use Rattle.mt_base.specs.Laws.Pointers.{with_tag-lt, tag_of-lt}
-use Rattle.mt_base.specs.Tags.{next_tag, zero_excluded}
+use Rattle.mt_base.specs.Tags.{next_tag}
 use Rattle.mt_base.specs.Laws.TagChoice.{next_tag-lt}
 use Rattle.a64_alu.specs.Width.{width, invert}
 use Rattle.a64_alu.specs.Bitfield.{bitfield_unsigned, bitfield_signed}
 use Rattle.a64_alu.specs.Dividing.{divide_unsigned, divide_signed}
 use Rattle.a64_code.specs.declared.instr.Instr.{Instr}
-use Rattle.a64_code.specs.declared.instr.Instr.TheVariants.{Movz, Movk, Movn, AddImm, SubImm, SubsImm, AddReg, SubReg, SubsReg, AndReg}
-use Rattle.a64_code.specs.declared.instr.Instr.TheVariants.{OrrReg, EorReg, Lslv, Lsrv, Asrv, Udiv, Sdiv, Madd, Msub, Sbfm, Ubfm, Csinc}
-use Rattle.a64_code.specs.declared.instr.Instr.TheVariants.{Adrp, Cbz, Cbnz, B, Bl, BCond, Ret, Ldr, Ldrb, Ldrh, Ldrsw, Ldrsb, Ldrsh, Ldp}
-use Rattle.a64_code.specs.declared.instr.Instr.TheVariants.{Addg, Subg, Irg, Stg, Stzg, St2g, Stz2g, Ldg}
+use Rattle.a64_code.specs.declared.instr.Instr.TheVariants.{Movz, Movk}
+use Rattle.a64_code.specs.declared.instr.Instr.TheVariants.{Nop}
 use Rattle.a64_code.specs.declared.instr.Reg.{Reg}
 use Rattle.a64_code.specs.State.{State, operand, with_general, with_flags, with_choice_drawn, advanced}
 use Rattle.a64_code.specs.Access.{single, pair, tag_store, access_end}
+use Rattle.a64_code.specs.LoadsAndStores.{register_bytes}
 use Rattle.a64_code.specs.Services.{service_register, low_byte, service}
 use Rattle.a64_code.specs.Outside.{next_number}
 use Rattle.a64_code.specs.Shape.{Result, Shape, GoesOn, Puts, PutsWithFlags, PutsAndDraws, Branches, BranchesWithLink, Loads, LoadsPair}
 use Rattle.a64_code.specs.Shape.{Stores, StoresPair, StoresTags, Clears, Serves, link_register, with_result, done}
 use Rattle.a64_code.specs.Results.{number, with_halfword, chosen_or_next}
-use Rattle.a64_code.specs.TagInstructions.{next_choice, excluded_by}
 use Rattle.a64_code.specs.Effect.{shape, effect}
 use Rattle.a64_laws.specs.Laws.Effects.Leaves.{OnLeads}
 use Rattle.a64_laws.specs.Laws.Effects.Kept.{unless_leads, service_leads}
@@ -124,6 +122,25 @@ chosen_or_next-lt false wide x y small = mod_width-lt wide (y + 1)
 load_range : (n : ℕ) (s : State) (at : ℕ) → 256 ^ n ≤ 2 ^ 64 → IsInRange s → load n s.byte at < 2 ^ 64
 load_range n s at few range = omega (arith, load-lt n s.byte at range.bytes, few)
 
+load-register : (wide : Bool) (s : State) (at : ℕ) → IsInRange s → load (register_bytes wide) s.byte at < 2 ^ 64
+load-register true s at range = load_range 8 s at (lit≤ tt) range
+load-register false s at range = load_range 4 s at (lit≤ tt) range
+
+load-eight : (s : State) (at : ℕ) → IsInRange s → load 8 s.byte at < 2 ^ 64
+load-eight s at range = load_range 8 s at (lit≤ tt) range
+
+load-two : (s : State) (at : ℕ) → IsInRange s → load 2 s.byte at < 2 ^ 64
+load-two s at range = load_range 2 s at (lit≤ tt) range
+
+load-one : (s : State) (at : ℕ) → IsInRange s → load 1 s.byte at < 2 ^ 64
+load-one s at range = load_range 1 s at (lit≤ tt) range
+
+signed-lt : (bits value : ℕ) → sign_extend bits 64 value < 2 ^ 64
+signed-lt bits value = sign_extend-lt bits 64 value
+
+tag-lt : (s : State) (granule : ℕ) → IsInRange s → s.tag granule < 16
+tag-lt s granule range = range.tags granule
+
 -- ---- shapes
 
 -- what an instruction of a shape puts into registers and PC are numbers of 64 bits
@@ -192,69 +209,31 @@ tagged_pointer-lt : (pointer tag offset exclude : ℕ) → pointer < 2 ^ 64 → 
 tagged_pointer-lt pointer tag offset exclude small =
     with_tag-lt pointer (next_tag tag offset exclude) small (next_tag-lt tag offset exclude)
 
--- of fields within their widths, and of numbers in range
+bit_and-lt : (x y : ℕ) → x < 2 ^ 64 → bit_and x y < 2 ^ 64
+bit_and-lt x y small = lt_of_le_of_lt (and_le_l x y) small
+
+bit_or-lt : (x y : ℕ) → x < 2 ^ 64 → y < 2 ^ 64 → bit_or x y < 2 ^ 64
+bit_or-lt x y = or_lt 64 x y
+
+bit_xor-lt : (x y : ℕ) → x < 2 ^ 64 → y < 2 ^ 64 → bit_xor x y < 2 ^ 64
+bit_xor-lt x y = xor_lt 64 x y
+
+shift_right-lt : (x amount : ℕ) → x < 2 ^ 64 → shift_right x amount < 2 ^ 64
+shift_right-lt x amount small = lt_of_le_of_lt (shift_right_le x amount) small
+
+arithmetic-lt : (wide : Bool) (x amount : ℕ) → arithmetic_shift_right (width wide) x amount < 2 ^ 64
+arithmetic-lt wide x amount = of_the_width wide _ (arithmetic_shift_right-lt (width wide) x amount)
+
+-- what is known of each operation
+ruleset operations = (of_width-lt, number-lt, operand-lt, halfword_at-lt, with_halfword-lt, invert-lt, mod_width-lt, bit_and-lt, bit_or-lt,
+    bit_xor-lt, shift_right-lt, arithmetic-lt, divide_unsigned-lt, divide_signed-lt, bitfield_signed-lt, bitfield_unsigned-lt,
+    chosen_or_next-lt, load-register, load-eight, load-two, load-one, signed-lt, tag-lt, tag_of-lt, tagged_pointer-lt, with_tag-lt)
+
+-- Of fields within their widths, and of numbers in range: the second line stands for every other instruction, and an operation that is
+-- new wants its law in the list above.
 computes-lt : (instr : Instr) (s : State) → MoveFits instr → IsInRange s → Fits (shape instr s)
-computes-lt (Movz wide hw imm16 rd) s fits range = of_width-lt wide _ (halfword_at-lt hw imm16 fits.0 fits.1)
-computes-lt (Movk wide hw imm16 rd) s fits range =
-    of_width-lt wide _ (with_halfword-lt hw imm16 _ fits.0 fits.1 (number-lt false wide s rd range))
-computes-lt (Movn wide hw imm16 rd) s fits range = of_width-lt wide _ (invert-lt wide (imm16 * 2 ^ (16 * hw)))
-computes-lt (AddImm wide sh imm12 rn rd) s fits range = of_width-lt wide _ (mod_width-lt wide _)
-computes-lt (SubImm wide sh imm12 rn rd) s fits range = of_width-lt wide _ (mod_width-lt wide _)
-computes-lt (SubsImm wide sh imm12 rn rd) s fits range = of_width-lt wide _ (mod_width-lt wide _)
-computes-lt (AddReg wide rm rn rd) s fits range = of_width-lt wide _ (mod_width-lt wide _)
-computes-lt (SubReg wide rm rn rd) s fits range = of_width-lt wide _ (mod_width-lt wide _)
-computes-lt (SubsReg wide rm rn rd) s fits range = of_width-lt wide _ (mod_width-lt wide _)
-computes-lt (AndReg wide rm rn rd) s fits range =
-    of_width-lt wide _ (lt_of_le_of_lt (and_le_l (number false wide s rn) (number false wide s rm)) (number-lt false wide s rn range))
-computes-lt (OrrReg wide rm rn rd) s fits range =
-    of_width-lt wide _
-    (or_lt 64 (number false wide s rn) (number false wide s rm) (number-lt false wide s rn range) (number-lt false wide s rm range))
-computes-lt (EorReg wide rm rn rd) s fits range =
-    of_width-lt wide _
-    (xor_lt 64 (number false wide s rn) (number false wide s rm) (number-lt false wide s rn range) (number-lt false wide s rm range))
-computes-lt (Lslv wide rm rn rd) s fits range = of_width-lt wide _ (mod_width-lt wide _)
-computes-lt (Lsrv wide rm rn rd) s fits range =
-    of_width-lt wide _
-    (lt_of_le_of_lt (shift_right_le (number false wide s rn) (number false wide s rm % width wide)) (number-lt false wide s rn range))
-computes-lt (Asrv wide rm rn rd) s fits range =
-    of_width-lt wide _
-    (of_the_width wide _ (arithmetic_shift_right-lt (width wide) (number false wide s rn) (number false wide s rm % width wide)))
-computes-lt (Udiv wide rm rn rd) s fits range =
-    of_width-lt wide _ (divide_unsigned-lt (number false wide s rn) (number false wide s rm) (number-lt false wide s rn range))
-computes-lt (Sdiv wide rm rn rd) s fits range =
-    of_width-lt wide _ (divide_signed-lt wide (number false wide s rn) (number false wide s rm))
-computes-lt (Madd wide rm ra rn rd) s fits range = of_width-lt wide _ (mod_width-lt wide _)
-computes-lt (Msub wide rm ra rn rd) s fits range = of_width-lt wide _ (mod_width-lt wide _)
-computes-lt (Sbfm wide immr imms rn rd) s fits range = of_width-lt wide _ (bitfield_signed-lt wide immr imms (number false wide s rn))
-computes-lt (Ubfm wide immr imms rn rd) s fits range =
-    of_width-lt wide _ (bitfield_unsigned-lt wide immr imms (number false wide s rn) (number-lt false wide s rn range))
-computes-lt (Csinc wide rm cond rn rd) s fits range =
-    of_width-lt wide _ (chosen_or_next-lt _ wide (number false wide s rn) (number false wide s rm) (number-lt false wide s rn range))
-computes-lt (Adrp immlo immhi rd) s fits range = of_width-lt true _ (mod_width-lt true _)
-computes-lt (Cbz wide imm19 rt) s fits range = omega arith
-computes-lt (Cbnz wide imm19 rt) s fits range = omega arith
-computes-lt (B imm26) s fits range = omega arith
-computes-lt (Bl imm26) s fits range = omega arith
-computes-lt (BCond imm19 cond) s fits range = omega arith
-computes-lt Ret s fits range = operand-lt false s link_register range
-computes-lt (Ldr true imm12 rn rt) s fits range = load_range 8 s _ (lit≤ tt) range
-computes-lt (Ldr false imm12 rn rt) s fits range = load_range 4 s _ (lit≤ tt) range
-computes-lt (Ldrb imm12 rn rt) s fits range = load_range 1 s _ (lit≤ tt) range
-computes-lt (Ldrh imm12 rn rt) s fits range = load_range 2 s _ (lit≤ tt) range
-computes-lt (Ldrsw imm12 rn rt) s fits range = sign_extend-lt 32 64 _
-computes-lt (Ldrsb imm12 rn rt) s fits range = sign_extend-lt 8 64 _
-computes-lt (Ldrsh imm12 rn rt) s fits range = sign_extend-lt 16 64 _
-computes-lt (Ldp imm7 rt2 rn rt) s fits range = (load_range 8 s _ (lit≤ tt) range, load_range 8 s _ (lit≤ tt) range)
-computes-lt (Addg uimm6 uimm4 rn rd) s fits range = tagged_pointer-lt _ _ uimm4 zero_excluded (mod_width-lt true _)
-computes-lt (Subg uimm6 uimm4 rn rd) s fits range = tagged_pointer-lt _ _ uimm4 zero_excluded (mod_width-lt true _)
-computes-lt (Irg rm rn rd) s fits range =
-    tagged_pointer-lt (operand true s rn) (next_choice s) 0 (excluded_by (operand false s rm)) (operand-lt true s rn range)
-computes-lt (Stg simm9 rn rt) s fits range = tag_of-lt (operand true s rt)
-computes-lt (Stzg simm9 rn rt) s fits range = tag_of-lt (operand true s rt)
-computes-lt (St2g simm9 rn rt) s fits range = tag_of-lt (operand true s rt)
-computes-lt (Stz2g simm9 rn rt) s fits range = tag_of-lt (operand true s rt)
-computes-lt (Ldg simm9 rn rt) s fits range = with_tag-lt (operand false s rt) _ (operand-lt false s rt range) (range.tags _)
-computes-lt _ s fits range = tt
+computes-lt Nop s fits range = tt
+computes-lt instr s fits range = search (operations, arith)
 
 pub effect-range : (instr : Instr) (s : State) → MoveFits instr → IsInRange s → OnLeads (effect instr s) IsInRange
 effect-range instr s fits range = done-range (shape instr s) s (computes-lt instr s fits range) range

@@ -7,7 +7,6 @@ use Rattle.mt_base.specs.Memory.{is_between, store, store_bytes, bytes_of, store
 use Rattle.a64_alu.specs.declared.flags.Flags.{Flags}
 use Rattle.a64_code.specs.declared.instr.Reg.{Reg}
 use Rattle.a64_code.specs.Outside.{Outside, number_of, next_number, left_after, after_next, after_put}
-use Rattle.a64_code.specs.TagInstructions.{next_choice}
 use Rattle.a64_code.specs.State.{State, with_value, operand, with_operand, with_flags, with_bytes, with_tags, tagged, with_choice_drawn}
 use Rattle.a64_code.specs.State.{with_outside, of_width, at_pc, advanced}
 
@@ -55,10 +54,6 @@ in_range registers sp pc bytes tags drawn choices answers = record {
   choices = choices;
   answers = answers;
 }
-
--- the choice that comes next is a tag
-pub next_choice-lt : (s : State) → IsInRange s → next_choice s < 16
-next_choice-lt s range = range.choices s.drawn
 
 pub operand-lt : (takes : Bool) (s : State) (r : Reg) → IsInRange s → operand takes s r < 2 ^ 64
 operand-lt takes s r range = by_number takes (nat_lt r.0 31) refl

@@ -145,11 +145,6 @@ pub puts_leaves : {r : Reach} {s : State} (takes : Bool) (q : Reg) (value : ℕ)
 puts_leaves takes q value t reaches none pc k =
     goes_on (with_operand-pc takes q value t ∙ pc) (spares_protected none) (keeps_operand takes q value reaches k)
 
--- nothing else changes
-pub puts_only : (r : Reach) (s : State) (takes : Bool) (q : Reg) (value : ℕ) → Reaches r takes q → SparesMemory r →
-    Leaves r s (advanced (with_operand takes q value s))
-puts_only r s takes q value reaches none = puts_leaves takes q value s reaches none refl (keeps_same r s)
-
 -- what comes where nothing ends the run
 pub unless_leads : (P : State → Type 0) (end : Option MachineEnd) (next : State) → (end ≡ None → P next) → OnLeads (unless end next) P
 unless_leads P None next holds = holds refl

@@ -1,6 +1,6 @@
--- Reaches compared and joined, and what a list of instructions leaves as it was (this project's own).
-use Rattle.std.specs.Prelude.{◌≡◌, ℕ, Bool, true, false, ◌||◌, List, [], ◌∷◌, ◌++◌, refl}
-use Rattle.std.proofs.Common.{◌∙◌, subst, true≢false}
+-- Reaches compared, and what a list of instructions leaves as it was (this project's own).
+use Rattle.std.specs.Prelude.{◌≡◌, ℕ, false, List, [], ◌∷◌, ◌++◌}
+use Rattle.std.proofs.Common.{◌∙◌, subst}
 use Rattle.a64_code.specs.declared.instr.Instr.{Instr}
 use Rattle.a64_code.specs.State.{State}
 use Rattle.a64_code.specs.Stepped.{Leads}
@@ -20,49 +20,6 @@ pub record IsNarrower (narrow wide : Reach) : Type 0 where
   pub tags : (granule : ℕ) → wide.tags granule ≡ false → narrow.tags granule ≡ false
   pub draws : wide.draws ≡ false → narrow.draws ≡ false
   pub asks : wide.asks ≡ false → narrow.asks ≡ false
-
--- what is within one of two reaches
-abbrev pub either : Reach → Reach → Reach
-either r q = record {
-  registers = λ n. r.registers n || q.registers n;
-  sp = r.sp || q.sp;
-  flags = r.flags || q.flags;
-  bytes = λ at. r.bytes at || q.bytes at;
-  tags = λ granule. r.tags granule || q.tags granule;
-  draws = r.draws || q.draws;
-  asks = r.asks || q.asks;
-  branches = r.branches || q.branches;
-}
-
-first_false : (a b : Bool) → (a || b) ≡ false → a ≡ false
-first_false true b h = h
-first_false false b h = refl
-
-second_false : (a b : Bool) → (a || b) ≡ false → b ≡ false
-second_false true b h = absurd (true≢false h)
-second_false false b h = h
-
-pub IsNarrower-either : (r q : Reach) → IsNarrower r (either r q)
-IsNarrower-either r q = record {
-  registers = λ n h. first_false (r.registers n) (q.registers n) h;
-  sp = first_false r.sp q.sp;
-  flags = first_false r.flags q.flags;
-  bytes = λ at h. first_false (r.bytes at) (q.bytes at) h;
-  tags = λ granule h. first_false (r.tags granule) (q.tags granule) h;
-  draws = first_false r.draws q.draws;
-  asks = first_false r.asks q.asks;
-}
-
-pub IsNarrower-or : (r q : Reach) → IsNarrower q (either r q)
-IsNarrower-or r q = record {
-  registers = λ n h. second_false (r.registers n) (q.registers n) h;
-  sp = second_false r.sp q.sp;
-  flags = second_false r.flags q.flags;
-  bytes = λ at h. second_false (r.bytes at) (q.bytes at) h;
-  tags = λ granule h. second_false (r.tags granule) (q.tags granule) h;
-  draws = second_false r.draws q.draws;
-  asks = second_false r.asks q.asks;
-}
 
 -- ---- what is kept
 
