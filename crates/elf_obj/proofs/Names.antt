@@ -60,7 +60,7 @@ symbol-new file z at place earlier s h =
 
 -- ---- the names that were seen
 
-any-snoc : {A : Type 0} (p : A → Bool) (xs : List A) (y : A) → list_any p (xs ++ y ∷ []) ≡ (list_any p xs || p y)
+pub any-snoc : {A : Type 0} (p : A → Bool) (xs : List A) (y : A) → list_any p (xs ++ y ∷ []) ≡ (list_any p xs || p y)
 any-snoc p [] y = chosen (p y)
   where
     chosen : (b : Bool) → (b || false) ≡ b

@@ -11,5 +11,6 @@ pub mod Conditions
 pub mod ObjectFault
 pub mod Small
 pub mod Repeats
+pub mod Apart
 pub mod Laying
 pub mod Laws

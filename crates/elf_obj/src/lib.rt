@@ -1,6 +1,7 @@
 //! Object files: what the compiler writes and the linker reads, as one ELF64 file for each list of parts.
 #![tactic(auto)]
 
+mod apart;
 mod claim;
 mod file;
 mod headers;

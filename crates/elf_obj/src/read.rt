@@ -2,12 +2,16 @@ ghost use Rattle.std.specs.Prelude.{◌≡◌, ◌⊎◌, ◌≤◌, ◌++◌, [
 ghost use Rattle.elf_obj.specs.Object.{Object, object_of};
 ghost use Rattle.elf_obj.specs.Sections.{sizes_of};
 ghost use Rattle.elf_obj.specs.ObjectFile.{IsFileOf};
+ghost use Rattle.std.specs.List.{AllByRecursion};
+ghost use Rattle.elf_obj.specs.declared.parts.Home.TheVariants.{Init, Zero};
 ghost use Rattle.elf_obj.specs.Repeats.{first_repeat};
+ghost use Rattle.elf_obj.specs.Apart.{IsSound, first_shared};
 ghost use Rattle.elf_obj.specs.Claimed.{claimed};
 ghost use Rattle.elf_obj.specs.Conditions.{Tells};
 ghost use Rattle.elf_obj.specs.ObjectFault.{all_section_conditions, table_conditions, code_conditions, data_conditions, tagged_conditions, object_conditions, ObjectFault};
 ghost use Rattle.elf_obj.specs.Laws.Held.{AreHeld};
 
+use crate::apart::{Shared, shared_of};
 use crate::claim::claimed;
 use crate::file::{is_zero_between, offset_of};
 use crate::parts::ObjectParts;
@@ -39,21 +43,31 @@ pub fn read_object(alloc: Global, file: &[u8]) -> Result<ObjectParts, ObjectRefu
     judge_start(file)?;
     let parts = claimed(alloc, file)?;
     let repeat = first_repeat(alloc, &parts.symbols)?;
-    judge(file, &parts, repeat)?;
+    let shared = shared_of(alloc, &parts.symbols, &parts.tagged)?;
+    judge(file, &parts, repeat, shared)?;
     Ok(parts)
 }
 
 // The first condition that fails behind those of the start.
-fn judge(file: &[u8], parts: &ObjectParts, repeat: usize) -> Result<(), ObjectRefusal>
+fn judge(
+    file: &[u8],
+    parts: &ObjectParts,
+    repeat: usize,
+    shared: Shared,
+) -> Result<(), ObjectRefusal>
     requires start { 64 ≤ length file.now }
     requires held { AreHeld file.now }
     requires parts { object_of parts.now ≡ claimed file.now }
     requires repeat { repeat ≡ first_repeat 0 [] parts.now.symbols.items }
+    requires init { AllByRecursion (IsSound Init) parts.now.symbols.items
+        → shared.init ≡ first_shared Init parts.now.symbols.items 0 [] parts.now.tagged.items }
+    requires zero { AllByRecursion (IsSound Zero) parts.now.symbols.items
+        → shared.zero ≡ first_shared Zero parts.now.symbols.items 0 [] parts.now.tagged.items }
     ensures { Tells result (all_section_conditions file.now ++ object_conditions file.now (claimed file.now)) }
 {
     let sizes = sizes_of(parts);
     judge_sections(file, &sizes)?;
-    judge_records(file, &sizes, parts, repeat)?;
+    judge_records(file, &sizes, parts, repeat, shared)?;
     Ok(())
 }
 
@@ -120,10 +134,12 @@ fn judge_data(file: &[u8], sizes: &Sizes, parts: &ObjectParts) -> Result<(), Obj
 }
 
 // The first tagged symbol that is not as it should be.
-fn judge_tagged(file: &[u8], parts: &ObjectParts) -> Result<(), ObjectRefusal>
+fn judge_tagged(file: &[u8], parts: &ObjectParts, shared: Shared) -> Result<(), ObjectRefusal>
     requires start { 64 ≤ length file.now }
     requires held { AreHeld file.now }
     requires parts { object_of parts.now ≡ claimed file.now }
+    requires init { shared.init ≡ first_shared Init parts.now.symbols.items 0 [] parts.now.tagged.items }
+    requires zero { shared.zero ≡ first_shared Zero parts.now.symbols.items 0 [] parts.now.tagged.items }
     ensures { Tells result (tagged_conditions file.now (claimed file.now)) }
 {
     let first = parts.text_relocs.len() as u64 + parts.init_relocs.len() as u64;
@@ -132,6 +148,7 @@ fn judge_tagged(file: &[u8], parts: &ObjectParts) -> Result<(), ObjectRefusal>
         &parts.symbols,
         offset_of(file, 11),
         first,
+        shared,
         &parts.tagged,
     )
 }
@@ -142,17 +159,22 @@ fn judge_records(
     sizes: &Sizes,
     parts: &ObjectParts,
     repeat: usize,
+    shared: Shared,
 ) -> Result<(), ObjectRefusal>
     requires start { 64 ≤ length file.now }
     requires held { AreHeld file.now }
     requires parts { object_of parts.now ≡ claimed file.now }
     requires sizes { sizes.now ≡ sizes_of (claimed file.now) }
     requires repeat { repeat ≡ first_repeat 0 [] parts.now.symbols.items }
+    requires init { AllByRecursion (IsSound Init) parts.now.symbols.items
+        → shared.init ≡ first_shared Init parts.now.symbols.items 0 [] parts.now.tagged.items }
+    requires zero { AllByRecursion (IsSound Zero) parts.now.symbols.items
+        → shared.zero ≡ first_shared Zero parts.now.symbols.items 0 [] parts.now.tagged.items }
     ensures { Tells result (object_conditions file.now (claimed file.now)) }
 {
     judge_table(file, sizes, parts, repeat)?;
     judge_code(file, sizes, parts)?;
     judge_data(file, sizes, parts)?;
-    judge_tagged(file, parts)?;
+    judge_tagged(file, parts, shared)?;
     Ok(())
 }

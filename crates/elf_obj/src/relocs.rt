@@ -1,14 +1,17 @@
-ghost use Rattle.std.specs.Prelude.{◌≡◌, ◌+◌, ◌*◌, ◌<◌, ◌≤◌, ◌^◌, Some, None, [], IsTrue, nat_lt, length, slice_get, MatchResult};
+ghost use Rattle.std.specs.Prelude.{◌≡◌, ◌+◌, ◌*◌, ◌<◌, ◌≤◌, ◌^◌, Some, None, [], ◌&&◌, IsTrue, length, slice_get, MatchResult};
 ghost use Rattle.elf_base.specs.Records.{rela_fields};
 ghost use Rattle.elf_obj.specs.ObjectFile.{AllCounted, AllNumbered};
 ghost use Rattle.elf_obj.specs.Records.{reloc_record, tag_record};
-ghost use Rattle.elf_obj.specs.Rules.{is_code_kind, is_got_kind, is_field, reloc_rule, shares_byte, shares_found, is_variable, is_apart, tag_keeps};
+ghost use Rattle.elf_obj.specs.Rules.{is_code_kind, is_got_kind, is_field, reloc_rule, is_variable, tag_keeps};
+ghost use Rattle.elf_obj.specs.declared.parts.Home.TheVariants.{Init, Zero};
+ghost use Rattle.elf_obj.specs.Apart.{is_found_apart, first_shared};
 ghost use Rattle.elf_obj.specs.Conditions.{stands, first_fault};
 ghost use Rattle.elf_obj.specs.ObjectFault.{is_reloc, reloc_conditions, is_tag, tag_conditions};
 
+use crate::apart::Shared;
 use crate::file::{both, stand_at};
 use crate::parts::{Home, Reloc, Symbol};
-use crate::put::{home_number, rela_of, tag_rela};
+use crate::put::{rela_of, tag_rela};
 use crate::refusal::ObjectRefusal;
 use elf_base::write_rela;
 
@@ -108,32 +111,6 @@ pub(crate) fn judge_relocs(
     Ok(())
 }
 
-// A place is below the end of a symbol.
-fn is_below_end(value: u64, symbol: &Symbol) -> bool
-    ensures { result ≡ nat_lt value (symbol.now.value + symbol.now.size) }
-{
-    value < symbol.value || value - symbol.value < symbol.size
-}
-
-// The two have a byte in common.
-fn shares_byte(symbol: &Symbol, other: &Symbol) -> bool
-    ensures { result ≡ shares_byte symbol.now other.now }
-{
-    home_number(symbol.home) == home_number(other.home)
-        && is_below_end(symbol.value, other)
-        && is_below_end(other.value, symbol)
-}
-
-// The symbol of a number shares a byte with this one.
-fn shares_found(symbols: &[Symbol], symbol: &Symbol, number: u32) -> bool
-    ensures { result ≡ shares_found symbol.now (slice_get symbols.now number) }
-{
-    match symbols.get(number as usize) {
-        None => false,
-        Some(other) => shares_byte(symbol, other),
-    }
-}
-
 fn is_variable(home: Home) -> bool
     ensures { result ≡ is_variable home }
 {
@@ -146,21 +123,11 @@ fn is_variable(home: Home) -> bool
     }
 }
 
-// The symbol shares no byte with those of earlier numbers.
-fn is_apart(symbols: &[Symbol], earlier: &[u32], symbol: &Symbol) -> bool
-    ensures { result ≡ is_apart symbols.now earlier.now symbol.now }
-{
-    for other in earlier {
-        if shares_found(symbols, symbol, *other) {
-            return false;
-        }
-    }
-    true
-}
-
-// The number keeps the rules of tagged symbols behind earlier ones.
+// The number keeps the rules of tagged symbols behind earlier ones, where it is known whether its symbol lies apart from theirs.
 #[tactic(auto, unfolding(crate::specs::Rules::tag_keeps))]
-fn tag_keeps(symbols: &[Symbol], earlier: &[u32], least: u64, number: u32) -> bool
+fn tag_keeps(symbols: &[Symbol], earlier: &[u32], least: u64, apart: bool, number: u32) -> bool
+    requires { apart ≡ (is_found_apart Init symbols.now earlier.now (slice_get symbols.now number)
+        && is_found_apart Zero symbols.now earlier.now (slice_get symbols.now number)) }
     ensures { result ≡ tag_keeps symbols.now earlier.now least number }
 {
     if u64::from(number) < least {
@@ -168,23 +135,25 @@ fn tag_keeps(symbols: &[Symbol], earlier: &[u32], least: u64, number: u32) -> bo
     }
     match symbols.get(number as usize) {
         None => false,
-        Some(symbol) => {
-            is_variable(symbol.home) && !symbol.function && is_apart(symbols, earlier, symbol)
-        }
+        Some(symbol) => is_variable(symbol.home) && !symbol.function && apart,
     }
 }
 
-// The first tagged symbol that is not as it should be. Their records begin at a place of the file, and the first has a number.
+// The first tagged symbol that is not as it should be. Their records begin at a place of the file, and the first has a number. Of each
+// section the first that shares bytes is known.
 pub(crate) fn judge_tags(
     file: &[u8],
     symbols: &[Symbol],
     at: u64,
     first: u64,
+    shared: Shared,
     tagged: &[u32],
 ) -> Result<(), ObjectRefusal>
     requires within { at + 24 * length tagged.now ≤ length file.now }
     requires numbered { AllNumbered tagged.now }
     requires first_low { first < 2 ^ 63 }
+    requires init { shared.init ≡ first_shared Init symbols.now 0 [] tagged.now }
+    requires zero { shared.zero ≡ first_shared Zero symbols.now 0 [] tagged.now }
     ensures { MatchResult result
         (λ _. first_fault (tag_conditions file.now symbols.now at [] 0 first tagged.now) ≡ None)
         (λ e. first_fault (tag_conditions file.now symbols.now at [] 0 first tagged.now) ≡ Some e) }
@@ -195,7 +164,8 @@ pub(crate) fn judge_tags(
         let here = at + 24 * index as u64;
         let earlier = &tagged[..index];
         let stands = is_tag(file, here, number);
-        let keeps = tag_keeps(symbols, earlier, least, number);
+        let apart = both(index != shared.init, index != shared.zero);
+        let keeps = tag_keeps(symbols, earlier, least, apart, number);
         let good = both(stands, keeps);
         if !good {
             return Err(ObjectRefusal::BadRelocation {

@@ -1,4 +1,9 @@
-use Rattle.std.proofs.Common.{ℕ, List, ◌++◌, ◌∙◌}
+use Rattle.std.proofs.Common.{ℕ, List, ◌++◌, ◌∙◌, ◌<◌, ◌^◌, length, sym, ap, subst, arith}
+use Rattle.std.specs.List.{AllByRecursion}
+use Rattle.elf_obj.specs.declared.parts.Symbol.{Symbol}
+use Rattle.elf_obj.specs.declared.parts.Home.TheVariants.{Init, Zero}
+use Rattle.elf_obj.specs.Apart.{IsSound}
+use Rattle.elf_obj.proofs.Sound.{init-sound, zero-sound}
 use Rattle.std.proofs.lemmas.Result.{err_from_is_err_and}
 use Rattle.elf_obj.specs.Object.{Object}
 use Rattle.elf_obj.specs.Claimed.{claimed}
@@ -46,3 +51,14 @@ returns c =
     first-none (table_conditions file p ++ code_conditions file p ++ data_conditions file p) (tagged_conditions file p)
     (first-none (table_conditions file p ++ code_conditions file p) (data_conditions file p) (first-none (table_conditions file p) (code_conditions file p) c.in_ok-judge_table.ensures ∙ c.in_ok-judge_code.ensures) ∙ c.in_ok-judge_data.ensures)
     ∙ c.in_ok-judge_tagged.ensures
+
+pub judge_tagged-requires-clause-init : goal.judge_tagged-requires-clause-init
+judge_tagged-requires-clause-init c =
+    let short : length c.args.file.now < 2 ^ 63 = omega arith in
+    c.requires.init (subst (λ (ss : List Symbol). AllByRecursion (IsSound Init) ss) (sym (ap (λ (o : Object). o.symbols) c.requires.parts))
+    (init-sound c.args.file.now short c.in_ok-judge_table.ensures))
+
+pub judge_tagged-requires-clause-zero : goal.judge_tagged-requires-clause-zero
+judge_tagged-requires-clause-zero c =
+    c.requires.zero (subst (λ (ss : List Symbol). AllByRecursion (IsSound Zero) ss) (sym (ap (λ (o : Object). o.symbols) c.requires.parts))
+    (zero-sound c.args.file.now (λ i. omega (arith, c.type_inv.file i)) c.in_ok-judge_table.ensures))
