@@ -33,7 +33,13 @@ returns e = item.Stmt (stmt.Return (Some e) e.span)
 -- int name(void) with these items and no locals
 abbrev pub function_with : List ℕ → List TItem → TFunction
 function_with name items = record {
-  name = name; local = false; params = 0; result = int_type; locals = []; body = stmt.Block items; span = span 0 0;
+  name = name;
+  local = false;
+  params = 0;
+  result = int_type;
+  locals = [];
+  body = stmt.Block items;
+  span = span 0 0;
 }
 
 abbrev pub file_of : List TFunction → Typed

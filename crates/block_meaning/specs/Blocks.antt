@@ -1,6 +1,7 @@
 -- Memory as blocks that have no addresses: each object, text and function is one (after ISO C11 6.2.4 and 6.2.6; cells are this
 -- project's own).
-use Rattle.std.specs.Prelude.{ℕ, Bool, true, false, ◌+◌, ◌%◌, ◌^◌, List, [], ◌++◌, take, drop, length, replicate, slice_get, slice_set, Option, Some, None}
+use Rattle.std.specs.Prelude.{ℕ, Bool, true, false, ◌+◌, ◌%◌, ◌^◌, List, [], ◌++◌, take, drop, length, replicate, slice_get, slice_set}
+use Rattle.std.specs.Prelude.{Option, Some, None}
 
 -- what a byte of a block holds
 pub data Cell : Type 0 where

@@ -1,7 +1,8 @@
 -- What an expression does and gives (ISO C11 6.5). One case a node, given how its parts run. A node spends a unit of work after its
 -- operands and before its own effect; `&&`, `||` and `?:` do after the first. Parentheses, what the compiler adds (`Read`, `Decay`,
 -- `Convert`), and what stands below `sizeof` spend none.
-use Rattle.std.specs.Prelude.{ℕ, zero, suc, ◌-◌, ◌*◌, ◌%◌, ◌^◌, Bool, true, false, List, [], ◌∷◌, ◌++◌, map, slice_get, Option, Some, None, if◌then◌else◌}
+use Rattle.std.specs.Prelude.{ℕ, zero, suc, ◌-◌, ◌*◌, ◌%◌, ◌^◌, Bool, true, false, List, [], ◌∷◌, ◌++◌, map, slice_get, Option, Some, None}
+use Rattle.std.specs.Prelude.{if◌then◌else◌}
 use Rattle.c_ast.specs.declared.token.Span.{Span}
 use Rattle.c_ast.specs.declared.operator.UnaryOperator.{UnaryOperator}
 use Rattle.c_ast.specs.declared.operator.UnaryOperator.TheVariants as unary
@@ -26,7 +27,8 @@ use Rattle.block_meaning.specs.Blocks.{Pointer, pointer, moved}
 use Rattle.block_meaning.specs.Linkage.{function_of, object_block, text_block, extern_block, extern_at, definition_of, called_as}
 use Rattle.block_meaning.specs.Memory.{Object, object, structs_at, bytes_of, read, read_scalar, write, copy_struct}
 use Rattle.block_meaning.specs.Operators.{operand, int_in, is_true, number_of_truth, operated, combined, gives_old, stepped}
-use Rattle.block_meaning.specs.Running.{Function, Goes, Run, gives, stuck, and_then, unit_then, unit_gives, choice, with_some, all_of, Context, undefined}
+use Rattle.block_meaning.specs.Running.{Function, Goes, Run, gives, stuck, and_then, unit_then, unit_gives, choice, with_some, all_of}
+use Rattle.block_meaning.specs.Running.{Context, undefined}
 use Rattle.block_meaning.specs.Values.{Value, Number, Address, Struct, pointer_in, number_in, converted_to}
 
 -- one level of an expression
@@ -100,8 +102,12 @@ written at span o v = and_then (write at.here span o v) (λ _. gives v)
 -- a struct is copied, and is then the one on the left; a scalar is written
 abbrev pub assigned : Site → TExpr → TExpr → Pointer → Value → Run Value
 assigned at a b p (Struct q) = and_then (copy_struct at.here (record {
-    source = object a.ty q; target = object a.ty p; source_span = b.span; target_span = a.span; span = at.span;
-  })) (λ _. gives (Struct p))
+  source = object a.ty q;
+  target = object a.ty p;
+  source_span = b.span;
+  target_span = a.span;
+  span = at.span;
+})) (λ _. gives (Struct p))
 assigned at a b p v = written at a.span (object a.ty p) v
 
 -- the left side is read after the right side

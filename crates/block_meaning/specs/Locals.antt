@@ -1,6 +1,7 @@
 -- Parameters and locals: how their blocks come and go (ISO C11 6.2.4 paragraph 6), and their initialisers (6.7.9). A parameter and a local
 -- of a function's outermost block live until the call ends, any other from the entry of its block, or of its `for`, until that is left.
-use Rattle.std.specs.Prelude.{ℕ, zero, suc, ◌+◌, ◌*◌, Bool, true, false, ◌||◌, List, [], ◌∷◌, ◌++◌, length, map, take, slice_get, nat_eq, Option, Some, None, if◌then◌else◌}
+use Rattle.std.specs.Prelude.{ℕ, zero, suc, ◌+◌, ◌*◌, Bool, true, false, ◌||◌, List, [], ◌∷◌, ◌++◌, length, map, take, slice_get, nat_eq}
+use Rattle.std.specs.Prelude.{Option, Some, None, if◌then◌else◌}
 use Rattle.c_type_base.specs.declared.ty.Ty.{out-Ty}
 use Rattle.c_type_base.specs.declared.ty.Ty.TheOpen.{Ty-F}
 use Rattle.c_type_base.specs.declared.expr.TExpr.{TExpr}
@@ -96,7 +97,11 @@ fill_array init n p e _ = only_run init.parts e
 abbrev pub fill_struct : InitParts → Object → TExpr → Bool → Run (Unit {0})
 fill_struct init o e false = only_run init.parts e
 fill_struct init o e true = and_then (value_of init.parts e) (λ v. copy_struct init.here (record {
-  source = object o.ty (pointer_in v); target = o; source_span = e.span; target_span = e.span; span = e.span;
+  source = object o.ty (pointer_in v);
+  target = o;
+  source_span = e.span;
+  target_span = e.span;
+  span = e.span;
 }))
 
 -- an expression as the initialiser of an object

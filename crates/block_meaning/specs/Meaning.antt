@@ -1,6 +1,7 @@
 -- What a program means (ISO C11 5.1.2.3, 6.5.2.2, 6.9.1): the run of `main` over the blocks of its files, with a bound on its work, its
 -- input, and frames that fit into a stack.
-use Rattle.std.specs.Prelude.{◌≡◌, ◌≢◌, ℕ, zero, suc, ◌+◌, ◌%◌, Bool, false, leb, nat_eq, List, [], ◌∷◌, ◌++◌, map, take, codes, slice_get, Option, Some, None, if◌then◌else◌, length}
+use Rattle.std.specs.Prelude.{◌≡◌, ◌≢◌, ℕ, zero, suc, ◌+◌, ◌%◌, Bool, false, leb, nat_eq, List, [], ◌∷◌, ◌++◌, map, take, codes, slice_get}
+use Rattle.std.specs.Prelude.{Option, Some, None, if◌then◌else◌, length}
 use Rattle.c_type_base.specs.declared.ty.Ty.{Ty}
 use Rattle.c_type_base.specs.declared.statement.TItem.TheOpen.{TStmt-F}
 use Rattle.c_type_base.specs.declared.statement.TStmt.{out-TStmt}
@@ -11,7 +12,8 @@ use Rattle.block_meaning.specs.Expressions.{Calls}
 use Rattle.block_meaning.specs.Linkage.{Definition, AnObject, AFunction, defined, function_named}
 use Rattle.block_meaning.specs.Locals.{latest, new_block, new_locals}
 use Rattle.block_meaning.specs.Opening.{opening}
-use Rattle.block_meaning.specs.Running.{Function, Call, Program, Context, State, Result, Goes, Stops, Run, Stop, Deep, Stuck, gives, stops, stuck, and_then, unit_then, choice, with_some, with_blocks}
+use Rattle.block_meaning.specs.Running.{Function, Call, Program, Context, State, Result, Goes, Stops, Run, Stop, Deep, Stuck, gives, stops}
+use Rattle.block_meaning.specs.Running.{stuck, and_then, unit_then, choice, with_some, with_blocks}
 use Rattle.block_meaning.specs.Statements.{StmtLayer, Flow, Returned, StmtParts, statements_at, declared, items}
 use Rattle.block_meaning.specs.Values.{Value, NoValue, number_in, cells_of, missing_result}
 

@@ -29,7 +29,11 @@ bytes_of here t = size (structs_at here) t
 
 abbrev pub access : Context → Bool → Object → Access
 access here writes o = record {
-  at = o.at; size = bytes_of here o.ty; align = align (structs_at here) o.ty; writes = writes; scalar = negation (is_struct o.ty);
+  at = o.at;
+  size = bytes_of here o.ty;
+  align = align (structs_at here) o.ty;
+  writes = writes;
+  scalar = negation (is_struct o.ty);
 }
 
 -- something with the block that is accessed

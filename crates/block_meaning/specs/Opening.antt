@@ -1,6 +1,7 @@
 -- What the blocks hold before the call of `main` (ISO C11 5.1.2, 6.7.9 paragraph 10): objects with their initialisers, of which the rest
 -- is zero, and texts.
-use Rattle.std.specs.Prelude.{ℕ, ℤ, pos, negsuc, zero, suc, ◌+◌, ◌-◌, ◌^◌, List, [], ◌∷◌, ◌++◌, length, map, replicate, slice_get, Option, Some, None}
+use Rattle.std.specs.Prelude.{ℕ, ℤ, pos, negsuc, zero, suc, ◌+◌, ◌-◌, ◌^◌, List, [], ◌∷◌, ◌++◌, length, map, replicate, slice_get, Option}
+use Rattle.std.specs.Prelude.{Some, None}
 use Rattle.c_type_base.specs.declared.ty.Ty.{Ty}
 use Rattle.c_type_base.specs.declared.ty.Ty.TheOpen.{Ty-F}
 use Rattle.c_type_base.specs.declared.ty.Ty.TheFolds.{fold-Ty}
@@ -90,7 +91,8 @@ with_pieces units unit (p ∷ ps) cells = with_pieces units unit ps (with_piece 
 abbrev pub objects_from : List Typed → ℕ → List StructInfo → ℕ → List GlobalInfo → List Block
 objects_from units unit structs number [] = []
 objects_from units unit structs number (g ∷ gs) =
-    block_of (Global unit number) (with_pieces units unit g.init (zero_cells structs g.ty)) ∷ objects_from units unit structs (number + 1) gs
+    block_of (Global unit number) (with_pieces units unit g.init (zero_cells structs g.ty))
+    ∷ objects_from units unit structs (number + 1) gs
 
 abbrev pub texts_from : ℕ → ℕ → List (List ℕ) → List Block
 texts_from unit number [] = []

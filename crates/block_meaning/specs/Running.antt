@@ -136,5 +136,11 @@ pub record Context : Type 0 where
 -- an undefined step
 abbrev pub undefined : {A : Type 0} → Context → Span → Option Access → Reason → Run A
 undefined here span access why now = Stops (IsUndefined (record {
-  why = why; file = here.unit; span = span; access = access; open_calls = here.open_calls; calls = now.calls; blocks = now.blocks;
+  why = why;
+  file = here.unit;
+  span = span;
+  access = access;
+  open_calls = here.open_calls;
+  calls = now.calls;
+  blocks = now.blocks;
 })) now

@@ -1,7 +1,8 @@
 -- Runs that are not stuck stay as they are where their parts do: what more turns and levels leave.
 use Rattle.std.proofs.Common.{◌≡◌, refl, sym, subst, ap, ◌∙◌, ℕ, zero, suc, Bool, true, false, List, [], ◌∷◌, map, Option, Some, None}
 use Rattle.block_meaning.specs.Blocks.{Block}
-use Rattle.block_meaning.specs.Running.{Stop, Stuck, State, Result, Goes, Stops, Run, gives, goes_on, and_then, one_of, unit_then, choice, stuck, with_some, by_blocks, all_of}
+use Rattle.block_meaning.specs.Running.{Stop, Stuck, State, Result, Goes, Stops, Run, gives, goes_on, and_then, one_of, unit_then, choice}
+use Rattle.block_meaning.specs.Running.{stuck, with_some, by_blocks, all_of}
 
 abbrev pub IsStop : Stop → Type 0
 IsStop Stuck = ⊥

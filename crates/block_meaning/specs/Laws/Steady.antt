@@ -1,10 +1,12 @@
 -- Runs that do the same with more work: where they do not stop for want of it, and else they have put a part of what they put with more.
-use Rattle.std.proofs.Common.{◌≡◌, refl, sym, subst, ap, ◌∙◌, arith, ℕ, zero, suc, ◌+◌, Bool, true, false, List, [], ◌∷◌, ◌++◌, map, append_assoc, append-nil, Option, Some, None}
+use Rattle.std.proofs.Common.{◌≡◌, refl, sym, subst, ap, ◌∙◌, arith, ℕ, zero, suc, ◌+◌, Bool, true, false, List, [], ◌∷◌, ◌++◌, map}
+use Rattle.std.proofs.Common.{append_assoc, append-nil, Option, Some, None}
 use Rattle.c_ast.specs.declared.token.Span.{Span}
 use Rattle.block_meaning.specs.declared.reason.Reason.{Reason}
 use Rattle.block_meaning.specs.Access.{Access}
 use Rattle.block_meaning.specs.Blocks.{Block}
-use Rattle.block_meaning.specs.Running.{Divide, Deep, More, State, Result, Goes, Stops, Run, gives, stops, goes_on, and_then, one_of, unit_then, choice, stuck, with_some, by_blocks, with_blocks, all_of, Context, undefined}
+use Rattle.block_meaning.specs.Running.{Divide, Deep, More, State, Result, Goes, Stops, Run, gives, stops, goes_on, and_then, one_of}
+use Rattle.block_meaning.specs.Running.{unit_then, choice, stuck, with_some, by_blocks, with_blocks, all_of, Context, undefined}
 
 -- a list begins with another
 pub record Begins (xs ys : List ℕ) : Type 0 where
