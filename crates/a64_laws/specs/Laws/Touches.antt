@@ -59,6 +59,18 @@ result_narrow touch sp r within = record {
   asks = λ h. refl;
 }
 
+stored_narrow : (touch : Touch) (sp count pointer : ℕ) → StoresWithin touch sp count pointer →
+    IsNarrower (reach_of (Stores count pointer true 0)) (reach_from touch sp)
+stored_narrow touch sp count pointer within = record {
+  registers = λ n h. refl;
+  sp = λ h. refl;
+  flags = λ h. refl;
+  bytes = λ a h. store_bytes touch sp count pointer a within h;
+  tags = λ granule h. refl;
+  draws = λ h. refl;
+  asks = λ h. refl;
+}
+
 shape_narrow : (touch : Touch) (sp : ℕ) (shape : Shape) → IsShapeWithin touch sp shape → IsNarrower (reach_of shape) (reach_from touch sp)
 shape_narrow touch sp GoesOn within = record {
   registers = λ n h. refl;
@@ -108,15 +120,7 @@ shape_narrow touch sp (BranchesWithLink address) within = record {
   draws = λ h. refl;
   asks = λ h. refl;
 }
-shape_narrow touch sp (Loads access r) within = let narrow = result_narrow touch sp r within in record {
-  registers = narrow.registers;
-  sp = narrow.sp;
-  flags = λ h. refl;
-  bytes = λ a h. refl;
-  tags = λ granule h. refl;
-  draws = λ h. refl;
-  asks = λ h. refl;
-}
+shape_narrow touch sp (Loads access r) within = result_narrow touch sp r within
 shape_narrow touch sp (LoadsPair access first second) within =
     let narrow = result_narrow touch sp first (first_true _ (result_within touch second) within) in
     let narrow_too = result_narrow touch sp second (second_true (result_within touch first) _ within) in record {
@@ -128,24 +132,8 @@ shape_narrow touch sp (LoadsPair access first second) within =
       draws = λ h. refl;
       asks = λ h. refl;
     }
-shape_narrow touch sp (Stores count pointer checked value) within = record {
-  registers = λ n h. refl;
-  sp = λ h. refl;
-  flags = λ h. refl;
-  bytes = λ a h. store_bytes touch sp count pointer a within h;
-  tags = λ granule h. refl;
-  draws = λ h. refl;
-  asks = λ h. refl;
-}
-shape_narrow touch sp (StoresPair pointer checked first second) within = record {
-  registers = λ n h. refl;
-  sp = λ h. refl;
-  flags = λ h. refl;
-  bytes = λ a h. store_bytes touch sp 16 pointer a within h;
-  tags = λ granule h. refl;
-  draws = λ h. refl;
-  asks = λ h. refl;
-}
+shape_narrow touch sp (Stores count pointer checked value) within = stored_narrow touch sp count pointer within
+shape_narrow touch sp (StoresPair pointer checked first second) within = stored_narrow touch sp 16 pointer within
 shape_narrow touch sp (StoresTags count pointer tag) within = record {
   registers = λ n h. refl;
   sp = λ h. refl;

@@ -159,7 +159,7 @@ abbrev fitting_from : ℕ → ℕ → List ℕ → ℕ
 fitting_from radix prefix bytes =
     prefix + prefix_len (is_digit_of radix) (drop prefix bytes)
     + cond (eqb (prefix_len (is_digit_of radix) (drop prefix bytes)) 0) 0
-      (suffix_bytes (drop (prefix + prefix_len (is_digit_of radix) (drop prefix bytes)) bytes))
+    (suffix_bytes (drop (prefix + prefix_len (is_digit_of radix) (drop prefix bytes)) bytes))
 
 fits_from : (radix prefix : ℕ) (bytes : List ℕ) → radix_of bytes ≡ radix → prefix_bytes radix ≡ prefix →
     fitting_bytes bytes ≡ prefix + fitting_behind (is_digit_of radix) (drop prefix bytes)

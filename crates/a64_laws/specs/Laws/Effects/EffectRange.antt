@@ -225,9 +225,34 @@ arithmetic-lt : (wide : Bool) (x amount : ℕ) → arithmetic_shift_right (width
 arithmetic-lt wide x amount = of_the_width wide _ (arithmetic_shift_right-lt (width wide) x amount)
 
 -- what is known of each operation
-ruleset operations = (of_width-lt, number-lt, operand-lt, halfword_at-lt, with_halfword-lt, invert-lt, mod_width-lt, bit_and-lt, bit_or-lt,
-    bit_xor-lt, shift_right-lt, arithmetic-lt, divide_unsigned-lt, divide_signed-lt, bitfield_signed-lt, bitfield_unsigned-lt,
-    chosen_or_next-lt, load-register, load-eight, load-two, load-one, signed-lt, tag-lt, tag_of-lt, tagged_pointer-lt, with_tag-lt)
+ruleset operations = (
+  of_width-lt,
+  number-lt,
+  operand-lt,
+  halfword_at-lt,
+  with_halfword-lt,
+  invert-lt,
+  mod_width-lt,
+  bit_and-lt,
+  bit_or-lt,
+  bit_xor-lt,
+  shift_right-lt,
+  arithmetic-lt,
+  divide_unsigned-lt,
+  divide_signed-lt,
+  bitfield_signed-lt,
+  bitfield_unsigned-lt,
+  chosen_or_next-lt,
+  load-register,
+  load-eight,
+  load-two,
+  load-one,
+  signed-lt,
+  tag-lt,
+  tag_of-lt,
+  tagged_pointer-lt,
+  with_tag-lt,
+)
 
 -- Of fields within their widths, and of numbers in range: the second line stands for every other instruction, and an operation that is
 -- new wants its law in the list above.
