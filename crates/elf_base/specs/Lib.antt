@@ -6,4 +6,5 @@ pub mod Layout
 pub mod Place
 pub mod Standing
 pub mod Laying
+pub mod Index
 pub mod Laws

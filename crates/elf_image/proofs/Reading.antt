@@ -13,7 +13,8 @@ use Rattle.elf_image.specs.declared.memtag.MemtagInfo.{MemtagInfo}
 use Rattle.elf_image.specs.declared.refusal.ImageRefusal.{ImageRefusal}
 use Rattle.elf_image.specs.declared.refusal.ImageRefusal.TheVariants.{NoMemory, BadDynamic}
 use Rattle.elf_image.specs.MemtagFile.{HasDynamic, entries_of, first_of}
-use Rattle.elf_image.specs.MemtagEntries.{globals_tag, size_tag, holds, Entries, told_index, MemtagFault, no_descriptors}
+use Rattle.elf_base.specs.Index.{told_index}
+use Rattle.elf_image.specs.MemtagEntries.{globals_tag, size_tag, holds, Entries, MemtagFault, no_descriptors}
 use Rattle.elf_image.specs.Laws.ReadMemtag.{NotHeld, one_info, one_fault, no_fault}
 
 -- a refusal that a `?` passes on

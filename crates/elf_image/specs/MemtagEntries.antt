@@ -1,5 +1,6 @@
 -- What an ELF file of any producer says of memory tagging in its dynamic segment (Memtag ABI), and what is wrong with other files.
 use Rattle.std.specs.Prelude.{◌≡◌, ℕ, ◌+◌, ◌-◌, ◌*◌, ◌<◌, ◌≤◌, ◌==◌, nat_le, ◌&&◌, Bool, if◌then◌else◌, min, List, [], length, take, drop, Option, Some, None, option_map, find, IsSome}
+use Rattle.elf_base.specs.Index.{told_index}
 use Rattle.elf_base.specs.declared.segment.Phdr.{Phdr}
 use Rattle.elf_image.specs.declared.memtag.Found.{Found}
 use Rattle.elf_image.specs.declared.memtag.MemtagInfo.{MemtagInfo}
@@ -61,10 +62,6 @@ pub record Entries (file : List ℕ) (info : MemtagInfo) : Type 0 where
   pub descriptors : AreDescriptors file (first_of globals_tag (entries_of file segment)) (first_of size_tag (entries_of file segment)) info.descriptors
 
 -- ---- what is wrong with it
-
--- an index as 32 bits tell it: one that they do not hold is told as their last number
-abbrev pub told_index : ℕ → ℕ
-told_index n = min n 4294967295
 
 -- the first that is wrong, in the order of the constructors
 pub data MemtagFault (file : List ℕ) : ImageRefusal → Type 0 where

@@ -2,6 +2,7 @@
 use Rattle.std.proofs.Common.{◌≡◌, ℕ, ◌+◌, Bool, true, false, List, [], ◌∷◌, ◌++◌, length, drop, refl, sym, ap, subst, ◌∙◌, Option, Some, None}
 use Rattle.std.specs.Prelude.{Result, MatchResult, ◌&&◌, slice_get, if◌then◌else◌}
 use Rattle.mt_base.specs.Granules.{round16}
+use Rattle.elf_base.specs.Index.{told_index}
 use Rattle.elf_obj.specs.declared.parts.Symbol.{Symbol}
 use Rattle.elf_obj.specs.declared.parts.Reloc.{Reloc}
 use Rattle.elf_obj.specs.declared.refusal.ObjectRefusal.{ObjectRefusal}
@@ -72,12 +73,12 @@ section-fails file at k i ss fs s f gs gf h =
 pub reloc-holds : (file : List ℕ) (rule : ℕ → Reloc → Bool) (at least k : ℕ) (r : Reloc) (rs : List Reloc) → (is_reloc file at r && rule least r) ≡ true
     → first_fault (reloc_conditions file rule at least k (r ∷ rs)) ≡ first_fault (reloc_conditions file rule (at + 24) (r.offset + 1) (k + 1) rs)
 reloc-holds file rule at least k r rs h =
-    holds-is (is_reloc file at r && rule least r) (BadRelocation k) (first_fault (reloc_conditions file rule (at + 24) (r.offset + 1) (k + 1) rs)) h
+    holds-is (is_reloc file at r && rule least r) (BadRelocation (told_index k)) (first_fault (reloc_conditions file rule (at + 24) (r.offset + 1) (k + 1) rs)) h
 
 pub reloc-fails : (file : List ℕ) (rule : ℕ → Reloc → Bool) (at least k : ℕ) (r : Reloc) (rs : List Reloc) → (is_reloc file at r && rule least r) ≡ false
-    → first_fault (reloc_conditions file rule at least k (r ∷ rs)) ≡ Some (BadRelocation k)
+    → first_fault (reloc_conditions file rule at least k (r ∷ rs)) ≡ Some (BadRelocation (told_index k))
 reloc-fails file rule at least k r rs h =
-    fails-is (is_reloc file at r && rule least r) (BadRelocation k) (first_fault (reloc_conditions file rule (at + 24) (r.offset + 1) (k + 1) rs)) h
+    fails-is (is_reloc file at r && rule least r) (BadRelocation (told_index k)) (first_fault (reloc_conditions file rule (at + 24) (r.offset + 1) (k + 1) rs)) h
 
 -- ---- tagged symbols
 
@@ -85,14 +86,14 @@ pub tag-holds : (file : List ℕ) (symbols : List Symbol) (at : ℕ) (earlier : 
     → (is_tag file at t && tag_keeps symbols earlier least t) ≡ true
     → first_fault (tag_conditions file symbols at earlier least k (t ∷ ts)) ≡ first_fault (tag_conditions file symbols (at + 24) (earlier ++ t ∷ []) (t + 1) (k + 1) ts)
 tag-holds file symbols at earlier least k t ts h =
-    holds-is (is_tag file at t && tag_keeps symbols earlier least t) (BadRelocation k)
+    holds-is (is_tag file at t && tag_keeps symbols earlier least t) (BadRelocation (told_index k))
     (first_fault (tag_conditions file symbols (at + 24) (earlier ++ t ∷ []) (t + 1) (k + 1) ts)) h
 
 pub tag-fails : (file : List ℕ) (symbols : List Symbol) (at : ℕ) (earlier : List ℕ) (least k t : ℕ) (ts : List ℕ)
     → (is_tag file at t && tag_keeps symbols earlier least t) ≡ false
-    → first_fault (tag_conditions file symbols at earlier least k (t ∷ ts)) ≡ Some (BadRelocation k)
+    → first_fault (tag_conditions file symbols at earlier least k (t ∷ ts)) ≡ Some (BadRelocation (told_index k))
 tag-fails file symbols at earlier least k t ts h =
-    fails-is (is_tag file at t && tag_keeps symbols earlier least t) (BadRelocation k)
+    fails-is (is_tag file at t && tag_keeps symbols earlier least t) (BadRelocation (told_index k))
     (first_fault (tag_conditions file symbols (at + 24) (earlier ++ t ∷ []) (t + 1) (k + 1) ts)) h
 
 -- ---- symbols
@@ -101,11 +102,11 @@ pub symbol-holds : (file : List ℕ) (z : Sizes) (at place k : ℕ) (earlier : L
     → first_fault (symbol_conditions file z at place k earlier (s ∷ ss))
     ≡ first_fault (symbol_conditions file z (at + 24) (place + length s.name + 1) (k + 1) (earlier ++ s ∷ []) ss)
 symbol-holds file z at place k earlier s ss h =
-    holds-is (is_symbol file z at place earlier s) (BadSymbol k)
+    holds-is (is_symbol file z at place earlier s) (BadSymbol (told_index k))
     (first_fault (symbol_conditions file z (at + 24) (place + length s.name + 1) (k + 1) (earlier ++ s ∷ []) ss)) h
 
 pub symbol-fails : (file : List ℕ) (z : Sizes) (at place k : ℕ) (earlier : List Symbol) (s : Symbol) (ss : List Symbol) → is_symbol file z at place earlier s ≡ false
-    → first_fault (symbol_conditions file z at place k earlier (s ∷ ss)) ≡ Some (BadSymbol k)
+    → first_fault (symbol_conditions file z at place k earlier (s ∷ ss)) ≡ Some (BadSymbol (told_index k))
 symbol-fails file z at place k earlier s ss h =
-    fails-is (is_symbol file z at place earlier s) (BadSymbol k)
+    fails-is (is_symbol file z at place earlier s) (BadSymbol (told_index k))
     (first_fault (symbol_conditions file z (at + 24) (place + length s.name + 1) (k + 1) (earlier ++ s ∷ []) ss)) h

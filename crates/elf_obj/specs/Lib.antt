@@ -13,4 +13,5 @@ pub mod Small
 pub mod Repeats
 pub mod Apart
 pub mod Laying
+pub mod Refusal
 pub mod Laws

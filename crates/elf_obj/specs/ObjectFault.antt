@@ -5,6 +5,7 @@ use Rattle.std.specs.Str.{bytes_eq}
 use Rattle.mt_base.specs.Granules.{round16}
 use Rattle.elf_base.specs.Place.{number_at}
 use Rattle.elf_base.specs.Records.{ehdr_fields, shdr_fields, sym_fields, rela_fields}
+use Rattle.elf_base.specs.Index.{told_index}
 use Rattle.elf_obj.specs.declared.parts.Symbol.{Symbol}
 use Rattle.elf_obj.specs.declared.parts.Reloc.{Reloc}
 use Rattle.elf_obj.specs.declared.refusal.ObjectRefusal.{ObjectRefusal}
@@ -25,7 +26,7 @@ use Rattle.elf_obj.specs.Conditions.{Condition, condition, first_fault, stands}
 unfoldable pub is_held : List ℕ → ℕ → Bool
 is_held file k = nat_le (offset_of file k + size_of file k) (length file)
 
--- the section headers and the contents that have bytes do not
+-- nor do the section headers, and the contents of all sections that stand in the file, also those of no bytes
 unfoldable pub all_held : List ℕ → Bool
 all_held file =
     nat_le (headers_at file + 768) (length file) && is_held file 1 && is_held file 2 && is_held file 3 && is_held file 5
@@ -106,7 +107,7 @@ is_symbol file z at place earlier s =
 abbrev pub symbol_conditions : List ℕ → Sizes → ℕ → ℕ → ℕ → List Symbol → List Symbol → List Condition
 symbol_conditions file z at place k earlier [] = []
 symbol_conditions file z at place k earlier (s ∷ ss) =
-    condition (is_symbol file z at place earlier s) (BadSymbol k)
+    condition (is_symbol file z at place earlier s) (BadSymbol (told_index k))
     ∷ symbol_conditions file z (at + 24) (place + length s.name + 1) (k + 1) (earlier ++ s ∷ []) ss
 
 -- ---- the relocations
@@ -117,7 +118,7 @@ is_reloc file at r = stands (rela_fields (reloc_record r)) at file
 abbrev pub reloc_conditions : List ℕ → (ℕ → Reloc → Bool) → ℕ → ℕ → ℕ → List Reloc → List Condition
 reloc_conditions file rule at least k [] = []
 reloc_conditions file rule at least k (r ∷ rs) =
-    condition (is_reloc file at r && rule least r) (BadRelocation k) ∷ reloc_conditions file rule (at + 24) (r.offset + 1) (k + 1) rs
+    condition (is_reloc file at r && rule least r) (BadRelocation (told_index k)) ∷ reloc_conditions file rule (at + 24) (r.offset + 1) (k + 1) rs
 
 unfoldable pub is_tag : List ℕ → ℕ → ℕ → Bool
 is_tag file at t = stands (rela_fields (tag_record t)) at file
@@ -125,7 +126,7 @@ is_tag file at t = stands (rela_fields (tag_record t)) at file
 abbrev pub tag_conditions : List ℕ → List Symbol → ℕ → List ℕ → ℕ → ℕ → List ℕ → List Condition
 tag_conditions file symbols at earlier least k [] = []
 tag_conditions file symbols at earlier least k (t ∷ ts) =
-    condition (is_tag file at t && tag_keeps symbols earlier least t) (BadRelocation k)
+    condition (is_tag file at t && tag_keeps symbols earlier least t) (BadRelocation (told_index k))
     ∷ tag_conditions file symbols (at + 24) (earlier ++ t ∷ []) (t + 1) (k + 1) ts
 
 -- ---- all of them, in their order

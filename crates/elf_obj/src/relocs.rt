@@ -12,7 +12,7 @@ use crate::apart::Shared;
 use crate::file::{both, stand_at};
 use crate::parts::{Home, Reloc, Symbol};
 use crate::put::{rela_of, tag_rela};
-use crate::refusal::ObjectRefusal;
+use crate::refusal::{ObjectRefusal, told};
 use elf_base::write_rela;
 
 // The record of a relocation stands at a place.
@@ -103,7 +103,7 @@ pub(crate) fn judge_relocs(
         let good = both(stands, keeps);
         if !good {
             return Err(ObjectRefusal::BadRelocation {
-                index: first + index as u64,
+                index: told(first + index as u64),
             });
         }
         least = reloc.offset + 1;
@@ -169,7 +169,7 @@ pub(crate) fn judge_tags(
         let good = both(stands, keeps);
         if !good {
             return Err(ObjectRefusal::BadRelocation {
-                index: first + index as u64,
+                index: told(first + index as u64),
             });
         }
         least = u64::from(number) + 1;

@@ -109,7 +109,9 @@ fn judge_contents(file: &[u8], sizes: &Sizes, names_place: u64) -> Result<(), Ob
         let here = is_section(file, end, number, &section);
         let good = both(here, fixed);
         if !good {
-            return Err(ObjectRefusal::BadSection { index: number });
+            return Err(ObjectRefusal::BadSection {
+                index: index as u32 + 1,
+            });
         }
         end = round16(end) + section.bytes;
     }

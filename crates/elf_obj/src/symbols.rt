@@ -13,7 +13,7 @@ ghost use Rattle.elf_obj.specs.Laws.Held.{AreHeld};
 use crate::file::{both, size_of, stand_at};
 use crate::parts::{Home, Symbol};
 use crate::put::symbol_record;
-use crate::refusal::ObjectRefusal;
+use crate::refusal::{ObjectRefusal, told};
 use crate::sizes::Sizes;
 use elf_base::write_sym;
 
@@ -139,7 +139,7 @@ pub(crate) fn judge_symbols(
         let new = index != repeat;
         if !is_symbol(file, sizes, here, place, earlier, all_local, new, symbol) {
             return Err(ObjectRefusal::BadSymbol {
-                index: index as u64 + 1,
+                index: told(index as u64 + 1),
             });
         }
         place += symbol.name.as_slice().len() as u64 + 1;

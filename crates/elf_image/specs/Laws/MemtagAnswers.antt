@@ -7,7 +7,8 @@ use Rattle.elf_base.specs.declared.segment.Phdr.{Phdr}
 use Rattle.elf_image.specs.declared.memtag.Found.{Found}
 use Rattle.elf_image.specs.declared.memtag.MemtagInfo.{MemtagInfo}
 use Rattle.elf_image.specs.MemtagFile.{ident, BeginsElf, header_of, HasHeader, HasSegments, segments_of, is_dynamic, HasDynamic, entries_of, first_of}
-use Rattle.elf_image.specs.MemtagEntries.{mode_tag, heap_tag, stack_tag, globals_tag, size_tag, loaded_bytes, AreDescriptors, value_of, Entries, told_index, MemtagFault, not_elf, no_header, other_machine, other_headers, headers_cut, no_dynamic, dynamic_cut, no_descriptors}
+use Rattle.elf_base.specs.Index.{told_index}
+use Rattle.elf_image.specs.MemtagEntries.{mode_tag, heap_tag, stack_tag, globals_tag, size_tag, loaded_bytes, AreDescriptors, value_of, Entries, MemtagFault, not_elf, no_header, other_machine, other_headers, headers_cut, no_dynamic, dynamic_cut, no_descriptors}
 use Rattle.elf_image.specs.Laws.ReadMemtag.{Answer, Descriptors, located, described, told, with_entries, with_dynamic, with_segments, with_header, with_start, read_as, begun, not_begun, start_cut, start_other, started, header_other, header_cut, headed, dynamic_none, dynamic_short, dynamic_whole}
 
 -- the answer is what the file says, or its first fault

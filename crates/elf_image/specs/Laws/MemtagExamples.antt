@@ -4,7 +4,8 @@ use Rattle.elf_base.specs.declared.segment.Phdr.{Phdr}
 use Rattle.elf_base.specs.declared.dynamic.Dyn.{Dyn}
 use Rattle.elf_image.specs.declared.memtag.Found.{Found}
 use Rattle.elf_image.specs.MemtagFile.{BeginsElf, before_null, first_of}
-use Rattle.elf_image.specs.MemtagEntries.{mode_tag, heap_tag, globals_tag, holds, value_of, told_index}
+use Rattle.elf_base.specs.Index.{told_index}
+use Rattle.elf_image.specs.MemtagEntries.{mode_tag, heap_tag, globals_tag, holds, value_of}
 
 -- MEMTAG_MODE twice, NULL, and MEMTAG_HEAP behind it
 abbrev some_entries : List Dyn

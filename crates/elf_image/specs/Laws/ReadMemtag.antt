@@ -12,7 +12,8 @@ use Rattle.elf_image.specs.declared.memtag.MemtagInfo.{MemtagInfo}
 use Rattle.elf_image.specs.declared.refusal.ImageRefusal.{ImageRefusal}
 use Rattle.elf_image.specs.declared.refusal.ImageRefusal.TheVariants.{NotElf, NotThisMachine, Truncated, BadSegment, BadDynamic}
 use Rattle.elf_image.specs.MemtagFile.{ident, BeginsElf, header_of, HasHeader, HasSegments, segments_of, is_dynamic, HasDynamic, entries_of, first_of}
-use Rattle.elf_image.specs.MemtagEntries.{mode_tag, heap_tag, stack_tag, globals_tag, size_tag, loaded_bytes, AreDescriptors, value_of, Entries, told_index, MemtagFault, not_elf, no_header, other_machine, other_headers, headers_cut, no_dynamic, dynamic_cut, no_descriptors}
+use Rattle.elf_base.specs.Index.{told_index}
+use Rattle.elf_image.specs.MemtagEntries.{mode_tag, heap_tag, stack_tag, globals_tag, size_tag, loaded_bytes, AreDescriptors, value_of, Entries, MemtagFault, not_elf, no_header, other_machine, other_headers, headers_cut, no_dynamic, dynamic_cut, no_descriptors}
 
 -- the program headers are where the file's header says
 pub record AreHeaders (file : List ℕ) (headers : Headers) : Type 0 where

@@ -5,6 +5,7 @@ use Rattle.std.specs.List.{flat_map}
 use Rattle.std.proofs.lemmas.Bool.Decides.{nat_tests}
 use Rattle.elf_base.specs.Field.{bytes_of, StandsAt}
 use Rattle.elf_base.specs.Records.{sym_fields, rela_fields}
+use Rattle.elf_base.specs.Index.{told_index}
 use Rattle.elf_obj.specs.declared.parts.Symbol.{Symbol}
 use Rattle.elf_obj.specs.declared.parts.Reloc.{Reloc}
 use Rattle.elf_obj.specs.declared.refusal.ObjectRefusal.{ObjectRefusal}
@@ -60,7 +61,7 @@ pub relocs_hold : (file : List ℕ) (rule : ℕ → Reloc → Bool) (at least k 
     → RelocsHold file rule at least rs
 relocs_hold file rule at least k [] h = record { stand = refl; keep = refl }
 relocs_hold file rule at least k (r ∷ rs) h =
-    let first = head_holds (is_reloc file at r && rule least r) (BadRelocation k) (first_fault (reloc_conditions file rule (at + 24) (r.offset + 1) (k + 1) rs)) h in
+    let first = head_holds (is_reloc file at r && rule least r) (BadRelocation (told_index k)) (first_fault (reloc_conditions file rule (at + 24) (r.offset + 1) (k + 1) rs)) h in
     let good = both (is_reloc file at r) (rule least r) first.0 in
     let rest : RelocsHold file rule (at + 24) (r.offset + 1) rs = relocs_hold file rule (at + 24) (r.offset + 1) (k + 1) rs first.1 in
     record {
@@ -82,7 +83,7 @@ pub tags_hold : (file : List ℕ) (symbols : List Symbol) (at : ℕ) (earlier : 
     → first_fault (tag_conditions file symbols at earlier least k ts) ≡ None → TagsHold file symbols at earlier least ts
 tags_hold file symbols at earlier least k [] h = record { stand = refl; keep = refl }
 tags_hold file symbols at earlier least k (t ∷ ts) h =
-    let first = head_holds (is_tag file at t && tag_keeps symbols earlier least t) (BadRelocation k) (first_fault (tag_conditions file symbols (at + 24) (earlier ++ t ∷ []) (t + 1) (k + 1) ts)) h in
+    let first = head_holds (is_tag file at t && tag_keeps symbols earlier least t) (BadRelocation (told_index k)) (first_fault (tag_conditions file symbols (at + 24) (earlier ++ t ∷ []) (t + 1) (k + 1) ts)) h in
     let good = both (is_tag file at t) (tag_keeps symbols earlier least t) first.0 in
     let rest : TagsHold file symbols (at + 24) (earlier ++ t ∷ []) (t + 1) ts = tags_hold file symbols (at + 24) (earlier ++ t ∷ []) (t + 1) (k + 1) ts first.1 in
     record {
@@ -123,7 +124,7 @@ pub symbols_hold : (file : List ℕ) (z : Sizes) (at place k : ℕ) (earlier ss 
 symbols_hold file z at place k earlier [] h = record { stand = refl; keep = refl; fit = tt; ends = λ e. e }
 symbols_hold file z at place k earlier (s ∷ ss) h =
     let next : ℕ = place + length s.name + 1 in
-    let first = head_holds (is_symbol file z at place earlier s) (BadSymbol k) (first_fault (symbol_conditions file z (at + 24) next (k + 1) (earlier ++ s ∷ []) ss)) h in
+    let first = head_holds (is_symbol file z at place earlier s) (BadSymbol (told_index k)) (first_fault (symbol_conditions file z (at + 24) next (k + 1) (earlier ++ s ∷ []) ss)) h in
     let here : SymbolHolds file z at place earlier s = symbol_holds file z at place earlier s first.0 in
     let rest : SymbolsHold file z (at + 24) next (earlier ++ s ∷ []) ss = symbols_hold file z (at + 24) next (k + 1) (earlier ++ s ∷ []) ss first.1 in
     record {
