@@ -60,7 +60,11 @@ impl Runs {
         if self.ended.as_str().is_empty() {
             return Ok(());
         }
-        let comma = if self.told.as_str().is_empty() { "" } else { ", " };
+        let comma = if self.told.as_str().is_empty() {
+            ""
+        } else {
+            ", "
+        };
         let last = format!(in self.alloc; "{comma}{}-{}: {}", self.first, self.last, self.ended)?;
         self.told.push_str(last.as_str())
     }

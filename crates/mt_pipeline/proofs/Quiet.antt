@@ -27,20 +27,24 @@ pub record IsQuiet {S K : Type 0} (before after : Objects S K) : Type 0 where
   pub source : after.source ≡ before.source
   pub sink : after.sink ≡ before.sink
 
-pub exits_quiet : {S K : Type 0} (image : Image) (status : ℕ) (choices : List ℕ) (stack steps : ℕ) (before after : Objects S K) (end : MachineEnd) → ExitsAlways image status →
+pub exits_quiet : {S K : Type 0} (image : Image) (status : ℕ) (choices : List ℕ) (stack steps : ℕ) (before after : Objects S K)
+    (end : MachineEnd) → ExitsAlways image status →
     RunsImage image choices stack steps before after end → IsQuiet before after
 exits_quiet image status choices stack steps before after end always runs =
     let deaf = always.starts choices stack steps (without_input runs.outside) in
     let dumb = always.starts choices stack steps (without_output runs.outside) in
     record {
       source = runs.source_kept deaf.0 deaf.1
-          (no_input_fault deaf.0 status (always.exits choices stack steps (without_input runs.outside) deaf.0 deaf.1.output deaf.1.left deaf.1.machine).soon);
+          (no_input_fault deaf.0 status (always.exits choices stack steps
+          (without_input runs.outside) deaf.0 deaf.1.output deaf.1.left deaf.1.machine).soon);
       sink = runs.sink_kept dumb.0 dumb.1
-          (no_output_fault dumb.0 status (always.exits choices stack steps (without_output runs.outside) dumb.0 dumb.1.output dumb.1.left dumb.1.machine).soon);
+          (no_output_fault dumb.0 status (always.exits choices stack steps
+          (without_output runs.outside) dumb.0 dumb.1.output dumb.1.left dumb.1.machine).soon);
     }
 
 -- a source and a sink that are the same are seen the same
-pub same_objects : {S K : Type 0} (source_shows : SourceGhosts S) (sink_shows : SinkGhosts K) (s t : S) (k l : K) → t ≡ s → l ≡ k → objects source_shows sink_shows t l ≡ objects source_shows sink_shows s k
+pub same_objects : {S K : Type 0} (source_shows : SourceGhosts S) (sink_shows : SinkGhosts K) (s t : S) (k l : K) → t ≡ s → l ≡ k →
+    objects source_shows sink_shows t l ≡ objects source_shows sink_shows s k
 same_objects source_shows sink_shows s t k l source sink = λ i. objects source_shows sink_shows (source i) (sink i)
 
 -- the run of a file of a constant's image leaves the two alone

@@ -36,8 +36,10 @@ unread_not_usage file before after (failed rose) is = cc
 unread_not_usage file before after no_memory is = cc
 
 -- an image that exits always is answered so where three steps may run
-pub exits_late : {S K : Type 0} (image : Image) (status steps : ℕ) (before after : Objects S K) (ended : Ended) → ExitsAlways image status → RunsTo image steps before after ended → 3 ≤ steps →
+pub exits_late : {S K : Type 0} (image : Image) (status steps : ℕ) (before after : Objects S K) (ended : Ended) →
+    ExitsAlways image status → RunsTo image steps before after ended → 3 ≤ steps →
     ended ≡ ended_so status Exited
 exits_late image status steps before after ended always to enough =
     let runs = to.runs in
-    to.answered ∙ ap ended_by ((always.exits default_choices default_stack steps runs.outside to.end runs.output runs.left runs.machine).late enough)
+    to.answered ∙ ap ended_by
+    ((always.exits default_choices default_stack steps runs.outside to.end runs.output runs.left runs.machine).late enough)

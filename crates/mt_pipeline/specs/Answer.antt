@@ -5,7 +5,8 @@ use Rattle.mt_pipeline.specs.Status.{ends, ended_by, link_number, run_number, ru
 use Rattle.mt_pipeline.specs.declared.answer.Answer.{Answer}
 use Rattle.mt_pipeline.specs.declared.answer.Answer.TheVariants as answer
 use Rattle.mt_pipeline.specs.declared.ended.Ended.{Ended}
-use Rattle.mt_pipeline.specs.declared.ended.Why.TheVariants.{Done, Usage, Refused, NoFile, Link, BadImage, NoMemory, WriteFault, OutputFault, ReadFault}
+use Rattle.mt_pipeline.specs.declared.ended.Why.TheVariants.{Done, Usage, Refused, NoFile, Link, BadImage, NoMemory, WriteFault}
+use Rattle.mt_pipeline.specs.declared.ended.Why.TheVariants.{OutputFault, ReadFault}
 
 -- the status and the reason of an answer
 abbrev pub ended_of : Answer → Ended

@@ -32,7 +32,8 @@ pub fn run_image<S: Source, K: Sink>(
     // The bytes are the file of an image, and its run ends so.
     ensures image { IfOk result (λ _. (image : Image) × IsFileOf image bytes.now) }
     ensures runs { IfOk result (λ end. (image : Image) → IsFileOf image bytes.now →
-        RunsImage image choices.now stack n (objects S.Source K.Sink source.old sink.old) (objects S.Source K.Sink source.new sink.new) end) }
+        RunsImage image choices.now stack n (objects S.Source K.Sink source.old sink.old)
+        (objects S.Source K.Sink source.new sink.new) end) }
 
     // What is refused is refused for its cause, unless memory ran out, and bytes with a cause are refused for it.
     ensures refused { IfErr result (λ refusal. (refusal ≡ RunRefusal.NoMemory) ⊎ RefusesRun bytes.now refusal) }

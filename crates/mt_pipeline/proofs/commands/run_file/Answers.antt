@@ -46,7 +46,8 @@ returns-in-Ok-run_image g c =
     (λ bytes n holds within file_is.
     let file : ImageFile (constant_image n) read = subst (λ b. ImageFile (constant_image n) b)
     (sym (same_bytes before.files c.args.file.now bytes read holds c.in-Ok.ensures.bytes)) file_is in
-    let quiet = file_quiet image read n _ default_stack c.args.steps before.streams after.streams c.in-Ok-run_image.end is within file runs in
+    let quiet = file_quiet image read n _ default_stack c.args.steps before.streams after.streams c.in-Ok-run_image.end
+    is within file runs in
     same_objects g.S.Source g.K.Sink _ _ _ _ quiet.source quiet.sink)
     (same_files _ _ c.read_file.ensures.kept)
     (both_stay _ _ c.in-Ok.ensures.uncounted_ok c.read_file.ensures.writes)
