@@ -38,18 +38,18 @@ module _ {S K : Type 0} (file : List ℕ) (steps : ℕ) (before after : Seen S K
   RefusesOrWants cause ended = (ended ≡ ends (BadImage 0 (run_number cause) (run_place cause))) ⊎ (ended ≡ ends NoMemory)
 
   -- what the file holds is what was read of it
-  read_same : {P : List ℕ → Type 0} (bytes read : List ℕ) → bytes_of before.files file ≡ Some bytes → MayHold before.files file read →
+  read_same : (P : List ℕ → Type 0) (bytes read : List ℕ) → bytes_of before.files file ≡ Some bytes → MayHold before.files file read →
       P read → P bytes
-  read_same {P} bytes read holds may p = subst P (same_bytes before.files file bytes read holds may) p
+  read_same P bytes read holds may p = subst P (same_bytes before.files file bytes read holds may) p
 
   run_runs : {ended : Ended} → CauseOfRun file steps before after ended → (bytes : List ℕ) (image : Image) →
       bytes_of before.files file ≡ Some bytes → IsFileOf image bytes → HoldsCodeAlone image → ¬ ReadFailed before.files after.files →
       RunsOrWants image ended
   run_runs (ran {ended} read found may is to) bytes image holds file_is alone no_fault =
       inl (subst (λ i. RunsTo i steps before.streams after.streams ended)
-      (one_image found image bytes (read_same {P = IsFileOf found} bytes read holds may is) file_is) to)
+      (one_image found image bytes (read_same (IsFileOf found) bytes read holds may is) file_is) to)
   run_runs (refused read cause may refuses silent) bytes image holds file_is alone no_fault =
-      absurd (no_refusal bytes image cause file_is alone (read_same {P = λ b. RefusesRun b cause} bytes read holds may refuses))
+      absurd (no_refusal bytes image cause file_is alone (read_same (λ b. RefusesRun b cause) bytes read holds may refuses))
   run_runs (unread cause silent) bytes image holds file_is alone no_fault =
       inr (ap ends (unread_wants file bytes before.files after.files cause holds no_fault))
   run_runs (no_memory silent) bytes image holds file_is alone no_fault = inr refl
@@ -63,10 +63,10 @@ module _ {S K : Type 0} (file : List ℕ) (steps : ℕ) (before after : Seen S K
   run_refuses : {ended : Ended} → CauseOfRun file steps before after ended → (bytes : List ℕ) (cause : RunRefusal) →
       bytes_of before.files file ≡ Some bytes → RefusesRun bytes cause → ¬ ReadFailed before.files after.files → RefusesOrWants cause ended
   run_refuses (ran read found may is to) bytes cause holds refuses no_fault =
-      absurd (no_refusal bytes found cause (read_same {P = IsFileOf found} bytes read holds may is) to.runs.machine.starts refuses)
+      absurd (no_refusal bytes found cause (read_same (IsFileOf found) bytes read holds may is) to.runs.machine.starts refuses)
   run_refuses (refused read first may has silent) bytes cause holds refuses no_fault =
       inl (ap (λ r. ends (BadImage 0 (run_number r) (run_place r)))
-      (one_cause bytes first cause (read_same {P = λ b. RefusesRun b first} bytes read holds may has) refuses))
+      (one_cause bytes first cause (read_same (λ b. RefusesRun b first) bytes read holds may has) refuses))
   run_refuses (unread why silent) bytes cause holds refuses no_fault =
       inr (ap ends (unread_wants file bytes before.files after.files why holds no_fault))
   run_refuses (no_memory silent) bytes cause holds refuses no_fault = inr refl

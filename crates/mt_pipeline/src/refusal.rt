@@ -121,7 +121,7 @@ pub enum RunRefusal {
 
 impl RunRefusal {
     ghost use Rattle.mt_pipeline.specs.Status.{run_number, run_place};
-    ghost use Rattle.mt_pipeline.specs.Unrun.{answer_to_run};
+    ghost use Rattle.mt_pipeline.specs.Unrun.{answer_to_run, of_image, of_start};
 
     /// The refusal's number, and 0 for want of memory.
     pub fn number(&self) -> u8
@@ -142,6 +142,26 @@ impl RunRefusal {
             RunRefusal::Image(refusal) => refusal.place(),
             RunRefusal::Start(refusal) => refusal.place(),
             RunRefusal::NoMemory => 0,
+        }
+    }
+
+    /// The image was not read.
+    pub(crate) fn of_image(refusal: ImageRefusal) -> RunRefusal
+        ensures { result ≡ of_image refusal }
+    {
+        match refusal {
+            ImageRefusal::NoMemory => RunRefusal::NoMemory,
+            refusal => RunRefusal::Image(refusal),
+        }
+    }
+
+    /// The image was not started.
+    pub(crate) fn of_start(refusal: StartRefusal) -> RunRefusal
+        ensures { result ≡ of_start refusal }
+    {
+        match refusal {
+            StartRefusal::NoMemory => RunRefusal::NoMemory,
+            refusal => RunRefusal::Start(refusal),
         }
     }
 

@@ -9,7 +9,7 @@ ghost use Rattle.tag_startup.specs.Loaded.{HoldsCodeAlone, IsStack};
 ghost use Rattle.tag_startup.specs.Machine.{RunsImage};
 
 use crate::refusal::RunRefusal;
-use elf_image::{ImageParts, ImageRefusal, read_image};
+use elf_image::{ImageParts, read_image};
 use mt_base::Tag;
 use mt_outside::{Sink, Source};
 use mte_machine::MachineEnd;
@@ -45,13 +45,11 @@ pub fn run_image<S: Source, K: Sink>(
 {
     let parts = match read_image(alloc, bytes) {
         Ok(parts) => parts,
-        Err(ImageRefusal::NoMemory) => return Err(RunRefusal::NoMemory),
-        Err(refusal) => return Err(RunRefusal::Image(refusal)),
+        Err(refusal) => return Err(RunRefusal::of_image(refusal)),
     };
     match run_parts(alloc, &parts, choices, stack, n, source, sink) {
         Ok(end) => Ok(end),
-        Err(StartRefusal::NoMemory) => Err(RunRefusal::NoMemory),
-        Err(refusal) => Err(RunRefusal::Start(refusal)),
+        Err(refusal) => Err(RunRefusal::of_start(refusal)),
     }
 }
 

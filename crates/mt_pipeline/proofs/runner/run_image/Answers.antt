@@ -1,10 +1,24 @@
-use Rattle.std.proofs.Common.{subst, inl, inr}
+use Rattle.std.proofs.Common.{sym, subst}
 use Rattle.elf_image.specs.Image.{Image, image_of}
 use Rattle.elf_image.specs.Laws.OneImage.{one_image}
 use Rattle.mte_machine.specs.Objects.{objects}
 use Rattle.tag_startup.specs.Machine.{RunsImage}
 use Rattle.mt_pipeline.specs.Laws.OneRun.{no_refusal, refused_once}
+use Rattle.mt_pipeline.specs.declared.refusal.RunRefusal.{RunRefusal}
+use Rattle.mt_pipeline.proofs.RunRefused.{IsRefusal, image_cause, start_cause}
 use Rattle.mt_pipeline.proofs.runner.run_image.Goals as goal
+
+-- the bytes are no image
+pub returns-in-Err-clause-refused : goal.returns-in-Err-clause-refused
+returns-in-Err-clause-refused g c =
+    subst (λ (r : RunRefusal). IsRefusal c.args.bytes.now r) (sym c.of_image.ensures)
+    (image_cause c.args.bytes.now c.in-Err.refusal c.in-Err.ensures.refused)
+
+pub returns-in-Err-clause-refuses : goal.returns-in-Err-clause-refuses
+returns-in-Err-clause-refuses g c = λ cause has.
+    refused_once c.args.bytes.now c.of_image.result cause
+    (subst (λ (r : RunRefusal). IsRefusal c.args.bytes.now r) (sym c.of_image.ensures)
+    (image_cause c.args.bytes.now c.in-Err.refusal c.in-Err.ensures.refused)) has
 
 -- the bytes are the file of one image alone
 pub returns-in-Ok-run_parts-clause-runs : goal.returns-in-Ok-run_parts-clause-runs
@@ -18,3 +32,16 @@ returns-in-Ok-run_parts-clause-runs g c image is =
 pub returns-in-Ok-run_parts-clause-refuses : goal.returns-in-Ok-run_parts-clause-refuses
 returns-in-Ok-run_parts-clause-refuses g c cause has =
     no_refusal c.args.bytes.now (image_of c.in-Ok.parts) cause c.in-Ok.ensures.found c.in-Ok-run_parts.ensures.runs.machine.starts has
+
+-- or it did not start
+pub returns-clause-refused : goal.returns-clause-refused
+returns-clause-refused g c =
+    subst (λ (r : RunRefusal). IsRefusal c.args.bytes.now r) (sym c.of_start.ensures)
+    (start_cause c.args.bytes.now (image_of c.in-Ok.parts) c.in-Err-run_parts.refusal c.in-Ok.ensures.found c.in-Err-run_parts.ensures.not_yet)
+
+pub returns-clause-refuses : goal.returns-clause-refuses
+returns-clause-refuses g c = λ cause has.
+    refused_once c.args.bytes.now c.of_start.result cause
+    (subst (λ (r : RunRefusal). IsRefusal c.args.bytes.now r) (sym c.of_start.ensures)
+    (start_cause c.args.bytes.now (image_of c.in-Ok.parts) c.in-Err-run_parts.refusal c.in-Ok.ensures.found
+    c.in-Err-run_parts.ensures.not_yet)) has
