@@ -290,4 +290,5 @@ def main():
     each_byte(file)
 
 
-main()
+if __name__ == "__main__":
+    main()

@@ -1,7 +1,6 @@
--- The images that run today: the code of one constant, and nothing else.
+-- The image of a constant, which is what is built today: its code, and nothing else.
 use Rattle.std.specs.Prelude.{◌≡◌, ℕ, ◌+◌, ◌*◌, ◌/◌, ◌%◌, ◌≤◌, nat_lt, if◌then◌else◌, List, [], ◌∷◌}
 use Rattle.elf_image.specs.Image.{Image}
-use Rattle.elf_image.specs.ImageFile.{ImageFile}
 
 -- `movz w0, #low`, `movk w0, #high, lsl 16` and `svc #3` (Arm ARM, C6.2: MOVZ, MOVK, SVC)
 abbrev pub movz_word : ℕ → ℕ
@@ -33,10 +32,3 @@ constant_image n = record {
   filled = [];
   zero_bytes = 0;
 }
-
--- an image of a constant, and its file
-pub record IsConstantFile (p : Image) (file : List ℕ) : Type 0 where
-  pub constant : ℕ
-  pub fits : constant ≤ int_max
-  pub image : p ≡ constant_image constant
-  pub file_is : ImageFile p file

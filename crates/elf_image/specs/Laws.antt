@@ -5,7 +5,6 @@ pub mod Whole
 pub mod OneFile
 pub mod OneImage
 pub mod FileBytes
-pub mod FirstWords
 pub mod ConstantLaws
 pub mod CodeBytes
 pub mod Loading

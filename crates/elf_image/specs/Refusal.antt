@@ -1,7 +1,7 @@
 -- The numbers of the refusals, and the places in them.
 use Rattle.std.specs.Prelude.{ℕ}
 use Rattle.elf_image.specs.declared.refusal.ImageRefusal.{ImageRefusal}
-use Rattle.elf_image.specs.declared.refusal.ImageRefusal.TheVariants.{NotElf, NotThisMachine, Truncated, BadSegment, BadDynamic, NotYet, NoMemory}
+use Rattle.elf_image.specs.declared.refusal.ImageRefusal.TheVariants.{NotElf, NotThisMachine, Truncated, BadSegment, BadDynamic, NoMemory}
 
 -- the number of each refusal; want of memory, which says nothing of the bytes, has none
 abbrev pub number_of : ImageRefusal → ℕ
@@ -10,7 +10,6 @@ number_of NotThisMachine = 31
 number_of (Truncated at) = 32
 number_of (BadSegment index) = 33
 number_of (BadDynamic index) = 34
-number_of NotYet = 44
 number_of NoMemory = 0
 
 -- the place of each: a number of bytes, of a program header or of a dynamic entry

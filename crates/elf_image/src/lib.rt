@@ -2,8 +2,6 @@
 #![tactic(auto)]
 
 mod bytes;
-mod constant;
-mod constant_file;
 mod entries;
 mod heads;
 mod judge;
@@ -17,7 +15,6 @@ mod same;
 mod segments;
 mod write;
 
-pub use constant_file::read_constant;
 pub use memtag::{MemtagInfo, read_memtag};
 pub use parts::{ImageParts, RelativeReloc};
 pub use read::read_image;

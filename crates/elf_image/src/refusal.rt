@@ -23,9 +23,6 @@ pub enum ImageRefusal {
     /// The dynamic entry of this number is not that of an image.
     #[error("BadDynamic")]
     BadDynamic { index: u32 },
-    /// The image is none that is run yet.
-    #[error("NotYet")]
-    NotYet,
     /// Memory ran out, which says nothing of the bytes.
     #[error("NoMemory")]
     NoMemory,
@@ -34,7 +31,7 @@ pub enum ImageRefusal {
 impl ImageRefusal {
     ghost use Rattle.elf_image.specs.Refusal.{number_of, place_of};
 
-    /// The refusal's number, 30 to 34 in the order above, 44 for `NotYet`, and 0 for want of memory.
+    /// The refusal's number, 30 to 34 in the order above, and 0 for want of memory.
     pub fn number(&self) -> u8
         ensures { result ≡ number_of self.now }
     {
@@ -44,7 +41,6 @@ impl ImageRefusal {
             ImageRefusal::Truncated { .. } => 32,
             ImageRefusal::BadSegment { .. } => 33,
             ImageRefusal::BadDynamic { .. } => 34,
-            ImageRefusal::NotYet => 44,
             ImageRefusal::NoMemory => 0,
         }
     }

@@ -51,19 +51,30 @@ pub fn call(
     words: &[&str],
     mute: bool,
 ) -> Result<String, AllocError> {
-    let mut owned = Vec::new(alloc);
-    for word in words {
-        owned.push(String::from_str(alloc, word)?)?;
-    }
     let mut failing = Vec::new(alloc);
     if mute {
         failing.push(0)?;
     }
-    let mut input = MemSource::new(Vec::new(alloc), Vec::new(alloc));
     let mut out = MemSink::new(alloc, 100, Vec::new(alloc))?;
     let mut err = MemSink::new(alloc, 100, failing)?;
-    let ended = drive(alloc, &owned, files, &mut input, &mut out, &mut err);
+    let ended = ended(alloc, files, words, &mut out, &mut err)?;
     shown(alloc, ended, out.taken(), err.taken())
+}
+
+/// How a call with these words ends, whose input is empty.
+pub fn ended(
+    alloc: Global,
+    files: &mut MemFiles,
+    words: &[&str],
+    out: &mut MemSink,
+    err: &mut MemSink,
+) -> Result<Ended, AllocError> {
+    let mut owned = Vec::new(alloc);
+    for word in words {
+        owned.push(String::from_str(alloc, word)?)?;
+    }
+    let mut input = MemSource::new(Vec::new(alloc), Vec::new(alloc));
+    Ok(drive(alloc, &owned, files, &mut input, out, err))
 }
 
 /// How a call ends, and what it put on the output and on the error sink where it put something.

@@ -1,6 +1,7 @@
 // Images that were cut or changed after they were built.
-use crate::calls::call;
-use mt_outside::{Files, MemFile, MemFiles, ReadAnswer};
+use crate::calls::{call, ended};
+use mt_outside::{Files, MemFile, MemFiles, MemSink, ReadAnswer};
+use mt_pipeline::{Ended, Why};
 use std::alloc::{AllocError, Global};
 use test_rows::{hex, unquoted};
 
@@ -19,47 +20,76 @@ pub fn image_of(alloc: Global, text: Vec<u8>) -> Result<Vec<u8>, AllocError> {
     }
 }
 
-/// Runs of images, and those that end in another way than that of an empty file.
+/// Runs of images. Those that follow one another and end the same are told together.
 #[derive(Drop)]
 struct Runs {
     alloc: Global,
     files: MemFiles,
-    usual: String,
-    others: String,
+    first: usize,
+    last: usize,
+    ended: String,
+    told: String,
 }
 
 impl Runs {
-    fn new(alloc: Global) -> Result<Runs, AllocError> {
-        let mut files = MemFiles::new(Vec::new(alloc), Vec::new(alloc));
-        let usual = run(alloc, &mut files, b"")?;
-        Ok(Runs {
+    fn new(alloc: Global) -> Runs {
+        Runs {
             alloc,
-            files,
-            usual,
-            others: String::new(alloc),
-        })
+            files: MemFiles::new(Vec::new(alloc), Vec::new(alloc)),
+            first: 0,
+            last: 0,
+            ended: String::new(alloc),
+            told: String::new(alloc),
+        }
     }
 
     /// Runs these bytes, which this number tells.
     fn add(&mut self, number: usize, bytes: &[u8]) -> Result<(), AllocError> {
         let ended = run(self.alloc, &mut self.files, bytes)?;
-        if ended.as_str() != self.usual.as_str() {
-            let other = format!(in self.alloc; "{number}: {ended}, ")?;
-            self.others.push_str(other.as_str())?;
+        if ended.as_str() != self.ended.as_str() {
+            self.tell()?;
+            self.first = number;
+            self.ended = ended;
         }
+        self.last = number;
         Ok(())
     }
 
-    /// Those that end in another way, and how the rest ends.
-    fn told(&self) -> Result<String, AllocError> {
-        format!(in self.alloc; "{}else {}", self.others, self.usual)
+    /// Tells the runs that end as the last one.
+    fn tell(&mut self) -> Result<(), AllocError> {
+        if self.ended.as_str().is_empty() {
+            return Ok(());
+        }
+        let comma = if self.told.as_str().is_empty() {
+            ""
+        } else {
+            ", "
+        };
+        let last = format!(in self.alloc; "{comma}{}-{}: {}", self.first, self.last, self.ended)?;
+        self.told.push_str(last.as_str())
+    }
+
+    /// How all of them end.
+    fn told(mut self) -> Result<String, AllocError> {
+        self.tell()?;
+        Ok(self.told)
     }
 }
 
-/// How the run of these bytes ends.
+/// How the run of these bytes ends: `cut` where they are `Truncated`, which tells how many there are, the number and the
+/// place of another refusal, or the status and the reason.
 fn run(alloc: Global, files: &mut MemFiles, bytes: &[u8]) -> Result<String, AllocError> {
     files.write("x", bytes);
-    call(alloc, files, &["run", "x"], false)
+    let mut out = MemSink::new(alloc, 100, Vec::new(alloc))?;
+    let mut err = MemSink::new(alloc, 100, Vec::new(alloc))?;
+    let Ended { status, why } = ended(alloc, files, &["run", "x"], &mut out, &mut err)?;
+    match why {
+        Why::BadImage { number, place, .. } if number == 32 && place == bytes.len() as u64 => {
+            String::from_str(alloc, "cut")
+        }
+        Why::BadImage { number, place, .. } => format!(in alloc; "{number} {place}"),
+        why => format!(in alloc; "{status} {why:?}"),
+    }
 }
 
 /// The first place of a part, and the place behind it, of `N+M`.
@@ -77,11 +107,10 @@ pub fn cuts(alloc: Global, row: &str) -> Result<String, AllocError> {
         return String::from_str(alloc, "no part");
     };
     let mut bytes = image_of(alloc, unquoted(alloc, quoted)?)?;
-    let mut runs = Runs::new(alloc)?;
-    bytes.resize(end, 0)?;
-    for length in (first..end).rev() {
-        bytes.truncate(length);
-        runs.add(length, &bytes)?;
+    let mut runs = Runs::new(alloc);
+    bytes.resize(end.max(bytes.len()), 0)?;
+    for length in first..end {
+        runs.add(length, &bytes[..length])?;
     }
     runs.told()
 }
@@ -102,7 +131,7 @@ pub fn flips(alloc: Global, row: &str) -> Result<String, AllocError> {
         return String::from_str(alloc, "no part");
     };
     let mut image = image_of(alloc, unquoted(alloc, quoted)?)?;
-    let mut runs = Runs::new(alloc)?;
+    let mut runs = Runs::new(alloc);
     for place in first..end.min(image.len()) {
         flip(&mut image, place, bits);
         runs.add(place, &image)?;

@@ -6,12 +6,14 @@
 //!     mute "WORD" .. => ENDED               the same, and the error sink fails at once
 //!     holds "NAME" => "TEXT"                what a file holds
 //!     build "TEXT" .. => ANSWER             the call `build` of these texts
-//!     cuts N+M "TEXT" => LENGTH: ENDED, ..  runs of a text's image, cut or filled up to M lengths from N on
-//!     flips BITS N+M "TEXT" => PLACE: ENDED, ..   runs with these bits of M bytes, from N on, changed in turn
+//!     cuts N+M "TEXT" => I-J: END, ..       runs of a text's image, cut or filled up to M lengths from N on
+//!     flips BITS N+M "TEXT" => I-J: END, .. runs with these bits of M bytes, from N on, changed in turn
 //!     answer NAME V .. => ENDED             how a call ends with this answer about the file `a.c`
 //!
 //! A call ends with a status, the reason for it, and what it put on the output and on the error sink. Of images that are
-//! cut or changed, those are told that run in another way than an empty file. What is expected was found by hand.
+//! cut or changed, those from I to J that end the same are told together: END is `cut` where the image is
+//! Truncated, the number and the place of another refusal, or the status and the reason. What is expected of these comes
+//! from `tools/run_rows.py`, and all else was found by hand.
 #![tactic(auto)]
 
 mod answers;

@@ -114,7 +114,6 @@ fn read_as(alloc: Global, bytes: &[u8]) -> Result<String, AllocError> {
                 String::from_str(alloc, "written otherwise")
             }
         }
-        Err(ImageRefusal::NotYet) => String::from_str(alloc, "NotYet"),
         Err(ImageRefusal::NotElf) => String::from_str(alloc, "NotElf"),
         Err(ImageRefusal::NotThisMachine) => String::from_str(alloc, "NotThisMachine"),
         Err(ImageRefusal::Truncated { at }) => format!(in alloc; "Truncated {at}"),

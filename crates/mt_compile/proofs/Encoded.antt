@@ -10,7 +10,8 @@ use Rattle.mt_compile.specs.Laws.CodeRows.{status_register}
 
 -- an instruction whose fields are in range has a word
 pub has_word : (instr : Instr) (word : Option ℕ) → AllFit (encoding instr).fields → IfNone word ((w : ℕ) → ¬ Row w instr) → IsSome word
-has_word instr None within none = absurd (none ((encoding instr).base + placed (encoding instr).fields) (record { within = within; spelled = refl }))
+has_word instr None within none =
+    absurd (none ((encoding instr).base + placed (encoding instr).fields) (record { within = within; spelled = refl }))
 has_word instr (Some w) within none = refl
 
 -- the words of the rows are the only ones

@@ -23,20 +23,31 @@ SameAnswer x y = x ≡ y
 pub held_tokens : {X : Type 0} (text : List ℕ) (found : X) (given tokens : List Token) → tokens ≡ given → Tokens text (all_seen given) →
     (text_limit < length text → SameAnswer (Ok found) (Err lex.TextTooLong)) → HasTokens text tokens
 held_tokens text found given tokens same are only =
-    record { within = not_longer text (λ long. let e : SameAnswer (Ok found) (Err lex.TextTooLong) = only long in cc); are = subst (λ ts. Tokens text (all_seen ts)) (sym same) are }
+    record {
+      within = not_longer text (λ long. let e : SameAnswer (Ok found) (Err lex.TextTooLong) = only long in cc);
+      are =
+          subst (λ ts. Tokens text (all_seen ts)) (sym same) are;
+    }
 
 same_err : (X : Type 0) {a b : LexRefusal} → SameAnswer {X = X} (Err a) (Err b) → a ≡ b
 same_err X e = cc
 
-text_so : (text : List ℕ) (refusal : LexRefusal) → IsLexCause text refusal → (text_limit < length text → refusal ≡ lex.TextTooLong) → IsCause text (of_text refusal)
+text_so : (text : List ℕ) (refusal : LexRefusal) → IsLexCause text refusal → (text_limit < length text → refusal ≡ lex.TextTooLong) →
+    IsCause text (of_text refusal)
 text_so text lex.NoMemory cause only = inl refl
 text_so text lex.TextTooLong cause only = inr (too_long cause)
-text_so text (lex.BadByte at) cause only = inr (faulty (not_longer text (λ long. let e : lex.BadByte at ≡ lex.TextTooLong = only long in cc)) cause)
-text_so text (lex.UnclosedText at) cause only = inr (faulty (not_longer text (λ long. let e : lex.UnclosedText at ≡ lex.TextTooLong = only long in cc)) cause)
-text_so text (lex.UnclosedComment at) cause only = inr (faulty (not_longer text (λ long. let e : lex.UnclosedComment at ≡ lex.TextTooLong = only long in cc)) cause)
-text_so text (lex.NumberTooLarge at) cause only = inr (faulty (not_longer text (λ long. let e : lex.NumberTooLarge at ≡ lex.TextTooLong = only long in cc)) cause)
-text_so text (lex.BadDirective at) cause only = inr (faulty (not_longer text (λ long. let e : lex.BadDirective at ≡ lex.TextTooLong = only long in cc)) cause)
+text_so text (lex.BadByte at) cause only =
+    inr (faulty (not_longer text (λ long. let e : lex.BadByte at ≡ lex.TextTooLong = only long in cc)) cause)
+text_so text (lex.UnclosedText at) cause only =
+    inr (faulty (not_longer text (λ long. let e : lex.UnclosedText at ≡ lex.TextTooLong = only long in cc)) cause)
+text_so text (lex.UnclosedComment at) cause only =
+    inr (faulty (not_longer text (λ long. let e : lex.UnclosedComment at ≡ lex.TextTooLong = only long in cc)) cause)
+text_so text (lex.NumberTooLarge at) cause only =
+    inr (faulty (not_longer text (λ long. let e : lex.NumberTooLarge at ≡ lex.TextTooLong = only long in cc)) cause)
+text_so text (lex.BadDirective at) cause only =
+    inr (faulty (not_longer text (λ long. let e : lex.BadDirective at ≡ lex.TextTooLong = only long in cc)) cause)
 
 -- what the lexer says of a text is a cause
-pub text_cause : (X : Type 0) (text : List ℕ) (refusal : LexRefusal) → IsLexCause text refusal → (text_limit < length text → SameAnswer {X = X} (Err refusal) (Err lex.TextTooLong)) → IsCause text (of_text refusal)
+pub text_cause : (X : Type 0) (text : List ℕ) (refusal : LexRefusal) → IsLexCause text refusal →
+    (text_limit < length text → SameAnswer {X = X} (Err refusal) (Err lex.TextTooLong)) → IsCause text (of_text refusal)
 text_cause X text refusal cause only = text_so text refusal cause (λ long. same_err X (only long))

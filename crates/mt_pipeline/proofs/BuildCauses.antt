@@ -19,19 +19,26 @@ use Rattle.mt_pipeline.proofs.Statuses.{unread_not_usage}
 
 module _ (file out : List ℕ) (before after : FilesSeen) where
   -- `build` is done where the file holds the text of a constant and nothing failed
-  build_done : {ended : Ended} → CauseOfBuild file out before after ended → (bytes : List ℕ) (n : ℕ) → bytes_of before file ≡ Some bytes → ReturnsConstant bytes n →
+  build_done : {ended : Ended} → CauseOfBuild file out before after ended → (bytes : List ℕ) (n : ℕ) →
+      bytes_of before file ≡ Some bytes → ReturnsConstant bytes n →
       ¬ ReadFailed before after → ¬ WriteFailed before after → (ended ≡ ends Done) ⊎ (ended ≡ ends NoMemory)
   build_done (written read image may built writes) bytes n holds returns reads no_fault = inl refl
   build_done (write_failed read image may builds rose others) bytes n holds returns reads no_fault = absurd (no_fault rose)
-  build_done (refused read refusal byte may refuses same) bytes n holds returns reads no_fault = absurd (holds_refused before file bytes read n byte refusal holds may returns refuses)
-  build_done (unread cause same) bytes n holds returns reads no_fault = inr (ap ends (unread_wants file bytes before after cause holds reads))
+  build_done (refused read refusal byte may refuses same) bytes n holds returns reads no_fault =
+      absurd (holds_refused before file bytes read n byte refusal holds may returns refuses)
+  build_done (unread cause same) bytes n holds returns reads no_fault =
+      inr (ap ends (unread_wants file bytes before after cause holds reads))
   build_done (no_memory same) bytes n holds returns reads no_fault = inr refl
 
-  build_refuses : {ended : Ended} → CauseOfBuild file out before after ended → (bytes : List ℕ) (number at : ℕ) → bytes_of before file ≡ Some bytes → IsRefused bytes number at →
+  build_refuses : {ended : Ended} → CauseOfBuild file out before after ended → (bytes : List ℕ) (number at : ℕ) →
+      bytes_of before file ≡ Some bytes → IsRefused bytes number at →
       ¬ ReadFailed before after → (ended ≡ ends (Refused 0 number at)) ⊎ (ended ≡ ends NoMemory)
-  build_refuses (written read image may built writes) bytes number at holds is reads = absurd (refused_built before file bytes read number at built.image holds may is built.builds)
-  build_refuses (write_failed read image may builds rose others) bytes number at holds is reads = absurd (refused_built before file bytes read number at image holds may is builds)
-  build_refuses (refused read refusal byte may refuses same) bytes number at holds is reads = inl (refused_same before file bytes read number at byte refusal holds may is refuses)
+  build_refuses (written read image may built writes) bytes number at holds is reads =
+      absurd (refused_built before file bytes read number at built.image holds may is built.builds)
+  build_refuses (write_failed read image may builds rose others) bytes number at holds is reads =
+      absurd (refused_built before file bytes read number at image holds may is builds)
+  build_refuses (refused read refusal byte may refuses same) bytes number at holds is reads =
+      inl (refused_same before file bytes read number at byte refusal holds may is refuses)
   build_refuses (unread cause same) bytes number at holds is reads = inr (ap ends (unread_wants file bytes before after cause holds reads))
   build_refuses (no_memory same) bytes number at holds is reads = inr refl
 
@@ -52,7 +59,8 @@ module _ (file out : List ℕ) (before after : FilesSeen) where
   build_not_usage (unread cause same) is = unread_not_usage file before after cause is
   build_not_usage (no_memory same) is = cc
 
-  pub build_unread : (not : Unread) → CauseOfNoBytes file before after (why_unread not) → SameFiles before after → CauseOfBuild file out before after (ended_of (answer_to_unread not))
+  pub build_unread : (not : Unread) → CauseOfNoBytes file before after (why_unread not) → SameFiles before after →
+      CauseOfBuild file out before after (ended_of (answer_to_unread not))
   build_unread Absent cause same = unread cause same
   build_unread Failed cause same = unread cause same
   build_unread WantsMemory cause same = unread cause same

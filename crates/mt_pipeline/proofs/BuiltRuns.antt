@@ -12,7 +12,8 @@ use Rattle.mt_pipeline.specs.Laws.ConstantRun.{constant_starts, constant_exits}
 
 -- the image exits always with its constant
 pub of_exits : (texts : List (List ℕ)) (image : Image) (of : IsOfConstant texts image) → ExitsAlways image (of.constant % 256)
-of_exits texts image of = subst (λ i. ExitsAlways i (of.constant % 256)) (sym of.is) (constant_exits of.constant (constant_in_range of.returns.returns))
+of_exits texts image of =
+    subst (λ i. ExitsAlways i (of.constant % 256)) (sym of.is) (constant_exits of.constant (constant_in_range of.returns.returns))
 
 pub linked_builds : (texts objects : List (List ℕ)) (image : Image) → AreCompiled texts objects → Linked objects image → Builds texts image
 linked_builds texts objects image compiled linked =

@@ -12,5 +12,6 @@ digit_at (d ∷ ds) zero all inside = all.0
 digit_at (d ∷ ds) (suc i) all inside = digit_at ds i all.1 (omega arith)
 
 -- the digits as far as one of them spell at most what all spell
-pub digits_value_so_far : (ds : List ℕ) (i : ℕ) → i < length ds → digits_value 10 (take i ds) * 10 + digit_value (get_or ds i 0) ≤ digits_value 10 ds
+pub digits_value_so_far : (ds : List ℕ) (i : ℕ) → i < length ds →
+    digits_value 10 (take i ds) * 10 + digit_value (get_or ds i 0) ≤ digits_value 10 ds
 digits_value_so_far ds i inside = omega (arith, digits_value_more 10 ds i inside, digits_value-take-le 10 ds (i + 1) (lit≤ tt))

@@ -23,7 +23,8 @@ use Rattle.mt_pipeline.proofs.SameBytes.{same_bytes, unread_wants}
 use Rattle.mt_pipeline.proofs.Statuses.{unread_not_usage}
 
 module _ {K : Type 0} (file : List ℕ) (before after : FilesSeen) (out now : Output K) where
-  dump_prints : {ended : Ended} → CauseOfDump file before after out now ended → (bytes text : List ℕ) → bytes_of before file ≡ Some bytes → HasText bytes text →
+  dump_prints : {ended : Ended} → CauseOfDump file before after out now ended → (bytes text : List ℕ) →
+      bytes_of before file ≡ Some bytes → HasText bytes text →
       ¬ ReadFailed before after → ¬ Rose out.faults now.faults → ((ended ≡ ends Done) × PutsAll text out now) ⊎ (ended ≡ ends NoMemory)
   dump_prints (put read found may has puts) bytes text holds is no_read no_put =
       let same : read ≡ bytes = same_bytes before file bytes read holds may in
@@ -31,23 +32,28 @@ module _ {K : Type 0} (file : List ℕ) (before after : FilesSeen) (out now : Ou
   dump_prints (put_failed read found may has puts) bytes text holds is no_read no_put = absurd (no_put puts.failed)
   dump_prints (refused read fault may none silent) bytes text holds is no_read no_put =
       absurd (no_fault bytes text fault is (subst (λ b. HasNoText b fault) (same_bytes before file bytes read holds may) none))
-  dump_prints (unread cause silent) bytes text holds is no_read no_put = inr (ap ends (unread_wants file bytes before after cause holds no_read))
+  dump_prints (unread cause silent) bytes text holds is no_read no_put =
+      inr (ap ends (unread_wants file bytes before after cause holds no_read))
   dump_prints (no_memory silent) bytes text holds is no_read no_put = inr refl
 
-  dump_refuses : {ended : Ended} → CauseOfDump file before after out now ended → (bytes : List ℕ) (fault : DumpRefusal) → bytes_of before file ≡ Some bytes →
-      HasNoText bytes fault → ¬ ReadFailed before after → (ended ≡ ends (BadImage 0 (number_of fault) (place_of fault))) ⊎ (ended ≡ ends NoMemory)
+  dump_refuses : {ended : Ended} → CauseOfDump file before after out now ended → (bytes : List ℕ) (fault : DumpRefusal) →
+      bytes_of before file ≡ Some bytes →
+      HasNoText bytes fault → ¬ ReadFailed before after → (ended ≡ ends (BadImage 0 (number_of fault) (place_of fault))) ⊎
+      (ended ≡ ends NoMemory)
   dump_refuses (put read found may has puts) bytes fault holds is no_read =
       absurd (no_fault bytes found fault (subst (λ b. HasText b found) (same_bytes before file bytes read holds may) has) is)
   dump_refuses (put_failed read found may has puts) bytes fault holds is no_read =
       absurd (no_fault bytes found fault (subst (λ b. HasText b found) (same_bytes before file bytes read holds may) has) is)
   dump_refuses (refused read first may none silent) bytes fault holds is no_read =
-      let same : first ≡ fault = one_fault bytes first fault (subst (λ b. HasNoText b first) (same_bytes before file bytes read holds may) none) is in
+      let same : first ≡ fault = one_fault bytes first fault (subst (λ b. HasNoText b first)
+      (same_bytes before file bytes read holds may) none) is in
       inl (ap (λ f. ends (BadImage 0 (number_of f) (place_of f))) same)
   dump_refuses (unread cause silent) bytes fault holds is no_read = inr (ap ends (unread_wants file bytes before after cause holds no_read))
   dump_refuses (no_memory silent) bytes fault holds is no_read = inr refl
 
   -- A cause is the whole of the answer.
-  pub dump_answers : (ended : Ended) → CauseOfDump file before after out now ended → SameFiles before after → UncountedReads before after ended.why →
+  pub dump_answers : (ended : Ended) → CauseOfDump file before after out now ended → SameFiles before after →
+      UncountedReads before after ended.why →
       Dumps file before after out now ended
   dump_answers ended cause files counts = record {
     prints = λ bytes text holds is no_read no_put. dump_prints cause bytes text holds is no_read no_put;
@@ -64,7 +70,8 @@ module _ {K : Type 0} (file : List ℕ) (before after : FilesSeen) (out now : Ou
   dump_not_usage (unread cause silent) e = unread_not_usage file before after cause e
   dump_not_usage (no_memory silent) e = cc
 
-  pub dump_unread : (not : Unread) → CauseOfNoBytes file before after (why_unread not) → now ≡ out → CauseOfDump file before after out now (ended_of (answer_to_unread not))
+  pub dump_unread : (not : Unread) → CauseOfNoBytes file before after (why_unread not) → now ≡ out →
+      CauseOfDump file before after out now (ended_of (answer_to_unread not))
   dump_unread Absent cause silent = unread cause silent
   dump_unread Failed cause silent = unread cause silent
   dump_unread WantsMemory cause silent = unread cause silent
@@ -75,8 +82,10 @@ module _ {K : Type 0} (file : List ℕ) (before after : FilesSeen) (out now : Ou
   dump_put bytes text _ may has (part puts) = put_failed bytes text may has puts
 
   -- a refusal is the want of memory, or that of a file that has no text
-  pub dump_refused : (bytes : List ℕ) (refusal : DumpRefusal) → MayHold before file bytes → now ≡ out → (refusal ≡ DumpNoMemory) ⊎ HasNoText bytes refusal →
+  pub dump_refused : (bytes : List ℕ) (refusal : DumpRefusal) → MayHold before file bytes → now ≡ out →
+      (refusal ≡ DumpNoMemory) ⊎ HasNoText bytes refusal →
       CauseOfDump file before after out now (ended_of (answer_to_dump refusal))
-  dump_refused bytes refusal may silent (inl wanting) = subst (λ r. CauseOfDump file before after out now (ended_of (answer_to_dump r))) (sym wanting) (no_memory silent)
+  dump_refused bytes refusal may silent (inl wanting) =
+      subst (λ r. CauseOfDump file before after out now (ended_of (answer_to_dump r))) (sym wanting) (no_memory silent)
   dump_refused bytes DumpNoMemory may silent (inr none) = no_memory silent
   dump_refused bytes refusal may silent (inr none) = refused bytes refusal may none silent

@@ -9,6 +9,7 @@ pub mod Statuses
 pub mod Counts
 pub mod GoCauses
 pub mod BuildCauses
+pub mod RunRefused
 pub mod RunCauses
 pub mod BuildRefused
 pub mod Objects

@@ -8,11 +8,13 @@ use Rattle.mt_pipeline.specs.Seen.{FilesSeen, bytes_of, MayHold, ReadFailed}
 use Rattle.mt_pipeline.specs.declared.ended.Why.{Why}
 use Rattle.mt_pipeline.specs.declared.ended.Why.TheVariants.{NoMemory}
 
-told_bytes : (told : Option Contents) (file bytes read : List ℕ) → option_and_then (λ files. files file) told ≡ Some bytes → IfSome told (λ files. files file ≡ Some read) → read ≡ bytes
+told_bytes : (told : Option Contents) (file bytes read : List ℕ) → option_and_then (λ files. files file) told ≡ Some bytes →
+    IfSome told (λ files. files file ≡ Some read) → read ≡ bytes
 told_bytes None file bytes read holds is = absurd (none-some bytes holds)
 told_bytes (Some files) file bytes read holds is = same_Some _ _ (sym is ∙ holds)
 
-not_absent : (told : Option Contents) (file bytes : List ℕ) → option_and_then (λ files. files file) told ≡ Some bytes → IfSome told (λ files. files file ≡ None) → ⊥
+not_absent : (told : Option Contents) (file bytes : List ℕ) → option_and_then (λ files. files file) told ≡ Some bytes →
+    IfSome told (λ files. files file ≡ None) → ⊥
 not_absent None file bytes holds none = none-some bytes holds
 not_absent (Some files) file bytes holds none = none-some bytes (sym none ∙ holds)
 
@@ -21,7 +23,8 @@ pub same_bytes : (seen : FilesSeen) (file bytes read : List ℕ) → bytes_of se
 same_bytes seen file bytes read holds is = told_bytes seen.told file bytes read holds is
 
 -- where there are bytes and no read failed, memory is wanting
-pub unread_wants : (file bytes : List ℕ) (before after : FilesSeen) {why : Why} → CauseOfNoBytes file before after why → bytes_of before file ≡ Some bytes → ¬ ReadFailed before after → why ≡ NoMemory
+pub unread_wants : (file bytes : List ℕ) (before after : FilesSeen) {why : Why} → CauseOfNoBytes file before after why →
+    bytes_of before file ≡ Some bytes → ¬ ReadFailed before after → why ≡ NoMemory
 unread_wants file bytes before after (absent none) holds no_fault = absurd (not_absent before.told file bytes holds none)
 unread_wants file bytes before after (failed rose) holds no_fault = absurd (no_fault rose)
 unread_wants file bytes before after no_memory holds no_fault = refl

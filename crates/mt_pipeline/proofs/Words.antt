@@ -1,5 +1,6 @@
 -- The words that ask for a job: two of them or four.
-use Rattle.std.proofs.Common.{◌≡◌, ◌<◌, ◌≤◌, ◌⊎◌, ℕ, List, [], ◌∷◌, length, get_or, arith, refl, sym, ap, subst, inl, inr, ◌∙◌, Option, Some, None, IfNone}
+use Rattle.std.proofs.Common.{◌≡◌, ◌<◌, ◌≤◌, ◌⊎◌, ℕ, List, [], ◌∷◌, length, get_or, arith, refl, sym, ap, subst, inl, inr, ◌∙◌, Option}
+use Rattle.std.proofs.Common.{Some, None, IfNone}
 use Rattle.std.proofs.lemmas.Bool.{true≢false}
 use Rattle.std.proofs.lemmas.Slice.Eq.{bytes_eq-Decides}
 use Rattle.std.specs.Prelude.{codes}
@@ -7,13 +8,15 @@ use Rattle.mt_pipeline.specs.Number.{IsSteps}
 use Rattle.mt_pipeline.specs.Command.{Asks, AsksAlone, AsksWith}
 use Rattle.mt_pipeline.specs.Job.{Job, Go, Build, Run, Dump, HasJob, go, go_steps, build, run, run_steps, dump, default_steps}
 
-pub two_items : {A : Type 0} (xs : List A) (a b : A) → 2 ≤ length xs → length xs < 3 → a ≡ get_or xs 0 a → b ≡ get_or xs 1 b → xs ≡ a ∷ b ∷ []
+pub two_items : {A : Type 0} (xs : List A) (a b : A) → 2 ≤ length xs → length xs < 3 → a ≡ get_or xs 0 a → b ≡ get_or xs 1 b →
+    xs ≡ a ∷ b ∷ []
 two_items [] a b least most first second = absurd (omega arith)
 two_items (x ∷ []) a b least most first second = absurd (omega arith)
 two_items (x ∷ y ∷ []) a b least most first second = cc
 two_items (x ∷ y ∷ z ∷ zs) a b least most first second = absurd (omega arith)
 
-pub four_items : {A : Type 0} (xs : List A) (a b c d : A) → 4 ≤ length xs → length xs < 5 → a ≡ get_or xs 0 a → b ≡ get_or xs 1 b → c ≡ get_or xs 2 c → d ≡ get_or xs 3 d → xs ≡ a ∷ b ∷ c ∷ d ∷ []
+pub four_items : {A : Type 0} (xs : List A) (a b c d : A) → 4 ≤ length xs → length xs < 5 → a ≡ get_or xs 0 a → b ≡ get_or xs 1 b →
+    c ≡ get_or xs 2 c → d ≡ get_or xs 3 d → xs ≡ a ∷ b ∷ c ∷ d ∷ []
 four_items [] a b c d least most first second third fourth = absurd (omega arith)
 four_items (x ∷ []) a b c d least most first second third fourth = absurd (omega arith)
 four_items (x ∷ y ∷ []) a b c d least most first second third fourth = absurd (omega arith)
@@ -51,9 +54,11 @@ four_ask words a b c d job are (inl is) =
 four_ask words a b c d job are (inr (steps, option, number, inl is)) =
     subst (λ j. HasJob words j) (sym is.1) (go_steps b d steps (let e : words ≡ codes "go" ∷ b ∷ codes "--steps" ∷ d ∷ [] = cc in e) number)
 four_ask words a b c d job are (inr (steps, option, number, inr is)) =
-    subst (λ j. HasJob words j) (sym is.1) (run_steps b d steps (let e : words ≡ codes "run" ∷ b ∷ codes "--steps" ∷ d ∷ [] = cc in e) number)
+    subst (λ j. HasJob words j) (sym is.1) (run_steps b d steps
+    (let e : words ≡ codes "run" ∷ b ∷ codes "--steps" ∷ d ∷ [] = cc in e) number)
 
-pub four_asked : (words : List (List ℕ)) (a b c d : List ℕ) (job : Job) → words ≡ a ∷ b ∷ c ∷ d ∷ [] → HasJob words job → AsksWith a b c d job
+pub four_asked : (words : List (List ℕ)) (a b c d : List ℕ) (job : Job) → words ≡ a ∷ b ∷ c ∷ d ∷ [] → HasJob words job →
+    AsksWith a b c d job
 four_asked words a b c d _ are (go file e) = absurd (cc)
 four_asked words a b c d _ are (run image e) = absurd (cc)
 four_asked words a b c d _ are (dump file e) = absurd (cc)
@@ -86,7 +91,8 @@ other_words words _ (go_steps file digits steps e n) = inr (ap length e)
 other_words words _ (run_steps image digits steps e n) = inr (ap length e)
 
 -- an option that says the steps asks for what the command asks for with them
-pub no_asks : (command file option value : List ℕ) (steps : ℕ) → option ≡ codes "--steps" → IsSteps value steps → ((job : Job) → ¬ Asks command file steps job) → (job : Job) → ¬ AsksWith command file option value job
+pub no_asks : (command file option value : List ℕ) (steps : ℕ) → option ≡ codes "--steps" → IsSteps value steps →
+    ((job : Job) → ¬ Asks command file steps job) → (job : Job) → ¬ AsksWith command file option value job
 no_asks command file option value steps is number none job (inl out) =
     true≢false (sym ((bytes_eq-Decides (codes "--out") (codes "--steps")).1 (sym out.0 ∙ is)) ∙ refl)
 no_asks command file option value steps is number none job (inr asked) =
@@ -94,7 +100,8 @@ no_asks command file option value steps is number none job (inr asked) =
     none job (subst (λ n. Asks command file n job) same asked.3)
 
 -- a command that is no dump asks for what it asks for with the steps that are given by default
-pub not_alone : (command file : List ℕ) → ¬ (command ≡ codes "dump") → ((job : Job) → ¬ Asks command file default_steps job) → (job : Job) → ¬ AsksAlone command file job
+pub not_alone : (command file : List ℕ) → ¬ (command ≡ codes "dump") → ((job : Job) → ¬ Asks command file default_steps job) →
+    (job : Job) → ¬ AsksAlone command file job
 not_alone command file other none job (inl is) = other is.0
 not_alone command file other none job (inr asks) = none job asks
 

@@ -1,12 +1,12 @@
 -- What a caller sees of an answer as the program holds it.
 use Rattle.mt_compile.specs.Refused.{number_of}
 use Rattle.memtag_dump.specs.Refusal.{number_of as dump_number, place_of as dump_place}
-use Rattle.mt_pipeline.specs.Refusals.{link_number, run_number}
-use Rattle.mt_pipeline.specs.Status.{ends, ended_by}
+use Rattle.mt_pipeline.specs.Status.{ends, ended_by, link_number, run_number, run_place}
 use Rattle.mt_pipeline.specs.declared.answer.Answer.{Answer}
 use Rattle.mt_pipeline.specs.declared.answer.Answer.TheVariants as answer
 use Rattle.mt_pipeline.specs.declared.ended.Ended.{Ended}
-use Rattle.mt_pipeline.specs.declared.ended.Why.TheVariants.{Done, Usage, Refused, NoFile, Link, BadImage, NoMemory, WriteFault, OutputFault, ReadFault}
+use Rattle.mt_pipeline.specs.declared.ended.Why.TheVariants.{Done, Usage, Refused, NoFile, Link, BadImage, NoMemory, WriteFault}
+use Rattle.mt_pipeline.specs.declared.ended.Why.TheVariants.{OutputFault, ReadFault}
 
 -- the status and the reason of an answer
 abbrev pub ended_of : Answer → Ended
@@ -16,7 +16,7 @@ ended_of answer.Usage = ends Usage
 ended_of (answer.Refused file place refusal) = ends (Refused file (number_of refusal) place)
 ended_of (answer.NoFile file) = ends (NoFile file)
 ended_of (answer.Link refusal) = ends (Link (link_number refusal))
-ended_of (answer.BadImage file refusal) = ends (BadImage file (run_number refusal) 0)
+ended_of (answer.BadImage file refusal) = ends (BadImage file (run_number refusal) (run_place refusal))
 ended_of (answer.BadDump file refusal) = ends (BadImage file (dump_number refusal) (dump_place refusal))
 ended_of answer.NoMemory = ends NoMemory
 ended_of (answer.WriteFault file) = ends (WriteFault file)

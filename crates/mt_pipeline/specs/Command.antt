@@ -1,7 +1,8 @@
 -- The job of a command as the program holds it, and what the parts of `command_of` find.
 use Rattle.std.specs.Prelude.{◌≡◌, ◌⊎◌, ℕ, List, codes}
 use Rattle.mt_pipeline.specs.declared.command.Command.{Command}
-use Rattle.mt_pipeline.specs.declared.command.Command.TheVariants.{Go as GoCommand, Build as BuildCommand, Run as RunCommand, Dump as DumpCommand}
+use Rattle.mt_pipeline.specs.declared.command.Command.TheVariants.{Go as GoCommand, Build as BuildCommand, Run as RunCommand}
+use Rattle.mt_pipeline.specs.declared.command.Command.TheVariants.{Dump as DumpCommand}
 use Rattle.mt_pipeline.specs.Job.{Job, Go, Build, Run, Dump, default_steps}
 use Rattle.mt_pipeline.specs.Number.{IsSteps}
 

@@ -15,7 +15,6 @@ pub mod Dump
 pub mod Usage
 pub mod Answers
 -- what the parts below it say
-pub mod Refusals
 pub mod Answer
 pub mod Unread
 pub mod Unbuilt

@@ -1,28 +1,39 @@
 -- What the command `run` answers: the end of the image's run, or another answer with its cause (this project's own).
 use Rattle.std.specs.Prelude.{◌≡◌, ◌⊎◌, ◌≤◌, ℕ, ◌%◌, List, Some}
-use Rattle.elf_image.specs.Constant.{IsConstantFile, constant_image, int_max}
+use Rattle.elf_image.specs.Constant.{constant_image, int_max}
+use Rattle.elf_image.specs.Faults.{ImageFault}
 use Rattle.elf_image.specs.Image.{Image}
 use Rattle.elf_image.specs.ImageFile.{ImageFile}
-use Rattle.mt_pipeline.specs.Agrees.{ExitsAlways}
+use Rattle.elf_image.specs.Ranges.{IsFileOf}
+use Rattle.elf_image.specs.declared.refusal.ImageRefusal.{ImageRefusal}
+use Rattle.tag_startup.specs.Loaded.{HoldsCodeAlone}
+use Rattle.tag_startup.specs.declared.refusal.StartRefusal.TheVariants.{NotYet}
 use Rattle.mt_pipeline.specs.Counted.{UncountedReads}
 use Rattle.mt_pipeline.specs.Ran.{RunsTo}
 use Rattle.mt_pipeline.specs.Read.{CauseOfNoBytes}
 use Rattle.mt_pipeline.specs.Seen.{Seen, bytes_of, MayHold, ReadFailed, SameFiles, IsSilent}
-use Rattle.mt_pipeline.specs.Status.{ends, ended_so}
+use Rattle.mt_pipeline.specs.Status.{ends, ended_so, ComesBeforeRun, run_number, run_place}
 use Rattle.mt_pipeline.specs.declared.ended.Ended.{Ended}
 use Rattle.mt_pipeline.specs.declared.ended.Why.{Why}
 use Rattle.mt_pipeline.specs.declared.ended.Why.TheVariants.{Exited, BadImage, NoMemory}
+use Rattle.mt_pipeline.specs.declared.refusal.RunRefusal.{RunRefusal}
+use Rattle.mt_pipeline.specs.declared.refusal.RunRefusal.TheVariants as run
+
+-- why bytes do not run
+pub data RefusesRun (bytes : List ℕ) : RunRefusal → Type 0 where
+  -- they are no image, by their first fault
+  no_image : (fault : ImageRefusal) → ImageFault bytes fault → RefusesRun bytes (run.Image fault)
+  -- they are an image that holds more than code, which does not start yet
+  no_start : (image : Image) → IsFileOf image bytes → ¬ HoldsCodeAlone image → RefusesRun bytes (run.Start NotYet)
 
 -- The answers, each by its cause.
 pub data CauseOfRun {S K : Type 0} (file : List ℕ) (steps : ℕ) (before after : Seen S K) : Ended → Type 0 where
   -- the file is an image, and it ran
-  ran : {ended : Ended} (bytes : List ℕ) (image : Image) → MayHold before.files file bytes → (is : IsConstantFile image bytes) →
-      ExitsAlways image (is.constant % 256) →
+  ran : {ended : Ended} (bytes : List ℕ) (image : Image) → MayHold before.files file bytes → IsFileOf image bytes →
       RunsTo image steps before.streams after.streams ended → CauseOfRun file steps before after ended
-  -- it is none
-  bad_image : (bytes : List ℕ) → MayHold before.files file bytes → ((image : Image) → ¬ IsConstantFile image bytes) →
-      IsSilent before after →
-      CauseOfRun file steps before after (ends (BadImage 0 44 0))
+  -- it does not run
+  refused : (bytes : List ℕ) (cause : RunRefusal) → MayHold before.files file bytes → RefusesRun bytes cause → IsSilent before after →
+      CauseOfRun file steps before after (ends (BadImage 0 (run_number cause) (run_place cause)))
   -- it was not read
   unread : {why : Why} → CauseOfNoBytes file before.files after.files why → IsSilent before after →
       CauseOfRun file steps before after (ends why)
@@ -30,17 +41,24 @@ pub data CauseOfRun {S K : Type 0} (file : List ℕ) (steps : ℕ) (before after
 
 -- What `run` of an image answers, and what it leaves.
 pub record RunAnswers {S K : Type 0} (file : List ℕ) (steps : ℕ) (before after : Seen S K) (ended : Ended) : Type 0 where
-  -- Where the file holds an image and no read failed, the image runs, or memory is wanting.
-  pub runs : (bytes : List ℕ) (image : Image) → bytes_of before.files file ≡ Some bytes → IsConstantFile image bytes →
+  -- Where the file holds an image of code alone and no read failed, the image runs, or memory is wanting.
+  pub runs : (bytes : List ℕ) (image : Image) → bytes_of before.files file ≡ Some bytes → IsFileOf image bytes → HoldsCodeAlone image →
       ¬ ReadFailed before.files after.files →
       RunsTo image steps before.streams after.streams ended ⊎ (ended ≡ ends NoMemory)
   -- That of a constant, which `build` writes, exits with the constant modulo 256 where three steps may run.
   pub exits : (bytes : List ℕ) (n : ℕ) → bytes_of before.files file ≡ Some bytes → n ≤ int_max → ImageFile (constant_image n) bytes →
       ¬ ReadFailed before.files after.files → 3 ≤ steps → (ended ≡ ended_so (n % 256) Exited) ⊎ (ended ≡ ends NoMemory)
+  -- Where it holds bytes that do not run and no read failed, they are refused for that, or memory is wanting.
+  pub refuses : (bytes : List ℕ) (cause : RunRefusal) → bytes_of before.files file ≡ Some bytes → RefusesRun bytes cause →
+      ¬ ReadFailed before.files after.files →
+      (ended ≡ ends (BadImage 0 (run_number cause) (run_place cause))) ⊎ (ended ≡ ends NoMemory)
   -- Each answer comes only by its cause.
   pub cause : CauseOfRun file steps before after ended
-  -- The program of a constant takes nothing and puts nothing, and no other answer comes after something was taken or put.
-  pub silent : IsSilent before after
+  -- The program of a constant takes nothing and puts nothing.
+  pub constant_silent : (bytes : List ℕ) (n : ℕ) → bytes_of before.files file ≡ Some bytes → n ≤ int_max →
+      ImageFile (constant_image n) bytes → IsSilent before after
+  -- Nothing was taken or put where no program was run.
+  pub silent : ComesBeforeRun ended.why → IsSilent before after
   -- No file changes.
   pub files : SameFiles before.files after.files
   -- No fault of a file is counted but the one that is answered, and none of a write.

@@ -1,12 +1,19 @@
--- The status of each answer (this project's own; 64, 65, 66, 71, 73 and 74 were chosen after sysexits.h).
+-- The status of each answer, and the numbers and places that are told of refusals (this project's own; 64, 65, 66, 71, 73 and 74
+-- were chosen after sysexits.h).
 use Rattle.std.specs.Prelude.{ℕ}
 use Rattle.a64_code.specs.declared.end.MachineEnd.{MachineEnd}
 use Rattle.a64_code.specs.declared.end.MachineEnd.TheVariants as end
+use Rattle.elf_image.specs.Refusal.{number_of as image_number, place_of as image_place}
+use Rattle.tag_startup.specs.Refusal.{number_of as start_number, place_of as start_place}
 use Rattle.mt_pipeline.specs.declared.ended.Ended.{Ended}
 use Rattle.mt_pipeline.specs.declared.ended.Why.{Why}
 use Rattle.mt_pipeline.specs.declared.ended.Why.TheVariants.{Done, Exited, Usage, Refused, NoFile, Link, BadImage, NoMemory}
 use Rattle.mt_pipeline.specs.declared.ended.Why.TheVariants.{WriteFault, OutputFault, ReadFault, InputFault, OutOfSteps}
 use Rattle.mt_pipeline.specs.declared.ended.Why.TheVariants.{TagFault, MemoryFault, AlignFault, StackFault, BadCode, Divide}
+use Rattle.mt_pipeline.specs.declared.refusal.LinkRefusal.{LinkRefusal}
+use Rattle.mt_pipeline.specs.declared.refusal.LinkRefusal.TheVariants as link
+use Rattle.mt_pipeline.specs.declared.refusal.RunRefusal.{RunRefusal}
+use Rattle.mt_pipeline.specs.declared.refusal.RunRefusal.TheVariants as run
 
 -- `own` is the status of the program that was run
 abbrev pub status_of : ℕ → Why → ℕ
@@ -64,3 +71,32 @@ abbrev pub HasNoLine : Why → Type 0
 HasNoLine Done = Unit {0}
 HasNoLine Exited = Unit {0}
 HasNoLine _ = ⊥
+
+-- no program was run
+abbrev pub ComesBeforeRun : Why → Type 0
+ComesBeforeRun Usage = Unit {0}
+ComesBeforeRun (Refused file number place) = Unit {0}
+ComesBeforeRun (NoFile file) = Unit {0}
+ComesBeforeRun (Link number) = Unit {0}
+ComesBeforeRun (BadImage file number place) = Unit {0}
+ComesBeforeRun NoMemory = Unit {0}
+ComesBeforeRun (ReadFault file) = Unit {0}
+ComesBeforeRun _ = ⊥
+
+-- ---- the refusals of a link and of a run; want of memory, which is no refusal, has the number and the place 0
+
+abbrev pub link_number : LinkRefusal → ℕ
+link_number (link.TooManyObjects count) = 41
+link_number (link.Duplicate name) = 39
+link_number link.NoMain = 40
+link_number link.NoMemory = 0
+
+abbrev pub run_number : RunRefusal → ℕ
+run_number (run.Image refusal) = image_number refusal
+run_number (run.Start refusal) = start_number refusal
+run_number run.NoMemory = 0
+
+abbrev pub run_place : RunRefusal → ℕ
+run_place (run.Image refusal) = image_place refusal
+run_place (run.Start refusal) = start_place refusal
+run_place run.NoMemory = 0

@@ -96,7 +96,7 @@ impl Answer {
             Answer::BadImage { file, refusal } => Why::BadImage {
                 file: *file,
                 number: refusal.number(),
-                place: 0,
+                place: refusal.place(),
             },
             Answer::BadDump { file, refusal } => Why::BadImage {
                 file: *file,

@@ -21,7 +21,8 @@ const MOST_OBJECTS: usize = 16;
 /// The image of these texts. Today it is that of one text, since each that is taken defines `main`.
 pub fn build(alloc: Global, texts: &[SourceText]) -> Result<Vec<u8>, BuildRefusal>
     ensures built { IfOk result (λ file. IsBuilt (texts_of texts.now) file.items) }
-    ensures refused { IfErr result (λ refusal. (refusal ≡ BuildRefusal.NoMemory) ⊎ ((place : ℕ) × RefusesTexts (texts_of texts.now) refusal place)) }
+    ensures refused { IfErr result (λ refusal. (refusal ≡ BuildRefusal.NoMemory)
+        ⊎ ((place : ℕ) × RefusesTexts (texts_of texts.now) refusal place)) }
 
     // Want of memory aside, the text of a constant is taken, and texts that are refused have this refusal.
     ensures takes { (n : ℕ) → Return (texts_of texts.now) n → IfErr result (λ refusal. refusal ≡ BuildRefusal.NoMemory) }
@@ -78,7 +79,8 @@ fn objects_of(alloc: Global, texts: &[SourceText]) -> Result<Vec<Vec<u32>>, Refu
 // The parts of the image of the code of texts, each of which defines `main`.
 fn link(alloc: Global, mut objects: Vec<Vec<u32>>) -> Result<ImageParts, LinkRefusal>
     ensures linked { IfOk result (λ parts. Linked (map (λ words. words.items) objects.items) (image_of parts)) }
-    ensures refused { IfErr result (λ refusal. (refusal ≡ LinkRefusal.NoMemory) ⊎ RefusesLink (map (λ words. words.items) objects.items) refusal) }
+    ensures refused { IfErr result (λ refusal. (refusal ≡ LinkRefusal.NoMemory)
+        ⊎ RefusesLink (map (λ words. words.items) objects.items) refusal) }
 {
     if objects.len() > MOST_OBJECTS {
         return Err(LinkRefusal::TooManyObjects {

@@ -29,10 +29,12 @@ pub fn drive<F: Files, S: Source, K: Sink, E: Sink>(
     err: &mut E,
 ) -> Ended
     ensures answers { (job : Job) → HasJob (map string_bytes words.now) job →
-        Answers job (seen F.Files S.Source K.Sink files.old input.old out.old) (seen F.Files S.Source K.Sink files.new input.new out.new) result }
+        Answers job (seen F.Files S.Source K.Sink files.old input.old out.old)
+        (seen F.Files S.Source K.Sink files.new input.new out.new) result }
     ensures usage { (result.why ≡ Why.Usage) ↔ ((job : Job) → ¬ HasJob (map string_bytes words.now) job) }
     ensures no_job { ((job : Job) → ¬ HasJob (map string_bytes words.now) job) →
-        UsageAnswers (seen F.Files S.Source K.Sink files.old input.old out.old) (seen F.Files S.Source K.Sink files.new input.new out.new) result }
+        UsageAnswers (seen F.Files S.Source K.Sink files.old input.old out.old)
+        (seen F.Files S.Source K.Sink files.new input.new out.new) result }
 
     ensures status { result.status ≡ status_of result.status result.why }
     ensures quiet { HasNoLine result.why → err.new ≡ err.old }

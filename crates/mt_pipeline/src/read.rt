@@ -36,7 +36,8 @@ impl Unread {
 /// The bytes of the first file of a job, or why there are none.
 pub fn read_file<F: Files>(alloc: Global, files: &mut F, file: &str) -> Result<Vec<u8>, Unread>
     ensures bytes { IfOk result (λ bytes. MayHold (files_seen F.Files files.old) file.now bytes.items) }
-    ensures cause { IfErr result (λ unread. CauseOfNoBytes file.now (files_seen F.Files files.old) (files_seen F.Files files.new) (why_unread unread)) }
+    ensures cause { IfErr result (λ unread. CauseOfNoBytes file.now (files_seen F.Files files.old)
+        (files_seen F.Files files.new) (why_unread unread)) }
     ensures uncounted_ok { IfOk result (λ _. F.read_faults files.new ≡ F.read_faults files.old) }
     ensures uncounted_err { IfErr result (λ unread. ¬ IsReadFault (why_unread unread)
         → F.read_faults files.new ≡ F.read_faults files.old) }

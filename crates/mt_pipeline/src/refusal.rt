@@ -29,7 +29,7 @@ pub enum LinkRefusal {
 }
 
 impl LinkRefusal {
-    ghost use Rattle.mt_pipeline.specs.Refusals.{link_number};
+    ghost use Rattle.mt_pipeline.specs.Status.{link_number};
 
     /// The refusal's number, and 0 for want of memory.
     pub fn number(&self) -> u8
@@ -108,7 +108,7 @@ impl From<AllocError> for BuildRefusal {
 /// Why an image does not run. A refusal inside is never the want of memory.
 #[derive(Debug, Drop, Error)]
 pub enum RunRefusal {
-    /// Its bytes are no image that is read today.
+    /// Its bytes are no image.
     #[error("{0}")]
     Image(ImageRefusal),
     /// It does not start.
@@ -120,8 +120,8 @@ pub enum RunRefusal {
 }
 
 impl RunRefusal {
-    ghost use Rattle.mt_pipeline.specs.Refusals.{run_number};
-    ghost use Rattle.mt_pipeline.specs.Unrun.{answer_to_run};
+    ghost use Rattle.mt_pipeline.specs.Status.{run_number, run_place};
+    ghost use Rattle.mt_pipeline.specs.Unrun.{answer_to_run, of_image, of_start};
 
     /// The refusal's number, and 0 for want of memory.
     pub fn number(&self) -> u8
@@ -131,6 +131,37 @@ impl RunRefusal {
             RunRefusal::Image(refusal) => refusal.number(),
             RunRefusal::Start(refusal) => refusal.number(),
             RunRefusal::NoMemory => 0,
+        }
+    }
+
+    /// The place that the refusal names, 0 where it names none.
+    pub fn place(&self) -> u64
+        ensures { result ≡ run_place self.now }
+    {
+        match self {
+            RunRefusal::Image(refusal) => refusal.place(),
+            RunRefusal::Start(refusal) => refusal.place(),
+            RunRefusal::NoMemory => 0,
+        }
+    }
+
+    /// The image was not read.
+    pub(crate) fn of_image(refusal: ImageRefusal) -> RunRefusal
+        ensures { result ≡ of_image refusal }
+    {
+        match refusal {
+            ImageRefusal::NoMemory => RunRefusal::NoMemory,
+            refusal => RunRefusal::Image(refusal),
+        }
+    }
+
+    /// The image was not started.
+    pub(crate) fn of_start(refusal: StartRefusal) -> RunRefusal
+        ensures { result ≡ of_start refusal }
+    {
+        match refusal {
+            StartRefusal::NoMemory => RunRefusal::NoMemory,
+            refusal => RunRefusal::Start(refusal),
         }
     }
 

@@ -5,7 +5,7 @@ ghost use Rattle.mt_pipeline.specs.Status.{HasNoLine, ended_by};
 
 use crate::answer::Answer;
 use crate::ended::Ended;
-use crate::refusal::LinkRefusal;
+use crate::refusal::{LinkRefusal, RunRefusal};
 use c_lex::LexRefusal;
 use elf_image::ImageRefusal;
 use memtag_dump::DumpRefusal;
@@ -105,6 +105,18 @@ fn report_dump<E: Sink>(line: &mut Line<'_, E>, file: &str, refusal: &DumpRefusa
     }
 }
 
+// Puts the line of an image that does not run, which leaves out the place where the refusal names none.
+fn report_run<E: Sink>(line: &mut Line<'_, E>, file: &str, refusal: &RunRefusal) -> fmt::Result {
+    match refusal {
+        RunRefusal::Image(ImageRefusal::NotElf | ImageRefusal::NotThisMachine)
+        | RunRefusal::Start(_) => write!(line, "mtcc: {file}: {refusal}\n"),
+        _ => {
+            let place = refusal.place();
+            write!(line, "mtcc: {file}: {refusal} {place}\n")
+        }
+    }
+}
+
 /// Puts the line of an answer about this file, and ends with the answer's status. A fault of the sink changes nothing.
 pub fn finish<E: Sink>(err: &mut E, file: &str, answer: Answer) -> Ended
     ensures ended { result ≡ ended_of answer }
@@ -126,7 +138,7 @@ fn report<E: Sink>(err: &mut E, file: &str, answer: &Answer)
         Answer::Refused { place, refusal, .. } => report_refusal(&mut line, file, *place, refusal),
         Answer::NoFile { .. } => write!(line, "mtcc: {file}: no such file\n"),
         Answer::Link(refusal) => report_link(&mut line, refusal),
-        Answer::BadImage { refusal, .. } => write!(line, "mtcc: {file}: {refusal}\n"),
+        Answer::BadImage { refusal, .. } => report_run(&mut line, file, refusal),
         Answer::BadDump { refusal, .. } => report_dump(&mut line, file, refusal),
         Answer::NoMemory => write!(line, "mtcc: out of memory\n"),
         Answer::WriteFault { .. } => write!(line, "mtcc: {file}: write fault\n"),

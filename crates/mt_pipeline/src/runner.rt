@@ -1,14 +1,15 @@
 // The run of an image.
-ghost use Rattle.std.specs.Prelude.{◌≡◌, ◌≢◌, ◌⊎◌, [], IfErr, IfOk, IsErrOf};
-ghost use Rattle.elf_image.specs.Constant.{IsConstantFile};
+ghost use Rattle.std.specs.Prelude.{◌≡◌, ◌≢◌, ◌⊎◌, [], IfErr, IfOk, IsErrOf, MatchResult};
 ghost use Rattle.elf_image.specs.Image.{Image, image_of};
 ghost use Rattle.elf_image.specs.Places.{IsValid};
+ghost use Rattle.elf_image.specs.Ranges.{IsFileOf};
+ghost use Rattle.mt_pipeline.specs.RunFile.{RefusesRun};
 ghost use Rattle.mte_machine.specs.Objects.{objects};
 ghost use Rattle.tag_startup.specs.Loaded.{HoldsCodeAlone, IsStack};
 ghost use Rattle.tag_startup.specs.Machine.{RunsImage};
 
 use crate::refusal::RunRefusal;
-use elf_image::{ImageParts, ImageRefusal, read_constant};
+use elf_image::{ImageParts, read_image};
 use mt_base::Tag;
 use mt_outside::{Sink, Source};
 use mte_machine::MachineEnd;
@@ -28,23 +29,27 @@ pub fn run_image<S: Source, K: Sink>(
 ) -> Result<MachineEnd, RunRefusal>
     requires choices { choices.now ≢ [] }
     requires stack { IsStack stack }
-    ensures image { IfOk result (λ _. (image : Image) × IsConstantFile image bytes.now) }
-    ensures runs { IfOk result (λ end. (image : Image) → IsConstantFile image bytes.now →
-        RunsImage image choices.now stack n (objects S.Source K.Sink source.old sink.old) (objects S.Source K.Sink source.new sink.new) end) }
-    ensures refused { IfErr result (λ refusal. (refusal ≡ RunRefusal.NoMemory)
-        ⊎ ((refusal ≡ RunRefusal.Image ImageRefusal.NotYet) × ((image : Image) → ¬ IsConstantFile image bytes.now))) }
-    ensures input { source.new ≡ source.old }
-    ensures output { sink.new ≡ sink.old }
+    // The bytes are the file of an image, and its run ends so.
+    ensures image { IfOk result (λ _. (image : Image) × IsFileOf image bytes.now) }
+    ensures runs { IfOk result (λ end. (image : Image) → IsFileOf image bytes.now →
+        RunsImage image choices.now stack n (objects S.Source K.Sink source.old sink.old)
+        (objects S.Source K.Sink source.new sink.new) end) }
+
+    // What is refused is refused for its cause, unless memory ran out, and bytes with a cause are refused for it.
+    ensures refused { IfErr result (λ refusal. (refusal ≡ RunRefusal.NoMemory) ⊎ RefusesRun bytes.now refusal) }
+    ensures refuses { (cause : RunRefusal) → RefusesRun bytes.now cause →
+        MatchResult result (λ _. ⊥) (λ refusal. (refusal ≡ cause) ⊎ (refusal ≡ RunRefusal.NoMemory)) }
+
+    // After a refusal nothing was taken or put.
+    ensures silent { IfErr result (λ _. (source.new ≡ source.old) × (sink.new ≡ sink.old)) }
 {
-    let parts = match read_constant(alloc, bytes) {
+    let parts = match read_image(alloc, bytes) {
         Ok(parts) => parts,
-        Err(ImageRefusal::NoMemory) => return Err(RunRefusal::NoMemory),
-        Err(_) => return Err(RunRefusal::Image(ImageRefusal::NotYet)),
+        Err(refusal) => return Err(RunRefusal::of_image(refusal)),
     };
     match run_parts(alloc, &parts, choices, stack, n, source, sink) {
         Ok(end) => Ok(end),
-        Err(StartRefusal::NoMemory) => Err(RunRefusal::NoMemory),
-        Err(refusal) => Err(RunRefusal::Start(refusal)),
+        Err(refusal) => Err(RunRefusal::of_start(refusal)),
     }
 }
 

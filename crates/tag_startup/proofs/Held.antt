@@ -1,5 +1,6 @@
 -- The bytes that regions hold, from those that each part of an image has.
-use Rattle.std.proofs.Common.{◌≡◌, ◌<◌, ◌≤◌, ℕ, ◌+◌, ◌-◌, ◌%◌, List, [], ◌∷◌, length, get_or, replicate, Bool, true, false, if◌then◌else◌, refl, sym, ap, ap₂, subst, ◌∙◌, inl, inr, arith}
+use Rattle.std.proofs.Common.{◌≡◌, ◌<◌, ◌≤◌, ℕ, ◌+◌, ◌-◌, ◌%◌, List, [], ◌∷◌, length, get_or, replicate, Bool, true, false}
+use Rattle.std.proofs.Common.{if◌then◌else◌, refl, sym, ap, ap₂, subst, ◌∙◌, inl, inr, arith}
 use mathlib.Core.Path.{fun_ext}
 use Rattle.std.proofs.lemmas.Bool.{cases_Bool, cases_lt}
 use Rattle.std.proofs.lemmas.Bool.Decides.{nat_tests}
@@ -31,7 +32,8 @@ zero_at : (n i : ℕ) → get_or (replicate n 0) i 0 < 256
 zero_at n i = elim (cases_lt i n) [
   | inl inside ↦ let is : ◌≡◌ {A = ℕ} (get_or (replicate n 0) i 0) 0 = get_or-replicate n i 0 0 inside in omega (arith, is)
   | inr after ↦
-      let is : ◌≡◌ {A = ℕ} (get_or (replicate n 0) i 0) 0 = get_or_past (replicate n 0) i 0 (omega (arith, after, length-replicate {A = ℕ} n 0)) in
+      let is : ◌≡◌ {A = ℕ} (get_or (replicate n 0) i 0) 0 = get_or_past (replicate n 0) i 0
+      (omega (arith, after, length-replicate {A = ℕ} n 0)) in
       omega (arith, is)
 ]
 
@@ -39,11 +41,13 @@ small_padded : (n : ℕ) (bytes : List ℕ) (i : ℕ) → ((k : ℕ) → get_or 
 unfolding pad
 small_padded n bytes i small = elim (cases_lt i (length bytes)) [
   | inl inside ↦ rw (get_or_append_left bytes (replicate (n - length bytes) 0) 0 i inside) (small i)
-  | inr after ↦ rw (get_or-append_right bytes (replicate (n - length bytes) 0) (length bytes) i 0 refl after) (zero_at (n - length bytes) (i - length bytes))
+  | inr after ↦ rw (get_or-append_right bytes (replicate (n - length bytes) 0) (length bytes) i 0 refl after)
+      (zero_at (n - length bytes) (i - length bytes))
 ]
 
 -- a part of the image, whose bytes are those of its file from the part's place on
-part_holds : (file : List ℕ) (start end : ℕ) (writable executable : Bool) (bytes : List ℕ) (r : Region) → extent_of r ≡ part start end writable executable →
+part_holds : (file : List ℕ) (start end : ℕ) (writable executable : Bool) (bytes : List ℕ) (r : Region) →
+    extent_of r ≡ part start end writable executable →
     r.bytes.items ≡ pad (round16 (end - start)) bytes → ((i : ℕ) → get_or bytes i 0 < 256) →
     ((k : ℕ) → k < round16 (end - start) → get_or (pad (round16 (end - start)) bytes) k 0 ≡ get_or file (start + k) 0) → HoldsFile file r
 part_holds file start end writable executable bytes r place is small held = record {
@@ -56,17 +60,21 @@ part_holds file start end writable executable bytes r place is small held = reco
 
 -- an extent behind the load address
 abbrev pub extent : ℕ → Bool → Bool → ℕ → Extent
-extent start writable executable bytes = record { start = load_address + start; bytes = bytes; writable = writable; executable = executable }
+extent start writable executable bytes =
+    record { start = load_address + start; bytes = bytes; writable = writable; executable = executable }
 
 -- bytes with zeros up to the part's end make the part
-pub extent_is : (start end : ℕ) (writable executable : Bool) (bytes items : List ℕ) → start + length bytes ≤ end → items ≡ pad (round16 (end - start)) bytes →
+pub extent_is : (start end : ℕ) (writable executable : Bool) (bytes items : List ℕ) → start + length bytes ≤ end →
+    items ≡ pad (round16 (end - start)) bytes →
     extent start writable executable (length items) ≡ part start end writable executable
 extent_is start end writable executable bytes items fits is =
-    ap (extent start writable executable) (ap length is ∙ length-padded (round16 (end - start)) bytes (omega (arith, fits, round16-covers (end - start))))
+    ap (extent start writable executable) (ap length is ∙ length-padded (round16 (end - start)) bytes
+    (omega (arith, fits, round16-covers (end - start))))
 
 -- the three parts of an image
 pub read_only_holds : (image : Image) (r : Region) → IsValid image → extent_of r ≡ part 0 (rodata_end image) false false →
-    r.bytes.items ≡ pad (round16 (rodata_end image - 0)) (read_only_bytes image) → ((i : ℕ) → get_or (read_only_bytes image) i 0 < 256) → HoldsFile (file_of image) r
+    r.bytes.items ≡ pad (round16 (rodata_end image - 0)) (read_only_bytes image) →
+    ((i : ℕ) → get_or (read_only_bytes image) i 0 < 256) → HoldsFile (file_of image) r
 read_only_holds image r valid place is small =
     part_holds (file_of image) 0 (rodata_end image) false false (read_only_bytes image) r place is small
     (λ k below.
@@ -74,20 +82,23 @@ read_only_holds image r valid place is small =
     ∙ ap (λ i. get_or (file_of image) i 0) (let e : k ≡ 0 + k = omega arith in e))
 
 pub code_holds : (image : Image) (r : Region) → IsValid image → extent_of r ≡ part (code_place image) (code_end image) false true →
-    r.bytes.items ≡ pad (round16 (code_end image - code_place image)) (code_bytes image) → ((i : ℕ) → get_or (code_bytes image) i 0 < 256) → HoldsFile (file_of image) r
+    r.bytes.items ≡ pad (round16 (code_end image - code_place image)) (code_bytes image) →
+    ((i : ℕ) → get_or (code_bytes image) i 0 < 256) → HoldsFile (file_of image) r
 code_holds image r valid place is small =
     part_holds (file_of image) (code_place image) (code_end image) false true (code_bytes image) r place is small
     (λ k below. code_held image (round16 (code_end image - code_place image)) k (in_order image valid).dynamic_from below)
 
 pub writable_holds : (image : Image) (r : Region) → extent_of r ≡ part (dynamic_place image) (memory_end image) true false →
-    r.bytes.items ≡ pad (round16 (memory_end image - dynamic_place image)) (writable_bytes image) → ((i : ℕ) → get_or (writable_bytes image) i 0 < 256) →
+    r.bytes.items ≡ pad (round16 (memory_end image - dynamic_place image)) (writable_bytes image) →
+    ((i : ℕ) → get_or (writable_bytes image) i 0 < 256) →
     HoldsFile (file_of image) r
 writable_holds image r place is small =
     part_holds (file_of image) (dynamic_place image) (memory_end image) true false (writable_bytes image) r place is small
     (λ k below. writable_held image (round16 (memory_end image - dynamic_place image)) k below)
 
 -- a stack lies behind the file's end
-pub stack_holds : (file : List ℕ) (stack : ℕ) (r : Region) → IsStack stack → length file ≤ 268435456 → extent_of r ≡ stack_region stack → r.bytes.items ≡ replicate stack 0 → HoldsFile file r
+pub stack_holds : (file : List ℕ) (stack : ℕ) (r : Region) → IsStack stack → length file ≤ 268435456 →
+    extent_of r ≡ stack_region stack → r.bytes.items ≡ replicate stack 0 → HoldsFile file r
 stack_holds file stack r is short place zeros = record {
   same = λ k below.
       ap (λ xs. get_or xs k 0) zeros
@@ -125,9 +136,11 @@ unfolding loaded_byte
 loaded_bytes image stack regions valid places all = fun_ext (λ at.
     held_byte (file_of image) regions at all
     ∙ ap (λ extents. if is_mapped extents at then get_or (file_of image) (at - load_address) 0 else 0) places
-    ∙ ap (λ byte. if is_mapped (loaded_regions image stack) at then byte else 0) (file_bytes image (file_of image) (at - load_address) (file_of-is image valid)))
+    ∙ ap (λ byte. if is_mapped (loaded_regions image stack) at then byte else 0)
+    (file_bytes image (file_of image) (at - load_address) (file_of-is image valid)))
 
-pub four_hold : (file : List ℕ) (a b c d : Region) → HoldsFile file a → HoldsFile file b → HoldsFile file c → HoldsFile file d → All (HoldsFile file) (a ∷ b ∷ c ∷ d ∷ [])
+pub four_hold : (file : List ℕ) (a b c d : Region) → HoldsFile file a → HoldsFile file b → HoldsFile file c → HoldsFile file d →
+    All (HoldsFile file) (a ∷ b ∷ c ∷ d ∷ [])
 four_hold file a b c d first second third fourth =
     All-cons (HoldsFile file) a (b ∷ c ∷ d ∷ []) first
     (All-cons (HoldsFile file) b (c ∷ d ∷ []) second
@@ -138,7 +151,8 @@ first : {A : Type 0} {x y : A} {xs ys : List A} → x ≡ y → xs ≡ ys → x 
 first same rest = ap₂ (λ z zs. z ∷ zs) same rest
 
 pub four_places : (image : Image) (stack : ℕ) (a b c d : Region) → extent_of a ≡ part 0 (rodata_end image) false false →
-    extent_of b ≡ part (code_place image) (code_end image) false true → extent_of c ≡ part (dynamic_place image) (memory_end image) true false →
+    extent_of b ≡ part (code_place image) (code_end image) false true →
+    extent_of c ≡ part (dynamic_place image) (memory_end image) true false →
     extent_of d ≡ stack_region stack → extents_of (a ∷ b ∷ c ∷ d ∷ []) ≡ loaded_regions image stack
 unfolding loaded_regions
 four_places image stack a b c d read_only code writable last = first read_only (first code (first writable (first last refl)))

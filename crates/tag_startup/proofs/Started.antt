@@ -10,8 +10,10 @@ use Rattle.mte_machine.specs.Machine.{clear_flags, initial_state}
 use Rattle.tag_startup.specs.Loaded.{load_address, stack_end, loaded, loaded_byte, loaded_guard, loaded_regions}
 use Rattle.tag_startup.specs.Memory.{IsLoaded}
 
-pub started : {M : Type 0} (shown : Ghosts M) (memory : M) (image : Image) (choices : List ℕ) (stack pc : ℕ) (w : Outside) → IsLoaded shown memory image stack →
-    pc ≡ (load_address + image.entry) % 2 ^ 64 → 0 % length choices ≡ 0 → initial_state shown memory pc stack_end choices 0 w ≡ loaded image choices stack w
+pub started : {M : Type 0} (shown : Ghosts M) (memory : M) (image : Image) (choices : List ℕ) (stack pc : ℕ) (w : Outside) →
+    IsLoaded shown memory image stack →
+    pc ≡ (load_address + image.entry) % 2 ^ 64 → 0 % length choices ≡ 0 →
+    initial_state shown memory pc stack_end choices 0 w ≡ loaded image choices stack w
 started shown memory image choices stack pc w is at_entry none =
     ap₂ (λ byte tag. of byte tag (shown.regions memory) (shown.guard memory) pc (0 % length choices)) is.byte (fun_ext is.tags)
     ∙ ap₂ (λ regions guard. of (loaded_byte image stack) (λ _. 0) regions guard pc (0 % length choices)) is.regions is.guard

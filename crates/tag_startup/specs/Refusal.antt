@@ -7,3 +7,8 @@ use Rattle.tag_startup.specs.declared.refusal.StartRefusal.TheVariants.{NotYet, 
 abbrev pub number_of : StartRefusal → ℕ
 number_of NotYet = 44
 number_of NoMemory = 0
+
+-- the place of each: none names one
+abbrev pub place_of : StartRefusal → ℕ
+place_of NotYet = 0
+place_of NoMemory = 0

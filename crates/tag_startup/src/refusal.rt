@@ -17,7 +17,7 @@ pub enum StartRefusal {
 }
 
 impl StartRefusal {
-    ghost use Rattle.tag_startup.specs.Refusal.{number_of};
+    ghost use Rattle.tag_startup.specs.Refusal.{number_of, place_of};
 
     /// The refusal's number, and 0 for want of memory.
     pub fn number(&self) -> u8
@@ -26,6 +26,15 @@ impl StartRefusal {
         match self {
             StartRefusal::NotYet => 44,
             StartRefusal::NoMemory => 0,
+        }
+    }
+
+    /// The place that the refusal names: 0, since none names one.
+    pub fn place(&self) -> u64
+        ensures { result ≡ place_of self.now }
+    {
+        match self {
+            StartRefusal::NotYet | StartRefusal::NoMemory => 0,
         }
     }
 }

@@ -54,12 +54,14 @@ pub constant_in_range : {text : List ℕ} {n : ℕ} → ReturnsConstant text n �
 constant_in_range {text} {n} returns = (of_main returns.program.items n n returns.constant returns.constant).in_range
 
 -- a text whose tokens spell this program alone returns its constant alone
-pub returns_only : {text : List ℕ} {tokens : List Token} {program : Program} {n : ℕ} → HasTokens text tokens → SpellsWithin limit tokens program → IsConstantProgram program n →
+pub returns_only : {text : List ℕ} {tokens : List Token} {program : Program} {n : ℕ} → HasTokens text tokens →
+    SpellsWithin limit tokens program → IsConstantProgram program n →
     ((other : Program) (depth : ℕ) → Spells tokens other depth → depth ≤ limit → program ≡ other) → ReturnsOnly text n
 returns_only {text} {tokens} {program} {n} held spells constant alone = record {
   returns = record { tokens = tokens; program = program; held = held; spells = spells; constant = constant };
   only = λ m other.
-      let words : Spells tokens other.program other.spells.depth = respelled other.held held other.program other.spells.depth other.spells.spells in
+      let words : Spells tokens other.program other.spells.depth =
+      respelled other.held held other.program other.spells.depth other.spells.spells in
       let same : program ≡ other.program = alone other.program other.spells.depth words other.spells.within in
       (of_main program.items m n (subst (λ p. IsConstantProgram p m) (sym same) other.constant) constant).same;
 }

@@ -27,7 +27,8 @@ use Rattle.mt_compile.specs.Laws.ConstantTrees.{one_constant}
 use Rattle.mt_compile.specs.Laws.OneWay.{OneWay, GoesOn, Stops, at_first, behind, in_turn}
 
 -- tokens of which one is too deep spell none within the limit
-not_too_deep : {levels place : ℕ} {tokens : List Token} → FirstTooDeep levels tokens place → (program : Program) (depth : ℕ) → Spells tokens program depth → depth ≤ levels → ⊥
+not_too_deep : {levels place : ℕ} {tokens : List Token} → FirstTooDeep levels tokens place → (program : Program) (depth : ℕ) →
+    Spells tokens program depth → depth ≤ levels → ⊥
 not_too_deep {levels} first program depth spells within =
     let deep : levels < depth = too_deep_is_deep first program depth spells in
     omega (arith, deep, within)
@@ -41,7 +42,8 @@ two_too_deep : {text : List ℕ} {us ts : List Token} {place later : ℕ} → Ha
     FirstTooDeep limit us place → FirstTooDeep limit ts later → place ≡ later
 two_too_deep {us = us} {ts = ts} held other f g = one_too_deep (too_deep_seen us ts (same_seen held other) f) g
 
-not_both : {text : List ℕ} {us ts : List Token} {place later : ℕ} → HasTokens text us → HasTokens text ts → FirstUnexpected limit us place → FirstTooDeep limit ts later → ⊥
+not_both : {text : List ℕ} {us ts : List Token} {place later : ℕ} → HasTokens text us → HasTokens text ts →
+    FirstUnexpected limit us place → FirstTooDeep limit ts later → ⊥
 not_both {us = us} {ts = ts} held other f g = never_both (unexpected_seen us ts (same_seen held other) f) g
 
 -- ---- the stages: tokens, a program, its constant
@@ -76,11 +78,14 @@ record Spelled (text : List ℕ) (program : Program) : Type 0 where
   spells : SpellsWithin limit tokens program
 
 data ParseRefuses (text : List ℕ) : CompileRefusal → ℕ → Type 0 where
-  wrong : {tokens : List Token} {place : ℕ} → HasTokens text tokens → FirstUnexpected limit tokens place → ParseRefuses text (Parse (Unexpected place)) (byte_at text tokens place)
-  deep : {tokens : List Token} {place : ℕ} → HasTokens text tokens → FirstTooDeep limit tokens place → ParseRefuses text (Parse (TooDeep place)) (byte_at text tokens place)
+  wrong : {tokens : List Token} {place : ℕ} → HasTokens text tokens → FirstUnexpected limit tokens place →
+      ParseRefuses text (Parse (Unexpected place)) (byte_at text tokens place)
+  deep : {tokens : List Token} {place : ℕ} → HasTokens text tokens → FirstTooDeep limit tokens place →
+      ParseRefuses text (Parse (TooDeep place)) (byte_at text tokens place)
 
 -- the program of other tokens of the text
-again : {text : List ℕ} {program : Program} {tokens : List Token} (s : Spelled text program) → HasTokens text tokens → Spells tokens program s.spells.depth
+again : {text : List ℕ} {program : Program} {tokens : List Token} (s : Spelled text program) → HasTokens text tokens →
+    Spells tokens program s.spells.depth
 again {program = program} s held = respelled s.held held program s.spells.depth s.spells.spells
 
 one_program : (text : List ℕ) (program other : Program) → Spelled text program → Spelled text other → program ≡ other
@@ -119,18 +124,21 @@ forming program = record { gives_one = one_constant program; refuses_one = form_
 
 -- ---- all three in turn
 
-parsed : (text : List ℕ) → OneWay (GoesOn (HasSome text) (λ _. Spelled text)) (Stops (HasSome text) (LexRefuses text) (λ _. ParseRefuses text))
+parsed : (text : List ℕ) → OneWay (GoesOn (HasSome text) (λ _. Spelled text))
+    (Stops (HasSome text) (LexRefuses text) (λ _. ParseRefuses text))
 parsed text = in_turn (HasSome text) (LexRefuses text) (λ _. Spelled text) (λ _. ParseRefuses text) (lexing text) (λ _. parsing text)
 
 abbrev Returns : List ℕ → ℕ → Type 0
 Returns text = GoesOn (GoesOn (HasSome text) (λ _. Spelled text)) IsConstantProgram
 
 abbrev Refused : List ℕ → CompileRefusal → ℕ → Type 0
-Refused text = Stops (GoesOn (HasSome text) (λ _. Spelled text)) (Stops (HasSome text) (LexRefuses text) (λ _. ParseRefuses text)) FormRefuses
+Refused text =
+    Stops (GoesOn (HasSome text) (λ _. Spelled text)) (Stops (HasSome text) (LexRefuses text) (λ _. ParseRefuses text)) FormRefuses
 
 compiling : (text : List ℕ) → OneWay (Returns text) (Refused text)
 compiling text =
-    in_turn (GoesOn (HasSome text) (λ _. Spelled text)) (Stops (HasSome text) (LexRefuses text) (λ _. ParseRefuses text)) IsConstantProgram FormRefuses (parsed text) forming
+    in_turn (GoesOn (HasSome text) (λ _. Spelled text)) (Stops (HasSome text) (LexRefuses text)
+    (λ _. ParseRefuses text)) IsConstantProgram FormRefuses (parsed text) forming
 
 -- the refusal of a text is one of a stage
 staged : {text : List ℕ} {refusal : CompileRefusal} {byte : ℕ} → Refuses text refusal byte → Refused text refusal byte
@@ -139,7 +147,8 @@ staged (too_long more) = at_first (at_first (long more))
 staged (unexpected {tokens} held f) = at_first (behind tt (tokens, held) (wrong held f))
 staged (too_deep {tokens} held f) = at_first (behind tt (tokens, held) (deep held f))
 staged (not_yet {tokens} {program} held spells none) =
-    behind program (record { between = tt; first = (tokens, held); second = record { tokens = tokens; held = held; spells = spells } }) (other_form none)
+    behind program (record { between = tt; first = (tokens, held); second = record { tokens = tokens; held = held; spells = spells } })
+    (other_form none)
 
 -- and so is the constant that it returns
 returned : {text : List ℕ} {n : ℕ} → ReturnsConstant text n → Returns text n
@@ -161,7 +170,8 @@ pub record AreOne (refusal other : CompileRefusal) (byte place : ℕ) : Type 0 w
   pub there : byte ≡ place
 
 -- Two refusals of one text are the same, at the same byte.
-pub one_refusal : {text : List ℕ} {refusal other : CompileRefusal} {byte place : ℕ} → Refuses text refusal byte → Refuses text other place → AreOne refusal other byte place
+pub one_refusal : {text : List ℕ} {refusal other : CompileRefusal} {byte place : ℕ} → Refuses text refusal byte →
+    Refuses text other place → AreOne refusal other byte place
 one_refusal {text} {refusal} {other} {byte} {place} first second =
     let one = (compiling text).refuses_one refusal other byte place (staged first) (staged second) in
     record { same = one.0; there = one.1 }

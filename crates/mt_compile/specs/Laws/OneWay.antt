@@ -13,7 +13,8 @@ pub record GoesOn {B C : Type 0} (Gives : B → Type 0) (Next : B → C → Type
   pub second : Next between c
 
 -- one of the two refuses, the second from what the first one gives
-pub data Stops {B R : Type 0} (Gives : B → Type 0) (Refuses : R → ℕ → Type 0) (NextRefuses : B → R → ℕ → Type 0) (r : R) (p : ℕ) : Type 0 where
+pub data Stops {B R : Type 0} (Gives : B → Type 0) (Refuses : R → ℕ → Type 0) (NextRefuses : B → R → ℕ → Type 0) (r : R)
+    (p : ℕ) : Type 0 where
   at_first : Refuses r p → Stops Gives Refuses NextRefuses r p
   behind : (between : B) → Gives between → NextRefuses between r p → Stops Gives Refuses NextRefuses r p
 

@@ -17,6 +17,8 @@ front_same text (u ∷ us) [] same = absurd (cc)
 front_same text (u ∷ us) (t ∷ ts) same = ap (λ s. s.start) (first_same same)
 
 -- the byte of a place is that of the text
-pub byte_same : {text : List ℕ} {us ts : List Token} (place : ℕ) → HasTokens text us → HasTokens text ts → byte_at text us place ≡ byte_at text ts place
+pub byte_same : {text : List ℕ} {us ts : List Token} (place : ℕ) → HasTokens text us → HasTokens text ts →
+    byte_at text us place ≡ byte_at text ts place
 byte_same {text} {us} {ts} place held other =
-    front_same text (drop place us) (drop place ts) (sym (drop-map seen place us) ∙ ap (drop place) (same_seen held other) ∙ drop-map seen place ts)
+    front_same text (drop place us) (drop place ts) (sym (drop-map seen place us) ∙ ap (drop place) (same_seen held other)
+    ∙ drop-map seen place ts)

@@ -12,5 +12,6 @@ use Rattle.mt_compile.specs.Source.{HasTokens}
 pub same_seen : {text : List ℕ} {us ts : List Token} → HasTokens text us → HasTokens text ts → all_seen us ≡ all_seen ts
 same_seen {text} {us} {ts} held other = (read_one_way text).one_list (all_seen us) (all_seen ts) held.are other.are
 
-pub respelled : {text : List ℕ} {us ts : List Token} → HasTokens text us → HasTokens text ts → (program : Program) (depth : ℕ) → Spells us program depth → Spells ts program depth
+pub respelled : {text : List ℕ} {us ts : List Token} → HasTokens text us → HasTokens text ts → (program : Program) (depth : ℕ) →
+    Spells us program depth → Spells ts program depth
 respelled {text} {us} {ts} held other program depth spells = spells_seen us ts (same_seen held other) program depth spells

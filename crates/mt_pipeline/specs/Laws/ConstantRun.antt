@@ -38,7 +38,8 @@ step-at : (n stack k : ℕ) (s : State) (word : ℕ) (instr : Instr) → IsAt n 
     get_or (constant_code n) k 0 ≡ word → Row word instr → step s ≡ effect instr s
 step-at n stack k s word instr at within is row =
     ap (λ found. carried_out found s)
-    (code_fetched (constant_image n) stack k s (constant_valid n) within (rw is (Row-below word instr row)) at.regions at.byte (omega (arith, at.pc, constant_place n))
+    (code_fetched (constant_image n) stack k s (constant_valid n) within (rw is (Row-below word instr row)) at.regions at.byte
+    (omega (arith, at.pc, constant_place n))
     ∙ ap instruction_of is ∙ Row-instruction word instr row)
 
 -- the state behind each move of a half
@@ -46,7 +47,9 @@ abbrev low_moved : ℕ → State → State
 low_moved n s = advanced (with_general status_register (of_width false (n % 65536 * 2 ^ (16 * 0))) s)
 
 abbrev high_moved : ℕ → State → State
-high_moved n s = advanced (with_general status_register (of_width false (with_halfword (16 * 1) (n / 65536) (of_width false (general s status_register)))) s)
+high_moved n s =
+    advanced (with_general status_register (of_width false (with_halfword (16 * 1) (n / 65536)
+    (of_width false (general s status_register)))) s)
 
 abbrev at_start : ℕ → List ℕ → ℕ → Outside → State
 at_start n choices stack w = loaded (constant_image n) choices stack w
@@ -99,11 +102,13 @@ soon_end status steps start few goes = record {
 first_step : (n : ℕ) (choices : List ℕ) (stack : ℕ) (w : Outside) → 0 < length (constant_code n) →
     get_or (constant_code n) 0 0 ≡ movz_word (n % 65536) → Steps 1 (at_start n choices stack w) (low_moved n (at_start n choices stack w))
 first_step n choices stack w within is =
-    Steps-one _ _ (step-at n stack 0 (at_start n choices stack w) (movz_word (n % 65536)) _ (record { regions = refl; byte = refl; pc = refl }) within is (movz_row (n % 65536) (omega arith)))
+    Steps-one _ _ (step-at n stack 0 (at_start n choices stack w) (movz_word (n % 65536)) _
+    (record { regions = refl; byte = refl; pc = refl }) within is (movz_row (n % 65536) (omega arith)))
 
 -- the lower half alone, where the constant has no other
 short_run : (n : ℕ) (choices : List ℕ) (stack steps : ℕ) → n < 65536 → EndsWith (n % 256) steps (at_start n choices stack)
-short_run n choices stack zero short = soon_end _ zero _ (omega arith) (λ w. record { state = at_start n choices stack w; leads = refl; outside = refl })
+short_run n choices stack zero short =
+    soon_end _ zero _ (omega arith) (λ w. record { state = at_start n choices stack w; leads = refl; outside = refl })
 short_run n choices stack (suc zero) short =
     let code : constant_code n ≡ movz_word (n % 65536) ∷ svc_word ∷ [] = constant_code-short n (omega (arith, short)) in
     soon_end _ 1 _ (omega arith) (λ w. record {
@@ -129,12 +134,14 @@ second_step n choices stack w within code =
     let s : State = low_moved n (at_start n choices stack w) in
     let first : Steps 1 (at_start n choices stack w) s = first_step n choices stack w (rw code (omega arith)) (rw code refl) in
     let second : Steps 1 s (high_moved n s) =
-    Steps-one _ _ (step-at n stack 1 s (movk_word (n / 65536)) _ (record { regions = refl; byte = refl; pc = refl }) (rw code (omega arith)) (rw code refl) (movk_row (n / 65536) (omega (arith, within)))) in
+    Steps-one _ _ (step-at n stack 1 s (movk_word (n / 65536)) _ (record { regions = refl; byte = refl; pc = refl })
+    (rw code (omega arith)) (rw code refl) (movk_row (n / 65536) (omega (arith, within)))) in
     Steps-add first second
 
 -- both halves
 long_run : (n : ℕ) (choices : List ℕ) (stack steps : ℕ) → 65535 < n → n ≤ 2147483647 → EndsWith (n % 256) steps (at_start n choices stack)
-long_run n choices stack zero long within = soon_end _ zero _ (omega arith) (λ w. record { state = at_start n choices stack w; leads = refl; outside = refl })
+long_run n choices stack zero long within =
+    soon_end _ zero _ (omega arith) (λ w. record { state = at_start n choices stack w; leads = refl; outside = refl })
 long_run n choices stack (suc zero) long within =
     let code : constant_code n ≡ movz_word (n % 65536) ∷ movk_word (n / 65536) ∷ svc_word ∷ [] = constant_code-long n long in
     soon_end _ 1 _ (omega arith) (λ w. record {
@@ -156,7 +163,12 @@ long_run n choices stack (suc (suc (suc more))) long within =
     let last : step s ≡ Ends (Exited (with_halfword (16 * 1) (n / 65536) (n % 65536 * 2 ^ (16 * 0) % 2 ^ 32 % 2 ^ 32) % 2 ^ 32 % 2 ^ 8)) =
     step-at n stack 2 s svc_word _ (record { regions = refl; byte = refl; pc = refl }) (rw code (omega arith)) (rw code refl) svc_row in
     let value : with_halfword (16 * 1) (n / 65536) (n % 65536 * 2 ^ (16 * 0) % 2 ^ 32 % 2 ^ 32) % 2 ^ 32 % 2 ^ 8 ≡ n % 256 = omega arith in
-    record { state = s; stops = run-ends (suc (suc (suc more))) both last (omega arith) ∙ ap (λ v. Stopped (Exited v) s) value; outside = refl })
+    record {
+      state = s;
+      stops = run-ends (suc (suc (suc more))) both last (omega arith)
+          ∙ ap (λ v. Stopped (Exited v) s) value;
+      outside = refl;
+    })
 
 -- Its run exits with the constant modulo 256, or is out of steps before, whatever the outside is.
 pub constant_ends : (n steps : ℕ) (choices : List ℕ) (stack : ℕ) → n ≤ 2147483647 →

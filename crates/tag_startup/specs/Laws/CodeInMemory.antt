@@ -1,5 +1,6 @@
 -- The code of an image in memory.
-use Rattle.std.proofs.Common.{◌≡◌, ◌≤◌, ◌<◌, ℕ, ◌+◌, ◌-◌, ◌*◌, ◌%◌, ◌^◌, Bool, true, false, ◌&&◌, ◌||◌, ◌==◌, length, get_or, refl, ap, ◌∙◌, arith}
+use Rattle.std.proofs.Common.{◌≡◌, ◌≤◌, ◌<◌, ℕ, ◌+◌, ◌-◌, ◌*◌, ◌%◌, ◌^◌, Bool, true, false, ◌&&◌, ◌||◌, ◌==◌, length, get_or, refl, ap}
+use Rattle.std.proofs.Common.{◌∙◌, arith}
 use Rattle.std.proofs.lemmas.Bool.{or_right}
 use Rattle.std.proofs.lemmas.Bool.Decides.{nat_tests}
 use Rattle.mt_base.specs.Granules.{round16}
@@ -18,9 +19,11 @@ use Rattle.tag_startup.specs.Loaded.{load_address, part, loaded_regions, loaded_
 use Rattle.tag_startup.specs.Laws.Placed.{in_order}
 
 -- so many bytes behind the load address are the code's
-code_inside : (image : Image) (i : ℕ) → i < 4 * length image.words → is_in_extent (part (code_place image) (code_end image) false true) (load_address + code_place image + i) ≡ true
+code_inside : (image : Image) (i : ℕ) → i < 4 * length image.words →
+    is_in_extent (part (code_place image) (code_end image) false true) (load_address + code_place image + i) ≡ true
 unfolding code_end
-code_inside image i within = inside (load_address + code_place image) (code_place image + 4 * length image.words - code_place image) i (omega (arith, within))
+code_inside image i within =
+    inside (load_address + code_place image) (code_place image + 4 * length image.words - code_place image) i (omega (arith, within))
   where
     inside : (start bytes k : ℕ) → k < bytes → is_between start (round16 bytes) (start + k) ≡ true
     inside start bytes k below = let covers : bytes ≤ round16 bytes = round16-covers bytes in grind (arith, nat_tests)
@@ -33,18 +36,22 @@ second_executable : (a b c : Bool) → b ≡ true → ((a && false) || ((b && tr
 second_executable a b c holds = or_right (a && false) ((b && true) || c) (rw holds refl)
 
 -- their region is executable, and is mapped
-code_executable : (image : Image) (stack i : ℕ) → i < 4 * length image.words → is_executable (loaded_regions image stack) (load_address + code_place image + i) ≡ true
+code_executable : (image : Image) (stack i : ℕ) → i < 4 * length image.words →
+    is_executable (loaded_regions image stack) (load_address + code_place image + i) ≡ true
 unfolding loaded_regions
 code_executable image stack i within = second_executable _ _ _ (code_inside image i within)
 
-code_mapped : (image : Image) (stack i : ℕ) → i < 4 * length image.words → is_mapped (loaded_regions image stack) (load_address + code_place image + i) ≡ true
+code_mapped : (image : Image) (stack i : ℕ) → i < 4 * length image.words →
+    is_mapped (loaded_regions image stack) (load_address + code_place image + i) ≡ true
 unfolding loaded_regions
 code_mapped image stack i within = second _ _ _ (code_inside image i within)
 
-loaded_code : (image : Image) (stack i : ℕ) → i < 4 * length image.words → loaded_byte image stack (load_address + code_place image + i) ≡ byte_among (pieces image) (code_place image + i)
+loaded_code : (image : Image) (stack i : ℕ) → i < 4 * length image.words →
+    loaded_byte image stack (load_address + code_place image + i) ≡ byte_among (pieces image) (code_place image + i)
 unfolding loaded_byte
 loaded_code image stack i within =
-    rw (code_mapped image stack i within) (ap (byte_among (pieces image)) (let e : load_address + code_place image + i - load_address ≡ code_place image + i = omega arith in e))
+    rw (code_mapped image stack i within) (ap (byte_among (pieces image))
+    (let e : load_address + code_place image + i - load_address ≡ code_place image + i = omega arith in e))
 
 -- the word of the code at an address
 pub code_word : (image : Image) (stack k : ℕ) → IsValid image → k < length image.words → get_or image.words k 0 < 2 ^ 32 →
@@ -52,11 +59,13 @@ pub code_word : (image : Image) (stack k : ℕ) → IsValid image → k < length
 code_word image stack k valid within short =
     word_loaded (loaded_byte image stack) (load_address + code_place image + 4 * k) (get_or image.words k 0) short
     (λ j small.
-    ap (loaded_byte image stack) (let e : load_address + code_place image + 4 * k + j ≡ load_address + code_place image + (4 * k + j) = omega arith in e)
+    ap (loaded_byte image stack) (let e : load_address + code_place image + 4 * k + j ≡ load_address + code_place image + (4 * k + j) =
+    omega arith in e)
     ∙ loaded_code image stack (4 * k + j) (omega (arith, within, small))
     ∙ code_byte image k j valid within small)
 
-code_fetchable : (image : Image) (stack k : ℕ) (s : State) → IsValid image → k < length image.words → s.regions ≡ loaded_regions image stack → s.pc ≡ load_address + code_place image + 4 * k → is_fetchable s ≡ true
+code_fetchable : (image : Image) (stack k : ℕ) (s : State) → IsValid image → k < length image.words →
+    s.regions ≡ loaded_regions image stack → s.pc ≡ load_address + code_place image + 4 * k → is_fetchable s ≡ true
 code_fetchable image stack k s valid within regions pc = rw (aligned, each) refl
   where
     aligned : (s.pc % 4 == 0) ≡ true
@@ -65,7 +74,8 @@ code_fetchable image stack k s valid within regions pc = rw (aligned, each) refl
     each : every_byte (is_executable s.regions) s.pc 4 ≡ true
     each = rw (regions, pc) (every_byte_from (is_executable (loaded_regions image stack)) (load_address + code_place image + 4 * k) 4
         (λ j small.
-        ap (is_executable (loaded_regions image stack)) (let e : load_address + code_place image + 4 * k + j ≡ load_address + code_place image + (4 * k + j) = omega arith in e)
+        ap (is_executable (loaded_regions image stack))
+        (let e : load_address + code_place image + 4 * k + j ≡ load_address + code_place image + (4 * k + j) = omega arith in e)
         ∙ code_executable image stack (4 * k + j) (omega (arith, within, small))))
 
 -- A state with the memory of an image, whose PC is at a word of the code, fetches that word's instruction.
@@ -74,4 +84,5 @@ pub code_fetched : (image : Image) (stack k : ℕ) (s : State) → IsValid image
     fetched s ≡ instruction_of (get_or image.words k 0)
 unfolding fetched
 code_fetched image stack k s valid within short regions byte pc =
-    rw (code_fetchable image stack k s valid within regions pc) (rw (byte, pc) (ap instruction_of (code_word image stack k valid within short)))
+    rw (code_fetchable image stack k s valid within regions pc)
+    (rw (byte, pc) (ap instruction_of (code_word image stack k valid within short)))

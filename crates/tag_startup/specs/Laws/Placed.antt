@@ -6,7 +6,8 @@ use Rattle.mt_base.specs.Memory.{Span, Extent}
 use Rattle.tag_mem.specs.Regions.{AreApart, IsWhole, IsWellPlaced}
 use Rattle.tag_mem.specs.Laws.Regions.{apart_below, guard_above, guard_below, no_regions, one_more}
 use Rattle.elf_image.specs.Image.{Image}
-use Rattle.elf_image.specs.Places.{IsValid, rodata_end, code_place, code_end, dynamic_place, dynamic_end, filled_place, file_end, memory_end}
+use Rattle.elf_image.specs.Places.{IsValid, rodata_end, code_place, code_end, dynamic_place, dynamic_end, filled_place, file_end}
+use Rattle.elf_image.specs.Places.{memory_end}
 use Rattle.tag_startup.specs.Loaded.{IsStack, load_address, part, stack_region, loaded_regions, loaded_guard}
 
 -- each part of a valid image begins a granule, and ends before the next one begins
@@ -66,22 +67,34 @@ whole_part : (start bytes : ℕ) (writable executable : Bool) → start % 16 ≡
 whole_part start bytes writable executable multiple within =
     record { start_whole = omega (arith, multiple); bytes_whole = omega arith; within = omega (arith, within) }
 
-pub well_placed : (image : Image) (stack : ℕ) → IsValid image → IsStack stack → IsWellPlaced (loaded_regions image stack) (loaded_guard stack)
+pub well_placed : (image : Image) (stack : ℕ) → IsValid image → IsStack stack →
+    IsWellPlaced (loaded_regions image stack) (loaded_guard stack)
 unfolding loaded_regions
 well_placed image stack valid is =
-    one_more guard first (code ∷ writable ∷ last ∷ []) (whole_part 0 (rodata_end image - 0) false false (omega arith) (omega (arith, order.code_from, order.code_within, order.dynamic_from, order.end)))
+    one_more guard first (code ∷ writable ∷ last ∷ []) (whole_part 0 (rodata_end image - 0) false false (omega arith)
+    (omega (arith, order.code_from, order.code_within, order.dynamic_from, order.end)))
     (guard_above guard first (omega (arith, order.code_from, order.code_within, order.dynamic_from, order.end, is.most)))
     (All-cons (AreApart first) code (writable ∷ last ∷ []) (apart_below first code (omega (arith, order.code_from)))
-    (All-cons (AreApart first) writable (last ∷ []) (apart_below first writable (omega (arith, order.code_from, order.code_within, order.dynamic_from)))
-    (All-cons (AreApart first) last [] (apart_below first last (omega (arith, order.code_from, order.code_within, order.dynamic_from, order.end, is.most))) (All-nil (AreApart first)))))
-    (one_more guard code (writable ∷ last ∷ []) (whole_part (code_place image) (code_end image - code_place image) false true order.code_whole (omega (arith, order.dynamic_from, order.end)))
+    (All-cons (AreApart first) writable (last ∷ []) (apart_below first writable
+    (omega (arith, order.code_from, order.code_within, order.dynamic_from)))
+    (All-cons (AreApart first) last [] (apart_below first last (omega
+    (arith, order.code_from, order.code_within, order.dynamic_from, order.end, is.most))) (All-nil (AreApart first)))))
+    (one_more guard code (writable ∷ last ∷ []) (whole_part (code_place image)
+    (code_end image - code_place image) false true order.code_whole (omega (arith, order.dynamic_from, order.end)))
     (guard_above guard code (omega (arith, order.dynamic_from, order.end, is.most)))
     (All-cons (AreApart code) writable (last ∷ []) (apart_below code writable (omega (arith, order.dynamic_from)))
-    (All-cons (AreApart code) last [] (apart_below code last (omega (arith, order.dynamic_from, order.end, is.most))) (All-nil (AreApart code))))
-    (one_more guard writable (last ∷ []) (whole_part (dynamic_place image) (memory_end image - dynamic_place image) true false order.dynamic_whole order.end)
+    (All-cons (AreApart code) last [] (apart_below code last (omega (arith, order.dynamic_from, order.end, is.most)))
+    (All-nil (AreApart code))))
+    (one_more guard writable (last ∷ []) (whole_part (dynamic_place image)
+    (memory_end image - dynamic_place image) true false order.dynamic_whole order.end)
     (guard_above guard writable (omega (arith, order.end, is.most)))
     (All-cons (AreApart writable) last [] (apart_below writable last (omega (arith, order.end, is.most))) (All-nil (AreApart writable)))
-    (one_more guard last [] (record { start_whole = omega (arith, is.whole, is.most); bytes_whole = omega (arith, is.whole); within = omega (arith, is.most) })
+    (one_more guard last [] (record {
+      start_whole = omega (arith, is.whole, is.most);
+      bytes_whole = omega (arith, is.whole);
+      within =
+          omega (arith, is.most);
+    })
     (guard_below guard last (omega (arith, is.most)))
     (All-nil (AreApart last))
     (no_regions guard (omega (arith, is.whole, is.most)) (omega arith)))))

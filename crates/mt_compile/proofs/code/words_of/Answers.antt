@@ -10,12 +10,15 @@ returns c =
     let first : c.put.new.words.items ≡ movz_word (c.args.n % 65536) ∷ [] =
     c.in_ok-put.ensures.2 ∙ rw (c.new-words.ensures.items, movz_word-is c.in_ok-put.ensures.0 _ c.in_ok-put.ensures.1) refl in
     let last : c.put-2.new.words.items ≡ c.if-n-gt65535.words.items ++ svc_word ∷ [] =
-    c.in_ok-put-3.ensures.2 ∙ ap (λ w. c.if-n-gt65535.words.items ++ w ∷ []) (svc_word-is c.in_ok-put-3.ensures.0 c.in_ok-put-3.ensures.1) in
+    c.in_ok-put-3.ensures.2 ∙ ap (λ w. c.if-n-gt65535.words.items ++ w ∷ [])
+    (svc_word-is c.in_ok-put-3.ensures.0 c.in_ok-put-3.ensures.1) in
     elim c.if-n-gt65535.branch [
       | then-n-gt65535+in_ok-put-2 w ↦
           let second : w.put-then-n-gt65535.new.words.items ≡ movz_word (c.args.n % 65536) ∷ movk_word (c.args.n / 65536) ∷ [] =
           w.in_ok-put-2.ensures.2 ∙ rw (first, movk_word-is w.in_ok-put-2.ensures.0 _ w.in_ok-put-2.ensures.1) refl in
-          last ∙ ap (λ v. v.items ++ svc_word ∷ []) w.words-is ∙ ap (λ items. items ++ svc_word ∷ []) second ∙ sym (constant_code-long c.args.n w.if-n-gt65535.true)
+          last ∙ ap (λ v. v.items ++ svc_word ∷ []) w.words-is ∙ ap (λ items. items ++ svc_word ∷ []) second
+          ∙ sym (constant_code-long c.args.n w.if-n-gt65535.true)
       | else-n-gt65535 w ↦
-          last ∙ ap (λ v. v.items ++ svc_word ∷ []) w.words-is ∙ ap (λ items. items ++ svc_word ∷ []) first ∙ sym (constant_code-short c.args.n w.if-n-gt65535.false)
+          last ∙ ap (λ v. v.items ++ svc_word ∷ []) w.words-is ∙ ap (λ items. items ++ svc_word ∷ []) first
+          ∙ sym (constant_code-short c.args.n w.if-n-gt65535.false)
     ]

@@ -16,17 +16,20 @@ returns-in-Err-clause-refused c =
 -- they are at most as many as its bytes
 pub parse-requires : goal.parse-requires
 parse-requires c =
-    let held = held_tokens c.args.text.now c.in-Ok.tokens c.in-Ok.tokens.items c.deref.result.now c.deref.ensures.value c.in-Ok.ensures.tokens c.in-Ok.ensures.too_long.1 in
+    let held = held_tokens c.args.text.now c.in-Ok.tokens c.in-Ok.tokens.items c.deref.result.now c.deref.ensures.value
+    c.in-Ok.ensures.tokens c.in-Ok.ensures.too_long.1 in
     omega (arith, tokens_are_few c.args.text.now (all_seen c.deref.result.now) held.are, held.within, length-map c.deref.result.now seen)
 
 -- the program returns a constant
 pub returns-in-Some-clause-constant : goal.returns-in-Some-clause-constant
 returns-in-Some-clause-constant c =
-    let held = held_tokens c.args.text.now c.in-Ok.tokens c.in-Ok.tokens.items c.deref.result.now c.deref.ensures.value c.in-Ok.ensures.tokens c.in-Ok.ensures.too_long.1 in
+    let held = held_tokens c.args.text.now c.in-Ok.tokens c.in-Ok.tokens.items c.deref.result.now c.deref.ensures.value
+    c.in-Ok.ensures.tokens c.in-Ok.ensures.too_long.1 in
     returns_only held c.in-Ok-parse.ensures.parsed c.in-Some.ensures.some c.in-Ok-parse.ensures.all
 
 -- or none
 pub returns-clause-refused : goal.returns-clause-refused
 returns-clause-refused c =
-    let held = held_tokens c.args.text.now c.in-Ok.tokens c.in-Ok.tokens.items c.deref.result.now c.deref.ensures.value c.in-Ok.ensures.tokens c.in-Ok.ensures.too_long.1 in
+    let held = held_tokens c.args.text.now c.in-Ok.tokens c.in-Ok.tokens.items c.deref.result.now c.deref.ensures.value
+    c.in-Ok.ensures.tokens c.in-Ok.ensures.too_long.1 in
     inr (not_yet held c.in-Ok-parse.ensures.parsed c.in-None.ensures.none)

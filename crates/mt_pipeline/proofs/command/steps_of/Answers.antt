@@ -9,7 +9,8 @@ loop-byte-preserved c = record { all = grind (arith, digits_more); value = grind
 
 pub returns-clause-some : goal.returns-clause-some
 returns-clause-some c =
-    let whole : take c.loop-byte.byte-index c.args.digits.now ≡ c.args.digits.now = take_all c.loop-byte.byte-index c.args.digits.now c.loop-byte-test.false in
+    let whole : take c.loop-byte.byte-index c.args.digits.now ≡ c.args.digits.now =
+    take_all c.loop-byte.byte-index c.args.digits.now c.loop-byte-test.false in
     record {
       least = omega arith;
       most = c.if-digits-gt20.false;

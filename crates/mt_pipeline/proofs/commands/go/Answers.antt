@@ -18,7 +18,8 @@ use Rattle.mt_pipeline.proofs.Written.{same_files}
 use Rattle.mt_pipeline.proofs.commands.go.Goals as goal
 
 pub run_parts-requires-clause-valid : goal.run_parts-requires-clause-valid
-run_parts-requires-clause-valid g c = (whole (c.in-Ok.bytes.items ∷ []) (image_of c.in-Ok-parts_of.parts) c.in-Ok-parts_of.ensures.parts).valid
+run_parts-requires-clause-valid g c =
+    (whole (c.in-Ok.bytes.items ∷ []) (image_of c.in-Ok-parts_of.parts) c.in-Ok-parts_of.ensures.parts).valid
 
 -- there were no bytes
 pub returns-in-Err : goal.returns-in-Err
@@ -38,7 +39,8 @@ returns-in-Err-parts_of g c =
     let after = seen g.F.Files g.S.Source g.K.Sink c.read_file.new.files c.args.input.now c.args.out.now in
     subst (λ (a : Answer). GoAnswers c.args.file.now c.args.steps before after (ended_of a)) (sym c.of_unbuilt.ensures)
     (go_answers c.args.file.now c.args.steps before after (ended_of (answer_of c.in-Err-parts_of.unbuilt))
-    (go_unbuilt c.args.file.now c.args.steps before after c.in-Ok.bytes.items c.in-Ok.ensures.bytes refl c.in-Err-parts_of.unbuilt c.in-Err-parts_of.ensures.refused)
+    (go_unbuilt c.args.file.now c.args.steps before after c.in-Ok.bytes.items c.in-Ok.ensures.bytes refl c.in-Err-parts_of.unbuilt
+    c.in-Err-parts_of.ensures.refused)
     refl (same_files _ _ c.read_file.ensures.kept)
     (both_stay _ _ c.in-Ok.ensures.uncounted_ok c.read_file.ensures.writes))
 
@@ -49,11 +51,14 @@ returns-in-Ok-run_parts g c =
     let image = image_of c.in-Ok-parts_of.parts in
     let before = seen g.F.Files g.S.Source g.K.Sink c.args.files.now c.args.input.now c.args.out.now in
     let after = seen g.F.Files g.S.Source g.K.Sink c.read_file.new.files c.run_parts.new.source c.run_parts.new.sink in
-    let runs = subst (λ choices. RunsImage image choices default_stack c.args.steps before.streams after.streams c.in-Ok-run_parts.end) c.default_choices.ensures c.in-Ok-run_parts.ensures.runs in
+    let runs = subst
+    (λ choices. RunsImage image choices default_stack c.args.steps before.streams after.streams c.in-Ok-run_parts.end)
+    c.default_choices.ensures c.in-Ok-run_parts.ensures.runs in
     let built = whole texts image c.in-Ok-parts_of.ensures.parts in
     let quiet = exits_quiet image _ _ default_stack c.args.steps before.streams after.streams c.in-Ok-run_parts.end built.exits runs in
     go_answers c.args.file.now c.args.steps before after (ended_by c.in-Ok-run_parts.end)
-    (ran c.in-Ok.bytes.items image c.in-Ok.ensures.bytes c.in-Ok-parts_of.ensures.parts (record { end = c.in-Ok-run_parts.end; runs = runs; answered = refl }))
+    (ran c.in-Ok.bytes.items image c.in-Ok.ensures.bytes c.in-Ok-parts_of.ensures.parts
+    (record { end = c.in-Ok-run_parts.end; runs = runs; answered = refl }))
     (same_objects g.S.Source g.K.Sink _ _ _ _ quiet.source quiet.sink) (same_files _ _ c.read_file.ensures.kept)
     (both_stay _ _ c.in-Ok.ensures.uncounted_ok c.read_file.ensures.writes)
 

@@ -1,17 +1,21 @@
-use Rattle.std.proofs.Common.{refl, sym, subst}
-use Rattle.elf_image.specs.Constant.{IsConstantFile}
+use Rattle.std.proofs.Common.{◌≡◌, ◌⊎◌, refl, sym, subst}
+use Rattle.elf_image.specs.Constant.{constant_image}
+use Rattle.elf_image.specs.ImageFile.{ImageFile}
+use Rattle.elf_image.specs.Ranges.{IsFileOf}
 use Rattle.tag_startup.specs.Machine.{RunsImage}
 use Rattle.mt_pipeline.specs.declared.answer.Answer.{Answer}
+use Rattle.mt_pipeline.specs.declared.refusal.RunRefusal.TheVariants.{NoMemory}
 use Rattle.mt_pipeline.specs.Answer.{ended_of}
-use Rattle.mt_pipeline.specs.RunFile.{RunAnswers, ran}
+use Rattle.mt_pipeline.specs.RunFile.{RefusesRun, RunAnswers, ran}
 use Rattle.mt_pipeline.specs.Ran.{default_stack}
 use Rattle.mt_pipeline.specs.Seen.{seen}
 use Rattle.mt_pipeline.specs.Status.{ended_by}
 use Rattle.mt_pipeline.specs.Unread.{answer_to_unread}
 use Rattle.mt_pipeline.specs.Unrun.{answer_to_run}
 use Rattle.mt_pipeline.proofs.Counts.{both_stay, unread_counts}
-use Rattle.mt_pipeline.proofs.Quiet.{constant_file_exits, same_objects}
-use Rattle.mt_pipeline.proofs.RunCauses.{IsRefusal, run_answers, run_refused, run_unread}
+use Rattle.mt_pipeline.proofs.Quiet.{file_quiet, same_objects}
+use Rattle.mt_pipeline.proofs.RunCauses.{run_answers, run_refused, run_unread}
+use Rattle.mt_pipeline.proofs.SameBytes.{same_bytes}
 use Rattle.mt_pipeline.proofs.Written.{same_files}
 use Rattle.mt_pipeline.proofs.commands.run_file.Goals as goal
 
@@ -23,7 +27,7 @@ returns-in-Err g c =
     subst (λ (a : Answer). RunAnswers c.args.file.now c.args.steps before after (ended_of a)) (sym c.answer.ensures)
     (run_answers c.args.file.now c.args.steps before after (ended_of (answer_to_unread c.in-Err.unread))
     (run_unread c.args.file.now c.args.steps before after c.in-Err.unread c.in-Err.ensures.cause refl)
-    refl (same_files _ _ c.read_file.ensures.kept)
+    (λ bytes n holds within is. refl) (same_files _ _ c.read_file.ensures.kept)
     (unread_counts _ _ c.in-Err.unread c.in-Err.ensures.uncounted_err c.read_file.ensures.writes))
 
 -- the image ran
@@ -33,23 +37,32 @@ returns-in-Ok-run_image g c =
     let after = seen g.F.Files g.S.Source g.K.Sink c.read_file.new.files c.run_image.new.source c.run_image.new.sink in
     let read = c.in-Ok.bytes.items in
     let image = c.in-Ok-run_image.ensures.image.0 in
-    let is : IsConstantFile image read = subst (λ b. IsConstantFile image b) c.deref.ensures.value c.in-Ok-run_image.ensures.image.1 in
-    let runs = subst (λ choices. RunsImage image choices default_stack c.args.steps before.streams after.streams c.in-Ok-run_image.end) c.default_choices.ensures
+    let is : IsFileOf image read = subst (λ b. IsFileOf image b) c.deref.ensures.value c.in-Ok-run_image.ensures.image.1 in
+    let runs = subst (λ choices. RunsImage image choices default_stack c.args.steps before.streams after.streams c.in-Ok-run_image.end)
+    c.default_choices.ensures
     (c.in-Ok-run_image.ensures.runs image c.in-Ok-run_image.ensures.image.1) in
     run_answers c.args.file.now c.args.steps before after (ended_by c.in-Ok-run_image.end)
-    (ran read image c.in-Ok.ensures.bytes is (constant_file_exits image read is) (record { end = c.in-Ok-run_image.end; runs = runs; answered = refl }))
-    (same_objects g.S.Source g.K.Sink _ _ _ _ c.run_image.ensures.input c.run_image.ensures.output) (same_files _ _ c.read_file.ensures.kept)
+    (ran read image c.in-Ok.ensures.bytes is (record { end = c.in-Ok-run_image.end; runs = runs; answered = refl }))
+    (λ bytes n holds within file_is.
+    let file : ImageFile (constant_image n) read = subst (λ b. ImageFile (constant_image n) b)
+    (sym (same_bytes before.files c.args.file.now bytes read holds c.in-Ok.ensures.bytes)) file_is in
+    let quiet = file_quiet image read n _ default_stack c.args.steps before.streams after.streams c.in-Ok-run_image.end
+    is within file runs in
+    same_objects g.S.Source g.K.Sink _ _ _ _ quiet.source quiet.sink)
+    (same_files _ _ c.read_file.ensures.kept)
     (both_stay _ _ c.in-Ok.ensures.uncounted_ok c.read_file.ensures.writes)
 
--- or it did not, for want of memory or since the bytes are no image
+-- or it did not, for want of memory or since the bytes do not run
 pub returns : goal.returns
 returns g c =
     let before = seen g.F.Files g.S.Source g.K.Sink c.args.files.now c.args.input.now c.args.out.now in
     let after = seen g.F.Files g.S.Source g.K.Sink c.read_file.new.files c.run_image.new.source c.run_image.new.sink in
-    let silent = same_objects g.S.Source g.K.Sink _ _ _ _ c.run_image.ensures.input c.run_image.ensures.output in
+    let kept = c.in-Err-run_image.ensures.silent in
+    let silent = same_objects g.S.Source g.K.Sink _ _ _ _ kept.0 kept.1 in
     let refusal = c.in-Err-run_image.refusal in
-    let cause = subst (λ b. IsRefusal refusal b) c.deref.ensures.value c.in-Err-run_image.ensures.refused in
+    let cause = subst (λ b. (refusal ≡ NoMemory) ⊎ RefusesRun b refusal) c.deref.ensures.value c.in-Err-run_image.ensures.refused in
     subst (λ (a : Answer). RunAnswers c.args.file.now c.args.steps before after (ended_of a)) (sym c.answer-in-Err-run_image.ensures)
     (run_answers c.args.file.now c.args.steps before after (ended_of (answer_to_run refusal))
-    (run_refused c.args.file.now c.args.steps before after c.in-Ok.bytes.items refusal c.in-Ok.ensures.bytes silent cause) silent (same_files _ _ c.read_file.ensures.kept)
+    (run_refused c.args.file.now c.args.steps before after c.in-Ok.bytes.items refusal c.in-Ok.ensures.bytes silent cause)
+    (λ bytes n holds within is. silent) (same_files _ _ c.read_file.ensures.kept)
     (both_stay _ _ c.in-Ok.ensures.uncounted_ok c.read_file.ensures.writes))

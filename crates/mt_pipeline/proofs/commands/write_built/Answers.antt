@@ -19,7 +19,8 @@ returns-in-Err g c =
     let after = files_seen g.F.Files c.read_file.new.files in
     subst (λ (a : Answer). WritesBuilt c.args.file.now c.args.out_file.now before after (ended_of a)) (sym c.answer.ensures)
     (build_answers c.args.file.now c.args.out_file.now before after (ended_of (answer_to_unread c.in-Err.unread))
-    (build_unread c.args.file.now c.args.out_file.now before after c.in-Err.unread c.in-Err.ensures.cause (same_files _ _ c.read_file.ensures.kept))
+    (build_unread c.args.file.now c.args.out_file.now before after c.in-Err.unread c.in-Err.ensures.cause
+    (same_files _ _ c.read_file.ensures.kept))
     (unwritten _ _ (unread_counts _ _ c.in-Err.unread c.in-Err.ensures.uncounted_err c.read_file.ensures.writes)))
 
 -- the text is refused
@@ -29,7 +30,8 @@ returns-in-Err-image_bytes g c =
     let after = files_seen g.F.Files c.read_file.new.files in
     subst (λ (a : Answer). WritesBuilt c.args.file.now c.args.out_file.now before after (ended_of a)) (sym c.of_unbuilt.ensures)
     (build_answers c.args.file.now c.args.out_file.now before after (ended_of (answer_of c.in-Err-image_bytes.unbuilt))
-    (build_unbuilt c.args.file.now c.args.out_file.now before after c.in-Ok.bytes.items c.in-Ok.ensures.bytes (same_files _ _ c.read_file.ensures.kept)
+    (build_unbuilt c.args.file.now c.args.out_file.now before after c.in-Ok.bytes.items c.in-Ok.ensures.bytes
+    (same_files _ _ c.read_file.ensures.kept)
     c.in-Err-image_bytes.unbuilt c.in-Err-image_bytes.ensures.refused)
     (unwritten _ _ (both_stay _ _ c.in-Ok.ensures.uncounted_ok c.read_file.ensures.writes)))
 
@@ -50,7 +52,8 @@ returns-in-Failed g c =
     let before = files_seen g.F.Files c.args.files.now in
     let after = files_seen g.F.Files c.write.new.self in
     let built = c.in-Ok-image_bytes.ensures.built in
-    let rose = subst (λ (faults : ℕ). Rose faults (g.F.Files.write_faults c.write.new.self)) c.read_file.ensures.writes (c.in-Failed.ensures.failed refl) in
+    let rose = subst (λ (faults : ℕ). Rose faults (g.F.Files.write_faults c.write.new.self)) c.read_file.ensures.writes
+    (c.in-Failed.ensures.failed refl) in
     build_answers c.args.file.now c.args.out_file.now before after _
     (write_failed c.in-Ok.bytes.items built.image c.in-Ok.ensures.bytes built.builds rose
     (left_open _ _ _ c.args.out_file.now c.deref.result.now c.read_file.ensures.kept c.in-Failed.ensures.content))

@@ -27,7 +27,8 @@ returns-in-Some-Build-clause-answers g c =
     let after = seen g.F.Files g.S.Source g.K.Sink c.write_built.new.files c.args.input.now c.args.out.now in
     asked (λ job. Answers job before after c.finish_build.result) _ (Build c.in-Some-Build.file.now c.in-Some-Build.image.now)
     (subst (λ command. HasJob (map string_bytes c.args.words.now) (job_of command)) c.in-Some-Build.field-0-is c.in-Some-Build.ensures.some)
-    (subst (λ (e : Ended). Answers (Build c.in-Some-Build.file.now c.in-Some-Build.image.now) before after e) (sym c.finish_build.ensures.ended)
+    (subst (λ (e : Ended). Answers (Build c.in-Some-Build.file.now c.in-Some-Build.image.now) before after e)
+    (sym c.finish_build.ensures.ended)
     (record { writes = c.write_built.ensures; silent = refl }))
 
 pub returns-in-Some-Run-clause-answers : goal.returns-in-Some-Run-clause-answers
@@ -36,7 +37,8 @@ returns-in-Some-Run-clause-answers g c =
     let after = seen g.F.Files g.S.Source g.K.Sink c.run_file.new.files c.run_file.new.input c.run_file.new.out in
     asked (λ job. Answers job before after c.finish-in-Some-Run.result) _ (Run c.in-Some-Run.image.now c.in-Some-Run.steps)
     (subst (λ command. HasJob (map string_bytes c.args.words.now) (job_of command)) c.in-Some-Run.field-0-is c.in-Some-Run.ensures.some)
-    (subst (λ (e : Ended). Answers (Run c.in-Some-Run.image.now c.in-Some-Run.steps) before after e) (sym c.finish-in-Some-Run.ensures.ended) c.run_file.ensures)
+    (subst (λ (e : Ended). Answers (Run c.in-Some-Run.image.now c.in-Some-Run.steps) before after e)
+    (sym c.finish-in-Some-Run.ensures.ended) c.run_file.ensures)
 
 pub returns-in-Some-Dump-clause-answers : goal.returns-in-Some-Dump-clause-answers
 returns-in-Some-Dump-clause-answers g c =
@@ -50,28 +52,35 @@ returns-in-Some-Dump-clause-answers g c =
 -- words that ask for something are answered by no usage
 pub returns-in-Some-Go-clause-usage : goal.returns-in-Some-Go-clause-usage
 returns-in-Some-Go-clause-usage g c =
-    let found = subst (λ command. HasJob (map string_bytes c.args.words.now) (job_of command)) c.in-Some-Go.field-0-is c.in-Some-Go.ensures.some in (
+    let found = subst (λ command. HasJob (map string_bytes c.args.words.now)
+    (job_of command)) c.in-Some-Go.field-0-is c.in-Some-Go.ensures.some in (
       λ is. absurd (go_not_usage _ _ _ _ c.go.ensures.cause (subst (λ (e : Ended). e.why ≡ Usage) c.finish.ensures.ended is)),
       λ none. absurd (none _ found),
     )
 
 pub returns-in-Some-Build-clause-usage : goal.returns-in-Some-Build-clause-usage
 returns-in-Some-Build-clause-usage g c =
-    let found = subst (λ command. HasJob (map string_bytes c.args.words.now) (job_of command)) c.in-Some-Build.field-0-is c.in-Some-Build.ensures.some in (
-      λ is. absurd (build_not_usage _ _ _ _ c.write_built.ensures.cause (subst (λ (e : Ended). e.why ≡ Usage) c.finish_build.ensures.ended is)),
+    let found = subst (λ command. HasJob (map string_bytes c.args.words.now)
+    (job_of command)) c.in-Some-Build.field-0-is c.in-Some-Build.ensures.some in (
+      λ is. absurd (build_not_usage _ _ _ _ c.write_built.ensures.cause
+          (subst (λ (e : Ended). e.why ≡ Usage) c.finish_build.ensures.ended is)),
       λ none. absurd (none _ found),
     )
 
 pub returns-in-Some-Run-clause-usage : goal.returns-in-Some-Run-clause-usage
 returns-in-Some-Run-clause-usage g c =
-    let found = subst (λ command. HasJob (map string_bytes c.args.words.now) (job_of command)) c.in-Some-Run.field-0-is c.in-Some-Run.ensures.some in (
-      λ is. absurd (run_not_usage _ _ _ _ c.run_file.ensures.cause (subst (λ (e : Ended). e.why ≡ Usage) c.finish-in-Some-Run.ensures.ended is)),
+    let found = subst (λ command. HasJob (map string_bytes c.args.words.now)
+    (job_of command)) c.in-Some-Run.field-0-is c.in-Some-Run.ensures.some in (
+      λ is. absurd (run_not_usage _ _ _ _ c.run_file.ensures.cause
+          (subst (λ (e : Ended). e.why ≡ Usage) c.finish-in-Some-Run.ensures.ended is)),
       λ none. absurd (none _ found),
     )
 
 pub returns-in-Some-Dump-clause-usage : goal.returns-in-Some-Dump-clause-usage
 returns-in-Some-Dump-clause-usage g c =
-    let found = subst (λ command. HasJob (map string_bytes c.args.words.now) (job_of command)) c.in-Some-Dump.field-0-is c.in-Some-Dump.ensures.some in (
-      λ is. absurd (dump_not_usage _ _ _ _ _ c.dump_file.ensures.cause (subst (λ (e : Ended). e.why ≡ Usage) c.finish-in-Some-Dump.ensures.ended is)),
+    let found = subst (λ command. HasJob (map string_bytes c.args.words.now)
+    (job_of command)) c.in-Some-Dump.field-0-is c.in-Some-Dump.ensures.some in (
+      λ is. absurd (dump_not_usage _ _ _ _ _ c.dump_file.ensures.cause
+          (subst (λ (e : Ended). e.why ≡ Usage) c.finish-in-Some-Dump.ensures.ended is)),
       λ none. absurd (none _ found),
     )

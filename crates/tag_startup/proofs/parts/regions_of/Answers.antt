@@ -9,7 +9,8 @@ use Rattle.elf_image.specs.Laws.Loading.{length-read_only, length-code, length-w
 use Rattle.mt_base.specs.Granules.{round16}
 use Rattle.tag_mem.specs.Regions.{extent_of, extents_of}
 use Rattle.tag_startup.specs.Loaded.{part, loaded_regions}
-use Rattle.tag_startup.proofs.Held.{HoldsFile, four_hold, four_places, loaded_bytes, stack_holds, read_only_holds, code_holds, writable_holds}
+use Rattle.tag_startup.proofs.Held.{HoldsFile, four_hold, four_places, loaded_bytes, stack_holds, read_only_holds, code_holds}
+use Rattle.tag_startup.proofs.Held.{writable_holds}
 use Rattle.tag_startup.specs.Laws.Placed.{AreInOrder, in_order}
 use Rattle.tag_startup.proofs.parts.regions_of.Goals as goal
 
@@ -25,7 +26,8 @@ part_of-requires-clause-within c =
 pub part_of-requires-2-clause-fits : goal.part_of-requires-2-clause-fits
 part_of-requires-2-clause-fits c =
     let image : Image = image_of c.args.image.now in
-    let bytes : c.push_code.new.out.items ≡ code_bytes image = c.in_ok-push_code.ensures ∙ ap (λ (l : List ℕ). l ++ code_bytes image) c.new-words.ensures.items in
+    let bytes : c.push_code.new.out.items ≡ code_bytes image = c.in_ok-push_code.ensures
+    ∙ ap (λ (l : List ℕ). l ++ code_bytes image) c.new-words.ensures.items in
     omega (arith, c.code_place.ensures, c.code_end.ensures, ap length bytes, length-code image)
 
 pub part_of-requires-2-clause-within : goal.part_of-requires-2-clause-within
@@ -45,13 +47,15 @@ part_of-requires-3-clause-fits c =
 read_only_place : (c : goal.In_ok-vec) → extent_of c.in_ok-read_only.read_only ≡ part 0 (rodata_end (image_of c.args.image.now)) false false
 read_only_place c = c.in_ok-read_only.ensures.place ∙ ap (λ end. part 0 end false false) c.rodata_end.ensures
 
-code_part_place : (c : goal.In_ok-vec) → extent_of c.in_ok-code.code ≡ part (code_place (image_of c.args.image.now)) (code_end (image_of c.args.image.now)) false true
+code_part_place : (c : goal.In_ok-vec) → extent_of c.in_ok-code.code ≡ part (code_place (image_of c.args.image.now))
+    (code_end (image_of c.args.image.now)) false true
 code_part_place c =
     c.in_ok-code.ensures.place
     ∙ ap (λ start. part start c.code_end.result false true) c.code_place.ensures
     ∙ ap (λ end. part (code_place (image_of c.args.image.now)) end false true) c.code_end.ensures
 
-data_place : (c : goal.In_ok-vec) → extent_of c.in_ok-data.data ≡ part (dynamic_place (image_of c.args.image.now)) (memory_end (image_of c.args.image.now)) true false
+data_place : (c : goal.In_ok-vec) → extent_of c.in_ok-data.data ≡ part (dynamic_place (image_of c.args.image.now))
+    (memory_end (image_of c.args.image.now)) true false
 data_place c =
     c.in_ok-data.ensures.place
     ∙ ap (λ start. part start c.memory_end.result true false) c.dynamic_place.ensures
@@ -60,7 +64,8 @@ data_place c =
 places : (c : goal.In_ok-vec) → extents_of c.in_ok-vec.field-0.items ≡ loaded_regions (image_of c.args.image.now) c.args.stack
 places c =
     ap extents_of c.in_ok-vec.ensures.items
-    ∙ four_places (image_of c.args.image.now) c.args.stack c.in_ok-read_only.read_only c.in_ok-code.code c.in_ok-data.data c.in_ok-stack.stack
+    ∙ four_places
+    (image_of c.args.image.now) c.args.stack c.in_ok-read_only.read_only c.in_ok-code.code c.in_ok-data.data c.in_ok-stack.stack
     (read_only_place c) (code_part_place c) (data_place c) c.in_ok-stack.ensures.place
 
 pub returns-clause-places : goal.returns-clause-places
@@ -74,13 +79,15 @@ read_only_is : (c : goal.In_ok-vec) → HoldsFile (file_of (image_of c.args.imag
 read_only_is c =
     let image : Image = image_of c.args.image.now in
     read_only_holds image c.in_ok-read_only.read_only c.requires.valid (read_only_place c)
-    (c.in_ok-read_only.ensures.bytes ∙ ap (λ end. pad (round16 (end - 0)) c.in_ok-tables.tables.items) c.rodata_end.ensures ∙ ap (pad (round16 (rodata_end image - 0))) c.in_ok-tables.ensures)
+    (c.in_ok-read_only.ensures.bytes ∙ ap (λ end. pad (round16 (end - 0)) c.in_ok-tables.tables.items) c.rodata_end.ensures
+    ∙ ap (pad (round16 (rodata_end image - 0))) c.in_ok-tables.ensures)
     (subst small c.in_ok-tables.ensures c.part_of.ensures.in_range)
 
 code_is : (c : goal.In_ok-vec) → HoldsFile (file_of (image_of c.args.image.now)) c.in_ok-code.code
 code_is c =
     let image : Image = image_of c.args.image.now in
-    let bytes : c.push_code.new.out.items ≡ code_bytes image = c.in_ok-push_code.ensures ∙ ap (λ (l : List ℕ). l ++ code_bytes image) c.new-words.ensures.items in
+    let bytes : c.push_code.new.out.items ≡ code_bytes image = c.in_ok-push_code.ensures
+    ∙ ap (λ (l : List ℕ). l ++ code_bytes image) c.new-words.ensures.items in
     code_holds image c.in_ok-code.code c.requires.valid (code_part_place c)
     (c.in_ok-code.ensures.bytes
     ∙ ap (λ start. pad (round16 (c.code_end.result - start)) c.push_code.new.out.items) c.code_place.ensures
@@ -113,4 +120,5 @@ returns-clause-bytes c =
     let image : Image = image_of c.args.image.now in
     loaded_bytes image c.args.stack c.in_ok-vec.field-0.items c.requires.valid (places c)
     (subst (All (HoldsFile (file_of image))) (sym c.in_ok-vec.ensures.items)
-    (four_hold (file_of image) c.in_ok-read_only.read_only c.in_ok-code.code c.in_ok-data.data c.in_ok-stack.stack (read_only_is c) (code_is c) (data_is c) (stack_is c)))
+    (four_hold (file_of image) c.in_ok-read_only.read_only c.in_ok-code.code c.in_ok-data.data c.in_ok-stack.stack (read_only_is c)
+    (code_is c) (data_is c) (stack_is c)))

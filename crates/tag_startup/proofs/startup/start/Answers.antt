@@ -8,5 +8,7 @@ use Rattle.tag_startup.proofs.startup.start.Goals as goal
 pub returns-clause-loaded : goal.returns-clause-loaded
 returns-clause-loaded c w =
     c.new.ensures.state w
-    ∙ started _ c.in_ok-memory.memory (image_of c.args.image.now) c.in_ok-choices.choices.items c.args.stack _ w c.in_ok-memory.ensures refl (zero-mod (length c.in_ok-choices.choices.items))
+    ∙ started _ c.in_ok-memory.memory
+    (image_of c.args.image.now) c.in_ok-choices.choices.items c.args.stack _ w c.in_ok-memory.ensures refl
+    (zero-mod (length c.in_ok-choices.choices.items))
     ∙ ap (λ choices. loaded (image_of c.args.image.now) choices c.args.stack w) c.in_ok-choices.ensures.items

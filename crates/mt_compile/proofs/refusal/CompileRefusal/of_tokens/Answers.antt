@@ -8,9 +8,11 @@ use Rattle.mt_compile.proofs.refusal.CompileRefusal.of_tokens.Goals as goal
 pub returns-in-Unexpected : goal.returns-in-Unexpected
 returns-in-Unexpected c =
     let first = subst (λ r. Parsed limit c.args.tokens.now (Err r)) c.in-Unexpected.is c.requires.cause in
-    inr (subst (λ b. Refuses c.args.text.now (Parse (Unexpected c.in-Unexpected.place)) b) (sym c.byte_at.ensures) (unexpected c.requires.held first))
+    inr (subst (λ b. Refuses c.args.text.now (Parse (Unexpected c.in-Unexpected.place)) b) (sym c.byte_at.ensures)
+    (unexpected c.requires.held first))
 
 pub returns-in-TooDeep : goal.returns-in-TooDeep
 returns-in-TooDeep c =
     let first = subst (λ r. Parsed limit c.args.tokens.now (Err r)) c.in-TooDeep.is c.requires.cause in
-    inr (subst (λ b. Refuses c.args.text.now (Parse (TooDeep c.in-TooDeep.place)) b) (sym c.byte_at-in-TooDeep.ensures) (too_deep c.requires.held first))
+    inr (subst (λ b. Refuses c.args.text.now (Parse (TooDeep c.in-TooDeep.place)) b) (sym c.byte_at-in-TooDeep.ensures)
+    (too_deep c.requires.held first))
