@@ -1,0 +1,3 @@
+pub mod SizeExamples
+pub mod ArithmeticExamples
+pub mod WrapLaws

@@ -1,0 +1,2 @@
+pub mod MarkedLaws
+pub mod OccurrenceLaws
