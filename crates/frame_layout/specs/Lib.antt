@@ -1,0 +1,6 @@
+pub mod Needs
+pub mod StatementNeeds
+pub mod Scopes
+pub mod Frames
+pub mod Neighbours
+pub mod Steps
