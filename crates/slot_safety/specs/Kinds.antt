@@ -2,7 +2,6 @@
 -- MemTagSanitizer, which tags what cannot be shown safe).
 use Rattle.std.specs.Prelude.{ℕ, suc, Bool, true, false, ◌||◌, nat_eq, List, [], ◌∷◌, slice_set, if◌then◌else◌}
 use Rattle.c_type_base.specs.declared.typed.StructInfo.{StructInfo}
-use Rattle.c_type_base.specs.declared.typed.LocalInfo.{LocalInfo}
 use Rattle.c_type_base.specs.declared.typed.TFunction.{TFunction}
 use Rattle.slot_safety.specs.declared.kind.Kind.{Kind}
 use Rattle.slot_safety.specs.declared.kind.Kind.TheVariants.{Safe, Tagged}
@@ -25,16 +24,20 @@ abbrev pub kind_by : Bool → Kind
 kind_by true = Tagged
 kind_by false = Safe
 
--- the kinds of some locals, of which the first has this number, where these are tagged
-abbrev pub kinds_from : List ℕ → ℕ → List LocalInfo → List Kind
-kinds_from tagged k [] = []
-kinds_from tagged k (l ∷ ls) = kind_by (among k tagged) ∷ kinds_from tagged (suc k) ls
+-- one thing or the other for each item, of which the first has this number, by whether its number is among these
+abbrev pub by_number : {A B : Type 0} → (Bool → A) → List ℕ → ℕ → List B → List A
+by_number by these k [] = []
+by_number by these k (l ∷ ls) = by (among k these) ∷ by_number by these (suc k) ls
 
 -- the kinds of all parameters and locals, in order
 abbrev pub kinds : List StructInfo → TFunction → List Kind
-kinds structs f = kinds_from (harms structs f) 0 f.locals
+kinds structs f = by_number kind_by (harms structs f) 0 f.locals
+
+-- a list with the same thing at each of these places
+abbrev pub put : {A : Type 0} → A → List A → List ℕ → List A
+put a xs [] = xs
+put a xs (k ∷ ks) = put a (slice_set xs k a) ks
 
 -- kinds of locals once these are tagged too
 abbrev pub marked : List Kind → List ℕ → List Kind
-marked kinds [] = kinds
-marked kinds (k ∷ ks) = marked (slice_set kinds k Tagged) ks
+marked = put Tagged
