@@ -1,1 +1,4 @@
 pub mod NeedTurns
+pub mod ScopeTurns
+pub mod PartTurns
+pub mod SlotTurns

@@ -6,7 +6,7 @@ use Rattle.frame_layout.specs.StatementNeeds.{most}
 pub max-most : (n m : ℕ) (ns : List ℕ) → max n (max m (most ns)) ≡ max (max n m) (most ns)
 max-most n m ns = omega arith
 
-drop-here : {A : Type 0} (xs : List A) (i : ℕ) (x : A) → i < length xs → x ≡ get_or xs i x → drop i xs ≡ x ∷ drop (i + 1) xs
+pub drop-here : {A : Type 0} (xs : List A) (i : ℕ) (x : A) → i < length xs → x ≡ get_or xs i x → drop i xs ≡ x ∷ drop (i + 1) xs
 drop-here xs i x within is =
     let next : suc i ≡ i + 1 = omega arith in
     drop-cons xs i x within ∙ ap (λ j. get_or xs i x ∷ drop j xs) next ∙ ap (λ y. y ∷ drop (i + 1) xs) (sym is)

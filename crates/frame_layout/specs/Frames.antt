@@ -1,30 +1,16 @@
 -- The frame of a function (this project's own, after the stack tagging of MemTagSanitizer), from its lowest address: the saved X29 and
 -- X30 at 0, the base word at 16, words for values in between from 24 on, the safe slots, and from the next multiple of 16 the tagged slots.
-use Rattle.std.specs.Prelude.{ℕ, suc, ◌+◌, ◌*◌, ◌%◌, Bool, true, false, List, [], ◌∷◌, map}
+use Rattle.std.specs.Prelude.{ℕ, suc, ◌+◌, ◌*◌, ◌%◌, List, [], ◌∷◌}
 use Rattle.c_type_base.specs.declared.typed.StructInfo.{StructInfo}
-use Rattle.c_type_base.specs.declared.typed.LocalInfo.{LocalInfo}
 use Rattle.c_type_base.specs.declared.typed.TFunction.{TFunction}
-use Rattle.c_type_base.specs.Sizes.{size, align}
 use Rattle.c_type_base.specs.Layout.{round_up}
 use Rattle.slot_safety.specs.declared.kind.Kind.{Kind}
 use Rattle.slot_safety.specs.declared.kind.Kind.TheVariants.{Safe, Tagged}
-use Rattle.slot_safety.specs.Kinds.{kinds}
 use Rattle.frame_layout.specs.declared.frame.Slot.{Slot}
 use Rattle.frame_layout.specs.declared.frame.Frame.{Frame}
-use Rattle.frame_layout.specs.declared.slots.Part.{Part}
-use Rattle.frame_layout.specs.Scopes.{is_inner}
+use Rattle.frame_layout.specs.declared.placed.Part.{Part}
+use Rattle.frame_layout.specs.Parts.{parts}
 use Rattle.frame_layout.specs.StatementNeeds.{stmt_need}
-
--- what a slot has to hold, of each parameter and local in order
-abbrev pub parts_from : List StructInfo → TFunction → ℕ → List LocalInfo → List Kind → List Part
-parts_from structs f k [] kinds = []
-parts_from structs f k (l ∷ ls) [] = []
-parts_from structs f k (l ∷ ls) (kind ∷ more) =
-    record { bytes = size structs l.ty; align = align structs l.ty; kind = kind; inner = is_inner f k }
-    ∷ parts_from structs f (suc k) ls more
-
-abbrev pub parts : List StructInfo → TFunction → List Part
-parts structs f = parts_from structs f 0 f.locals (kinds structs f)
 
 -- where the safe slots end, from a place on: each stands at the next multiple of its alignment
 abbrev pub safe_step : ℕ → Part → Kind → ℕ

@@ -1,7 +1,8 @@
 pub mod Needs
 pub mod StatementNeeds
-pub mod Parts
 pub mod Scopes
+pub mod Parts
 pub mod Frames
+pub mod Layouts
 pub mod Neighbours
 pub mod Steps

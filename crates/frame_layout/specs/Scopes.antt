@@ -26,6 +26,13 @@ outermost_in _ = []
 abbrev pub outermost : TStmt → List ℕ
 outermost body = outermost_in (out-TStmt body)
 
+-- it is neither a parameter nor one of the outermost block
+abbrev pub inner_by : Bool → Bool → Bool
+inner_by parameter outer = (if parameter then false else (if outer then false else true))
+
 -- the parameter or local of this number is one of an inner scope
 abbrev pub is_inner : TFunction → ℕ → Bool
-is_inner f k = (if ltb k f.params then false else (if among k (outermost f.body) then false else true))
+is_inner f k = inner_by (ltb k f.params) (among k (outermost f.body))
+
+abbrev pub as_told : Bool → Bool
+as_told b = b

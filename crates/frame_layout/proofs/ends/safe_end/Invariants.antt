@@ -1,6 +1,6 @@
 use Rattle.std.proofs.Common.{◌≡◌, ◌≤◌, ◌+◌, ◌*◌, ◌^◌, drop}
 use Rattle.frame_layout.specs.Frames.{safe_end}
-use Rattle.frame_layout.proofs.slots.safe_end.Given as goal
+use Rattle.frame_layout.proofs.ends.safe_end.Given as goal
 
 -- with what is left it ends where all of them end
 abbrev pub invariant-loop-part : goal.invariant-loop-part

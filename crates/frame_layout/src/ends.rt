@@ -1,24 +1,15 @@
-//! Where the slots of a frame stand.
+//! Where the slots of a frame end.
 
 ghost use Rattle.std.specs.Prelude.{◌≡◌, ◌≤◌, ◌<◌, ◌+◌, ◌*◌, ◌^◌, length};
 ghost use Rattle.c_type_base.specs.Layout.{round_up};
 ghost use Rattle.frame_layout.specs.Frames as spec;
 ghost use Rattle.frame_layout.specs.Parts.{ArePositive};
 
+use crate::placed::Part;
 use slot_safety::Kind;
 
-/// What a slot has to hold.
-#[derive(Clone, Copy)]
-pub struct Part {
-    pub bytes: u32,
-    /// Not 0.
-    pub align: u64,
-    pub kind: Kind,
-    pub inner: bool,
-}
-
 /// The first multiple of a positive number at or behind a place.
-fn rounded_up(place: u128, unit: u64) -> u128
+pub fn rounded_up(place: u128, unit: u64) -> u128
     requires positive { 1 ≤ unit }
     requires fits { place ≤ 2 ^ 127 + 2 ^ 126 }
     ensures value { result ≡ round_up place unit }
@@ -29,7 +20,7 @@ fn rounded_up(place: u128, unit: u64) -> u128
 }
 
 /// Where the safe slots end once a part has its place.
-fn safe_after(place: u128, part: Part) -> u128
+pub fn safe_after(place: u128, part: Part) -> u128
     requires positive { 1 ≤ part.align }
     requires fits { place ≤ 2 ^ 127 + 2 ^ 126 }
     ensures value { result ≡ spec.safe_step place part part.kind }
@@ -42,7 +33,7 @@ fn safe_after(place: u128, part: Part) -> u128
 }
 
 /// Where the tagged slots end once a part has its place.
-fn tagged_after(place: u128, part: Part) -> u128
+pub fn tagged_after(place: u128, part: Part) -> u128
     requires fits { place ≤ 2 ^ 127 + 2 ^ 126 }
     ensures value { result ≡ spec.tagged_step place part part.kind }
     ensures near { result ≤ place + 2 ^ 33 }
@@ -71,6 +62,7 @@ pub fn safe_end(parts: &[Part], from: u128) -> u128
 pub fn tagged_end(parts: &[Part], from: u128) -> u128
     requires fits { from ≤ 2 ^ 126 + 2 ^ 125 }
     ensures value { result ≡ spec.tagged_end from parts.now }
+    ensures near { result ≤ from + length parts.now * 2 ^ 33 }
 {
     let mut place = from;
     for part in parts {
