@@ -33,7 +33,6 @@ fn mark_item(item: &TItem, outer: &mut [bool])
     }
 }
 
-#[tactic(auto, using(crate::proofs::ScopeTurns::item_turn))]
 fn mark_items(items: &[TItem], outer: &mut [bool])
     ensures { outer.new ≡ put true outer.old (flat_map spec.declared items.now) }
 {
