@@ -2,3 +2,4 @@ pub mod NeedTurns
 pub mod ScopeTurns
 pub mod PartTurns
 pub mod SlotTurns
+mod FrameExamples

@@ -1,5 +1,5 @@
 -- One more turn of the loops over needs.
-use Rattle.std.proofs.Common.{◌≡◌, refl, ℕ, zero, suc, ◌+◌, ◌<◌, max, List, [], ◌∷◌, length, take, drop, map, get_or, ap, sym, ◌∙◌, arith, drop-cons}
+use Rattle.std.proofs.Common.{◌≡◌, ℕ, suc, ◌+◌, ◌<◌, max, List, ◌∷◌, length, drop, map, get_or, ap, sym, ◌∙◌, arith, drop-cons}
 use Rattle.frame_layout.specs.Needs.{arguments_from, capped_sum}
 use Rattle.frame_layout.specs.StatementNeeds.{most}
 

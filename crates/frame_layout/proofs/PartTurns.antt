@@ -1,5 +1,5 @@
 -- The loop over the parts of a frame, and what it gives.
-use Rattle.std.proofs.Common.{◌≡◌, refl, ℕ, zero, suc, ◌+◌, ◌<◌, ◌≤◌, Bool, ltb, List, [], ◌∷◌, ◌++◌, length, drop, get_or, slice_get, Option, Some, None, Result, Ok, Err, ap, sym, ◌∙◌, arith, append_assoc, subst}
+use Rattle.std.proofs.Common.{◌≡◌, refl, ℕ, zero, suc, ◌+◌, ◌<◌, ◌≤◌, Bool, ltb, List, [], ◌∷◌, ◌++◌, length, drop, get_or, Option, Some, None, Result, Ok, Err, ap, sym, ◌∙◌, arith, append_assoc, subst}
 use Rattle.std.specs.Prelude.{IfOk}
 use Rattle.c_type_base.specs.declared.typed.StructInfo.{StructInfo}
 use Rattle.c_type_base.specs.declared.typed.LocalInfo.{LocalInfo}
@@ -35,7 +35,7 @@ pub parts-as_defined : (structs : List StructInfo) (f : TFunction) (k : ℕ) (ls
     parts_by structs f.params k ls (by_number kind_by (harms structs f) k ls) (by_number as_told (outermost f.body) k ls)
     ≡ parts_from structs f k ls
 parts-as_defined structs f k [] = refl
-parts-as_defined structs f k (l ∷ ls) = 
+parts-as_defined structs f k (l ∷ ls) =
     ap (λ ps. part_of structs l (kind_by (is_tagged structs f k)) (is_inner f k) ∷ ps) (parts-as_defined structs f (suc k) ls)
 
 pub parts_are : (structs : List StructInfo) (f : TFunction) (ls : List LocalInfo) (found : List Kind) (outers : List Bool) (all : List Part) →

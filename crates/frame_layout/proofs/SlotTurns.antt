@@ -1,5 +1,5 @@
 -- The loop over the slots of a frame.
-use Rattle.std.proofs.Common.{◌≡◌, refl, ℕ, zero, suc, ◌+◌, ◌<◌, ◌≤◌, List, [], ◌∷◌, ◌++◌, length, drop, get_or, slice_get, Some, ap, sym, ◌∙◌, arith, append_assoc, subst, drop-cons, lit≤}
+use Rattle.std.proofs.Common.{◌≡◌, refl, ℕ, zero, suc, ◌+◌, ◌<◌, ◌≤◌, List, [], ◌∷◌, ◌++◌, length, drop, get_or, ap, sym, ◌∙◌, arith, append_assoc, subst, drop-cons, lit≤}
 use Rattle.slot_safety.specs.declared.kind.Kind.TheVariants.{Safe, Tagged}
 use Rattle.frame_layout.specs.declared.placed.Part.{Part}
 use Rattle.frame_layout.specs.declared.frame.Slot.{Slot}
@@ -57,7 +57,7 @@ safe_reaches place [] positive = omega arith
 safe_reaches place (p ∷ ps) positive =
     let step : place ≤ safe_step place p p.kind = safe_goes_on place p p.kind (positive 0 p refl) in
     let rest : safe_step place p p.kind ≤ safe_end (safe_step place p p.kind) ps =
-        safe_reaches (safe_step place p p.kind) ps (λ k q is. positive (suc k) q is) in
+    safe_reaches (safe_step place p p.kind) ps (λ k q is. positive (suc k) q is) in
     le_trans step rest
 
 tagged_goes_on : (place : ℕ) (p : Part) (kind : Kind) → place ≤ tagged_step place p kind

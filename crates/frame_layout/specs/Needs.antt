@@ -1,6 +1,6 @@
 -- How many words for values in between an expression needs (this project's own): a value that waits for a second part has one.
 -- A number that would pass the greatest of 64 bits is that number.
-use Rattle.std.specs.Prelude.{ℕ, suc, ◌+◌, max, min, List, [], ◌∷◌, length}
+use Rattle.std.specs.Prelude.{ℕ, ◌+◌, max, min, List, [], ◌∷◌, length}
 use Rattle.c_ast.specs.declared.operator.BinaryOperator.{BinaryOperator}
 use Rattle.c_ast.specs.declared.operator.BinaryOperator.TheVariants as binary
 use Rattle.c_type_base.specs.declared.expr.TExpr.{TExpr}

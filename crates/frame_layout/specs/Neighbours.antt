@@ -1,5 +1,5 @@
 -- A scalar access that leaves a tagged slot and hits another granule of its frame, and the tag that memory has there.
-use Rattle.std.specs.Prelude.{◌≡◌, ℕ, ◌+◌, ◌*◌, ◌-◌, ◌/◌, ◌%◌, ◌^◌, ◌<◌, ◌≤◌, Bool, true, false, ◌&&◌, leb, ltb, nat_eq, List, [], ◌∷◌, slice_get, Option, Some, None, if◌then◌else◌}
+use Rattle.std.specs.Prelude.{◌≡◌, ℕ, ◌+◌, ◌%◌, ◌^◌, ◌<◌, ◌≤◌, Bool, true, false, ◌&&◌, leb, ltb, nat_eq, List, [], ◌∷◌, slice_get, Some, if◌then◌else◌}
 use Rattle.mt_base.specs.Tags.{slot_tag}
 use Rattle.slot_safety.specs.declared.kind.Kind.{Kind}
 use Rattle.slot_safety.specs.declared.kind.Kind.TheVariants.{Safe, Tagged}

@@ -1,6 +1,6 @@
 -- How many steps of the machine a unit of work takes at most (this project's own), by the files that a program is made of: what the largest
 -- frame and the largest copy cost.
-use Rattle.std.specs.Prelude.{ℕ, ◌+◌, ◌*◌, ◌/◌, max, Bool, true, false, List, [], ◌∷◌, map, slice_get, Option, Some, None, if◌then◌else◌}
+use Rattle.std.specs.Prelude.{ℕ, ◌+◌, ◌*◌, ◌/◌, max, List, [], ◌∷◌, map, slice_get, Option, Some, None, if◌then◌else◌}
 use Rattle.c_type_base.specs.declared.ty.Ty.{Ty}
 use Rattle.c_type_base.specs.declared.expr.TExpr.{TExpr}
 use Rattle.c_type_base.specs.declared.expr.TNode.TheOpen.{TNode-F, TExpr-F}
@@ -9,7 +9,6 @@ use Rattle.c_type_base.specs.declared.statement.TInit.{TInit}
 use Rattle.c_type_base.specs.declared.statement.TInit.TheOpen.{TInit-F}
 use Rattle.c_type_base.specs.declared.statement.TInit.TheFolds.{fold-TInit}
 use Rattle.c_type_base.specs.declared.statement.TDecl.{TDecl}
-use Rattle.c_type_base.specs.declared.statement.TStmt.{TStmt}
 use Rattle.c_type_base.specs.declared.statement.TItem.TheOpen.{TItem-F, TStmt-F}
 use Rattle.c_type_base.specs.declared.statement.TItem.TheFolds.{fold-TStmt}
 use Rattle.c_type_base.specs.declared.typed.StructInfo.{StructInfo}

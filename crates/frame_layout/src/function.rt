@@ -8,8 +8,8 @@ ghost use Rattle.frame_layout.specs.Layouts.{IsLaid, Refuses};
 
 use crate::ends::{rounded_up, safe_end, tagged_end};
 use crate::frame::{Frame, LayoutRefusal};
-use crate::need_stmt::need_stmt;
 use crate::held::parts;
+use crate::need_stmt::need_stmt;
 use crate::placed::{Part, slots};
 use c_type_base::{StructInfo, TFunction};
 use std::alloc::Global;
@@ -21,7 +21,11 @@ const LARGEST_FRAME: u128 = 262144;
 fn told(count: u128) -> u64
     ensures { result ≡ min count 18446744073709551615 }
 {
-    if count < 18446744073709551615 { count as u64 } else { 18446744073709551615 }
+    if count < 18446744073709551615 {
+        count as u64
+    } else {
+        18446744073709551615
+    }
 }
 
 /// The frame of some parts with so many words for values in between.

@@ -6,8 +6,8 @@ ghost use Rattle.c_type_base.specs.Layout.{LaidOut};
 ghost use Rattle.frame_layout.specs.Scopes as scope;
 ghost use Rattle.frame_layout.specs.Parts as spec;
 
-use crate::scopes::outermost;
 use crate::placed::Part;
+use crate::scopes::outermost;
 use c_type_base::{LocalInfo, StructInfo, TFunction, align_of, size_of};
 use slot_safety::{Kind, classify};
 use std::alloc::{AllocError, Global};
@@ -28,7 +28,11 @@ fn part_of(local: &LocalInfo, structs: &[StructInfo], kind: Kind, inner: bool) -
 fn is_inner(number: usize, params: u32, outer: bool) -> bool
     ensures { result ≡ scope.inner_by (ltb number params) outer }
 {
-    if number < params as usize { false } else { !outer }
+    if number < params as usize {
+        false
+    } else {
+        !outer
+    }
 }
 
 #[tactic(auto, using(crate::proofs::PartTurns::parts_turn))]

@@ -4,11 +4,11 @@
 mod ends;
 mod frame;
 mod function;
+mod held;
 mod need;
 mod need_stmt;
-mod held;
-mod scopes;
 mod placed;
+mod scopes;
 
 pub use frame::{Frame, LayoutRefusal, Slot, Slots};
 pub use function::layout;

@@ -1,6 +1,6 @@
 -- Which parameters and locals of a function are tagged: those with an occurrence that is not harmless (this project's own, after
 -- MemTagSanitizer, which tags what cannot be shown safe).
-use Rattle.std.specs.Prelude.{ℕ, suc, Bool, true, false, ◌||◌, nat_eq, List, [], ◌∷◌, slice_set, if◌then◌else◌}
+use Rattle.std.specs.Prelude.{ℕ, suc, Bool, true, false, ◌||◌, nat_eq, List, [], ◌∷◌, slice_set}
 use Rattle.c_type_base.specs.declared.typed.StructInfo.{StructInfo}
 use Rattle.c_type_base.specs.declared.typed.TFunction.{TFunction}
 use Rattle.slot_safety.specs.declared.kind.Kind.{Kind}

@@ -1,7 +1,7 @@
 -- Where parameters and locals occur in an expression (this project's own). An occurrence is harmless where it is the whole of a scalar that
 -- is read, written, or changed by `++` or `--`, or where it starts a path that ends at such a scalar. What stands below `sizeof` is not
 -- evaluated (ISO C11 6.5.3.4 paragraph 2).
-use Rattle.std.specs.Prelude.{ℕ, ◌++◌, ◌%◌, ◌^◌, List, [], ◌∷◌, flat_map, Option}
+use Rattle.std.specs.Prelude.{ℕ, ◌++◌, ◌%◌, ◌^◌, List, [], flat_map}
 use Rattle.c_type_base.specs.declared.ty.Ty.{Ty}
 use Rattle.c_type_base.specs.declared.expr.TExpr.{TExpr}
 use Rattle.c_type_base.specs.declared.expr.TNode.TheOpen.{TNode-F, TExpr-F}

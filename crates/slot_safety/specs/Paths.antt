@@ -1,6 +1,6 @@
 -- Paths that stay in a local: its name, `.member`, and `[constant]` in range on an array (this project's own, after MemTagSanitizer, which
 -- tags what it cannot show safe).
-use Rattle.std.specs.Prelude.{ℕ, Bool, true, false, List, [], ◌∷◌, ltb, if◌then◌else◌}
+use Rattle.std.specs.Prelude.{ℕ, List, [], ◌∷◌, ltb, if◌then◌else◌}
 use Rattle.c_type_base.specs.declared.ty.Ty.{Ty, out-Ty}
 use Rattle.c_type_base.specs.declared.ty.Ty.TheOpen.{Ty-F}
 use Rattle.c_type_base.specs.declared.known.Constancy.{Constancy}

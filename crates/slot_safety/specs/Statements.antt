@@ -1,6 +1,6 @@
 -- The locals with an occurrence in a statement that is not harmless: those of its expressions and initialisers. A declaration's own
 -- initialiser is no occurrence of what it declares.
-use Rattle.std.specs.Prelude.{ℕ, ◌++◌, List, [], ◌∷◌, flat_map, map, Option, Some, None}
+use Rattle.std.specs.Prelude.{ℕ, ◌++◌, List, [], flat_map, map, Option, Some, None}
 use Rattle.c_type_base.specs.declared.expr.TExpr.{TExpr}
 use Rattle.c_type_base.specs.declared.statement.TInit.{TInit}
 use Rattle.c_type_base.specs.declared.statement.TInit.TheOpen.{TInit-F}

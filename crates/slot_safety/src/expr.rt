@@ -8,9 +8,7 @@ use crate::constant::{binary_constant, unary_constant};
 use crate::kind::Kind;
 use crate::mark::{decayed, element, go_on, mark_misused, mark_start, member};
 use crate::seen::{Path, Seen};
-use c_type_base::{
-    Constancy, StructInfo, TExpr, TNode, Ty, chosen, int_of, wrapped, wrapped_size,
-};
+use c_type_base::{Constancy, StructInfo, TExpr, TNode, Ty, chosen, int_of, wrapped, wrapped_size};
 
 /// An expression that is no path.
 fn computes(constant: Constancy) -> Seen

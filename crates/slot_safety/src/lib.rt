@@ -1,9 +1,9 @@
 //! Which parameters and locals of a function have to be tagged.
 #![tactic(auto)]
 
-mod function;
 mod constant;
 mod expr;
+mod function;
 mod kind;
 mod mark;
 mod seen;

@@ -72,7 +72,11 @@ pub fn element(path: Path, index: Constancy) -> Path
     match path {
         Path::Elements(local, length) => match index {
             Constancy::Is(index) => {
-                if index < length { Path::Object(local) } else { Path::Nowhere }
+                if index < length {
+                    Path::Object(local)
+                } else {
+                    Path::Nowhere
+                }
             }
             _ => Path::Nowhere,
         },

@@ -22,8 +22,8 @@ pub marked_turn : {A B : Type 0} (g : B → List ℕ) (f : A → B) (xs : List A
 marked_turn g f xs i x before between after within is passed turn =
     let more : take (i + 1) xs ≡ take i xs ++ x ∷ [] = take_more xs i x within ∙ ap (λ y. take i xs ++ y ∷ []) (sym is) in
     let last : flat_map g (map f (take (i + 1) xs)) ≡ flat_map g (map f (take i xs)) ++ g (f x) =
-        ap (λ ys. flat_map g (map f ys)) more
-        ∙ ap (flat_map g) (map-append f (take i xs) (x ∷ []))
-        ∙ flat_map-append g (map f (take i xs)) (f x ∷ [])
-        ∙ ap (λ ks. flat_map g (map f (take i xs)) ++ ks) (append-nil (g (f x))) in
+    ap (λ ys. flat_map g (map f ys)) more
+    ∙ ap (flat_map g) (map-append f (take i xs) (x ∷ []))
+    ∙ flat_map-append g (map f (take i xs)) (f x ∷ [])
+    ∙ ap (λ ks. flat_map g (map f (take i xs)) ++ ks) (append-nil (g (f x))) in
     marked_two before between after (flat_map g (map f (take i xs))) (g (f x)) passed turn ∙ ap (marked before) (sym last)

@@ -5,7 +5,6 @@ use Rattle.c_ast.specs.declared.operator.UnaryOperator.{UnaryOperator}
 use Rattle.c_ast.specs.declared.operator.BinaryOperator.{BinaryOperator}
 use Rattle.c_ast.specs.declared.operator.AssignOperator.{AssignOperator}
 use Rattle.c_type_base.specs.Laws.Opened.{given_typed}
-use Rattle.c_type_base.specs.declared.ty.Ty.{Ty}
 use Rattle.c_type_base.specs.declared.expr.TExpr.{TExpr}
 use Rattle.c_type_base.specs.declared.expr.TNode.TheVariants as node
 use Rattle.c_type_base.specs.declared.expr.TNode.TheOpen.{TNode-F}

@@ -30,7 +30,7 @@ returns-clause-value c =
     let outers = c.as_slice-3.result.now in
     if_ok c.collect.result (λ ps. ps.items ≡ parts_by s f.params 0 ls found outers) (λ ps. ps.items ≡ spec.parts s f)
     (λ ps is. parts_are s f ls found outers ps.items c.as_slice.ensures (c.as_slice-2.ensures.value ∙ c.in_ok-kinds.ensures)
-        (c.as_slice-3.ensures.value ∙ c.in_ok-outer.ensures) is)
+    (c.as_slice-3.ensures.value ∙ c.in_ok-outer.ensures) is)
     c.collect.ensures
 
 pub returns-clause-positive : goal.returns-clause-positive

@@ -25,15 +25,15 @@ look_at-returns-in-Binary-clause-kinds t c =
     let s = c.args.structs.now in
     rw (c.in-Binary.is, said-binary)
     (marked_two c.args.kinds.now c.spread-first.new.kinds c.spread-second.new.kinds
-        (harmed_in s c.in-Binary.left) (harmed_in s c.in-Binary.right)
-        c.spread-first.ensures.kinds c.spread-second.ensures.kinds)
+    (harmed_in s c.in-Binary.left) (harmed_in s c.in-Binary.right)
+    c.spread-first.ensures.kinds c.spread-second.ensures.kinds)
 
 pub look_at-returns-in-Assign-clause-kinds : goal.look_at-returns-in-Assign-clause-kinds
 look_at-returns-in-Assign-clause-kinds t c =
     let s = c.args.structs.now in
     rw (c.in-Assign.is, said-assign)
     (marked_two c.args.kinds.now c.touch.new.kinds c.spread.new.kinds
-        (touched (uses s c.in-Assign.left)) (harmed_in s c.in-Assign.right) c.touch.ensures.kinds c.spread.ensures.kinds)
+    (touched (uses s c.in-Assign.left)) (harmed_in s c.in-Assign.right) c.touch.ensures.kinds c.spread.ensures.kinds)
 
 pub look_at-returns-in-Cond-clause-kinds : goal.look_at-returns-in-Cond-clause-kinds
 look_at-returns-in-Cond-clause-kinds t c =
@@ -75,4 +75,4 @@ look_at-returns-in-Decay-clause-kinds t c =
     u.harmed (ended u.seen.path (decayed e.ty u.seen.path)) c.look-before-in-Decay.ensures.kinds
     (rw (c.decayed.ensures, c.look-before-in-Decay.ensures.seen) at c.go_on-in-Decay.ensures.kinds)
     ∙ ap (λ t. marked c.args.kinds.now (u.harmed ++ ended u.seen.path (decayed t u.seen.path)))
-        (sym (said-type c.args.structs.now e)))
+    (sym (said-type c.args.structs.now e)))

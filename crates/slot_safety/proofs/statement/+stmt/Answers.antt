@@ -19,7 +19,7 @@ spread_stmt-returns-in-None t c =
     let then = c.in-If.then in
     rw c.in-If.is
     (marked_two c.args.kinds.now c.spread-in-If.new.kinds c.spread_stmt.new.kinds (harmed_in s e) (stmt_harms s then)
-        c.spread-in-If.ensures.kinds (rw c.get.ensures at c.spread_stmt.ensures)
+    c.spread-in-If.ensures.kinds (rw c.get.ensures at c.spread_stmt.ensures)
     ∙ ap (marked c.args.kinds.now) (sym (harms-alone s e then c.in-If.other c.in-None.is)))
 
 pub spread_stmt-returns-in-Some : goal.spread_stmt-returns-in-Some
@@ -30,12 +30,12 @@ spread_stmt-returns-in-Some t c =
     let other = c.in-Some.other in
     rw c.in-If.is
     (marked_two c.args.kinds.now c.spread-in-If.new.kinds c.spread_stmt-in-Some.new.kinds
-        (harmed_in s e) (stmt_harms s then ++ stmt_harms s other)
-        c.spread-in-If.ensures.kinds
-        (marked_two c.spread-in-If.new.kinds c.spread_stmt.new.kinds c.spread_stmt-in-Some.new.kinds
-            (stmt_harms s then) (stmt_harms s other)
-            (rw c.get.ensures at c.spread_stmt.ensures)
-            (rw c.get-in-Some.ensures at c.spread_stmt-in-Some.ensures))
+    (harmed_in s e) (stmt_harms s then ++ stmt_harms s other)
+    c.spread-in-If.ensures.kinds
+    (marked_two c.spread-in-If.new.kinds c.spread_stmt.new.kinds c.spread_stmt-in-Some.new.kinds
+    (stmt_harms s then) (stmt_harms s other)
+    (rw c.get.ensures at c.spread_stmt.ensures)
+    (rw c.get-in-Some.ensures at c.spread_stmt-in-Some.ensures))
     ∙ ap (marked c.args.kinds.now) (sym (harms-either s e then other c.in-If.other c.in-Some.is)))
 
 pub spread_stmt-returns-in-While : goal.spread_stmt-returns-in-While
@@ -43,16 +43,16 @@ spread_stmt-returns-in-While t c =
     let s = c.args.structs.now in
     rw (c.in-While.is, harms-while)
     (marked_two c.args.kinds.now c.spread-in-While.new.kinds c.spread_stmt-in-While.new.kinds
-        (harmed_in s c.in-While.condition) (stmt_harms s c.in-While.body)
-        c.spread-in-While.ensures.kinds (rw c.get-in-While.ensures at c.spread_stmt-in-While.ensures))
+    (harmed_in s c.in-While.condition) (stmt_harms s c.in-While.body)
+    c.spread-in-While.ensures.kinds (rw c.get-in-While.ensures at c.spread_stmt-in-While.ensures))
 
 pub spread_stmt-returns-in-DoWhile : goal.spread_stmt-returns-in-DoWhile
 spread_stmt-returns-in-DoWhile t c =
     let s = c.args.structs.now in
     rw (c.in-DoWhile.is, harms-do)
     (marked_two c.args.kinds.now c.spread_stmt-in-DoWhile.new.kinds c.spread-in-DoWhile.new.kinds
-        (stmt_harms s c.in-DoWhile.body) (harmed_in s c.in-DoWhile.condition)
-        (rw c.get-in-DoWhile.ensures at c.spread_stmt-in-DoWhile.ensures) c.spread-in-DoWhile.ensures.kinds)
+    (stmt_harms s c.in-DoWhile.body) (harmed_in s c.in-DoWhile.condition)
+    (rw c.get-in-DoWhile.ensures at c.spread_stmt-in-DoWhile.ensures) c.spread-in-DoWhile.ensures.kinds)
 
 pub spread_stmt-returns-in-For : goal.spread_stmt-returns-in-For
 spread_stmt-returns-in-For t c =
