@@ -1,0 +1,5 @@
+pub mod NeedTurns
+pub mod ScopeTurns
+pub mod PartTurns
+pub mod SlotTurns
+mod FrameExamples

@@ -1,0 +1,35 @@
+-- What the slots of a function have to hold: its parameters and locals, in order of declaration.
+use Rattle.std.specs.Prelude.{◌≡◌, ℕ, suc, ◌≤◌, Bool, ltb, List, [], ◌∷◌, slice_get, Some}
+use Rattle.c_type_base.specs.declared.typed.StructInfo.{StructInfo}
+use Rattle.c_type_base.specs.declared.typed.LocalInfo.{LocalInfo}
+use Rattle.c_type_base.specs.declared.typed.TFunction.{TFunction}
+use Rattle.c_type_base.specs.Sizes.{size, align, IsObject}
+use Rattle.slot_safety.specs.declared.kind.Kind.{Kind}
+use Rattle.slot_safety.specs.Kinds.{is_tagged, kind_by}
+use Rattle.frame_layout.specs.declared.placed.Part.{Part}
+use Rattle.frame_layout.specs.Scopes.{inner_by, is_inner}
+
+abbrev pub part_of : List StructInfo → LocalInfo → Kind → Bool → Part
+part_of structs l kind inner = record { bytes = size structs l.ty; align = align structs l.ty; kind = kind; inner = inner }
+
+abbrev pub parts_from : List StructInfo → TFunction → ℕ → List LocalInfo → List Part
+parts_from structs f k [] = []
+parts_from structs f k (l ∷ ls) =
+    part_of structs l (kind_by (is_tagged structs f k)) (is_inner f k) ∷ parts_from structs f (suc k) ls
+
+abbrev pub parts : List StructInfo → TFunction → List Part
+parts structs f = parts_from structs f 0 f.locals
+
+-- the same by lists of the kinds and of what the outermost block declares, where the first so many are parameters
+abbrev pub parts_by : List StructInfo → ℕ → ℕ → List LocalInfo → List Kind → List Bool → List Part
+parts_by structs params k (l ∷ ls) (kind ∷ kinds) (outer ∷ outers) =
+    part_of structs l kind (inner_by (ltb k params) outer) ∷ parts_by structs params (suc k) ls kinds outers
+parts_by structs params k _ _ _ = []
+
+-- each stands on multiples of a positive number
+abbrev pub ArePositive : List Part → Type 0
+ArePositive parts = (k : ℕ) (p : Part) → slice_get parts k ≡ Some p → 1 ≤ p.align
+
+-- each has a type that an object may have
+abbrev pub AreObjects : List StructInfo → List LocalInfo → Type 0
+AreObjects structs locals = (k : ℕ) (l : LocalInfo) → slice_get locals k ≡ Some l → IsObject structs l.ty
