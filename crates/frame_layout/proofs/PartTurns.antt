@@ -1,16 +1,17 @@
 -- The loop over the parts of a frame, and what it gives.
-use Rattle.std.proofs.Common.{◌≡◌, refl, ℕ, zero, suc, ◌+◌, ◌<◌, ◌≤◌, Bool, ltb, List, [], ◌∷◌, ◌++◌, length, drop, get_or, Option, Some, None, Result, Ok, Err, ap, sym, ◌∙◌, arith, append_assoc, subst}
+use Rattle.std.proofs.Common.{◌≡◌, refl, ℕ, suc, ◌+◌, ◌<◌, Bool, ltb, List, [], ◌∷◌, ◌++◌, length, drop, get_or}
+use Rattle.std.proofs.Common.{Result, Ok, Err, ap, sym, ◌∙◌, arith, append_assoc, subst}
 use Rattle.std.specs.Prelude.{IfOk}
 use Rattle.c_type_base.specs.declared.typed.StructInfo.{StructInfo}
 use Rattle.c_type_base.specs.declared.typed.LocalInfo.{LocalInfo}
 use Rattle.c_type_base.specs.declared.typed.TFunction.{TFunction}
 use Rattle.c_type_base.specs.Layout.{LaidOut}
-use Rattle.c_type_base.specs.Laws.LayoutLaws.{align-positive}
 use Rattle.slot_safety.specs.declared.kind.Kind.{Kind}
 use Rattle.slot_safety.specs.Kinds.{by_number, kind_by, kinds, is_tagged, harms}
 use Rattle.frame_layout.specs.declared.placed.Part.{Part}
 use Rattle.frame_layout.specs.Scopes.{inner_by, outermost, is_inner, as_told}
 use Rattle.frame_layout.specs.Parts.{part_of, parts, parts_from, parts_by, ArePositive}
+use Rattle.frame_layout.specs.Laws.PartLaws.{parts-positive}
 use Rattle.frame_layout.proofs.NeedTurns.{drop-here}
 
 pub parts_turn : (structs : List StructInfo) (params : ℕ) (ls : List LocalInfo) (kinds : List Kind) (outers : List Bool) (i : ℕ)
@@ -47,16 +48,6 @@ parts_are structs f ls found outers all is1 is2 is3 is =
     ∙ ap (λ found. parts_by structs f.params 0 f.locals found outers) is2
     ∙ ap (λ outers. parts_by structs f.params 0 f.locals (kinds structs f) outers) is3
     ∙ parts-as_defined structs f 0 f.locals
-
-abbrev stands_well : Option Part → Type 0
-stands_well None = Unit {0}
-stands_well (Some p) = 1 ≤ p.align
-
-pub parts-positive : (structs : List StructInfo) → LaidOut structs → (f : TFunction) (k : ℕ) (ls : List LocalInfo) →
-    ArePositive (parts_from structs f k ls)
-parts-positive structs laid f k [] j p is = subst stands_well is tt
-parts-positive structs laid f k (l ∷ ls) zero p is = subst stands_well is (align-positive structs laid l.ty)
-parts-positive structs laid f k (l ∷ ls) (suc j) p is = parts-positive structs laid f (suc k) ls j p is
 
 pub are_positive : (structs : List StructInfo) → LaidOut structs → (f : TFunction) (all : List Part) → all ≡ parts structs f → ArePositive all
 are_positive structs laid f all is = subst ArePositive (sym is) (parts-positive structs laid f 0 f.locals)

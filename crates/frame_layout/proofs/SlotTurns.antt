@@ -1,13 +1,13 @@
 -- The loop over the slots of a frame.
-use Rattle.std.proofs.Common.{◌≡◌, refl, ℕ, zero, suc, ◌+◌, ◌<◌, ◌≤◌, List, [], ◌∷◌, ◌++◌, length, drop, get_or, ap, sym, ◌∙◌, arith, append_assoc, subst, drop-cons, lit≤}
-use Rattle.slot_safety.specs.declared.kind.Kind.TheVariants.{Safe, Tagged}
+use Rattle.std.proofs.Common.{◌≡◌, ℕ, zero, suc, ◌+◌, ◌<◌, ◌≤◌, List, [], ◌∷◌, ◌++◌, length, drop, get_or}
+use Rattle.std.proofs.Common.{ap, sym, ◌∙◌, arith, append_assoc, subst, drop-cons, lit≤}
 use Rattle.frame_layout.specs.declared.placed.Part.{Part}
 use Rattle.frame_layout.specs.declared.frame.Slot.{Slot}
 use Rattle.frame_layout.specs.Frames.{safe_step, safe_end, tagged_step, tagged_end, count_step, slot_of, slots_from, largest_frame}
 use Rattle.frame_layout.specs.Parts.{ArePositive}
+use Rattle.frame_layout.specs.Laws.FrameLaws.{safe_reaches, tagged_reaches}
 use Rattle.c_type_base.specs.Layout.{round_up}
 use Rattle.c_type_base.specs.Laws.LayoutLaws.{round_up-reaches}
-use Rattle.slot_safety.specs.declared.kind.Kind.{Kind}
 use Rattle.std.proofs.lemmas.Option.{slice_get-get_or}
 use Rattle.std.proofs.Math.Nat.{le_trans}
 use Rattle.frame_layout.proofs.NeedTurns.{drop-here}
@@ -45,28 +45,6 @@ positive-drop : (i : ℕ) (ps : List Part) → ArePositive ps → ArePositive (d
 positive-drop zero ps positive = positive
 positive-drop (suc i) [] positive = positive
 positive-drop (suc i) (p ∷ ps) positive = positive-drop i ps (λ k q is. positive (suc k) q is)
-
-safe_goes_on : (place : ℕ) (p : Part) (kind : Kind) → 1 ≤ p.align → place ≤ safe_step place p kind
-safe_goes_on place p Safe positive =
-    let up : place ≤ round_up place p.align = round_up-reaches place p.align positive in
-    omega arith
-safe_goes_on place p Tagged positive = omega arith
-
-pub safe_reaches : (place : ℕ) (ps : List Part) → ArePositive ps → place ≤ safe_end place ps
-safe_reaches place [] positive = omega arith
-safe_reaches place (p ∷ ps) positive =
-    let step : place ≤ safe_step place p p.kind = safe_goes_on place p p.kind (positive 0 p refl) in
-    let rest : safe_step place p p.kind ≤ safe_end (safe_step place p p.kind) ps =
-    safe_reaches (safe_step place p p.kind) ps (λ k q is. positive (suc k) q is) in
-    le_trans step rest
-
-tagged_goes_on : (place : ℕ) (p : Part) (kind : Kind) → place ≤ tagged_step place p kind
-tagged_goes_on place p Safe = omega arith
-tagged_goes_on place p Tagged = omega arith
-
-pub tagged_reaches : (place : ℕ) (ps : List Part) → place ≤ tagged_end place ps
-tagged_reaches place [] = omega arith
-tagged_reaches place (p ∷ ps) = le_trans (tagged_goes_on place p p.kind) (tagged_reaches (tagged_step place p p.kind) ps)
 
 pub safe_fits : (ps : List Part) (i : ℕ) (d : Part) (safe : ℕ) → ArePositive ps → i < length ps →
     safe_end safe (drop i ps) ≤ largest_frame → safe_step safe (get_or ps i d) (get_or ps i d).kind ≤ largest_frame

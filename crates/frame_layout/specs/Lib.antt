@@ -3,6 +3,8 @@ pub mod StatementNeeds
 pub mod Scopes
 pub mod Parts
 pub mod Frames
+pub mod WellFormed
 pub mod Layouts
 pub mod Neighbours
 pub mod Steps
+pub mod Laws
