@@ -5,6 +5,7 @@ ghost use Rattle.c_type_base.specs.Layout.{LaidOut};
 ghost use Rattle.frame_layout.specs.Parts.{ArePositive, AreObjects};
 ghost use Rattle.frame_layout.specs.Frames as spec;
 ghost use Rattle.frame_layout.specs.Layouts.{IsLaid, Refuses};
+ghost use Rattle.frame_layout.specs.WellFormed.{IsWellFormed, HaveBytes};
 
 use crate::ends::{rounded_up, safe_end, tagged_end};
 use crate::frame::{Frame, LayoutRefusal};
@@ -63,6 +64,7 @@ pub fn layout(
     requires laid_out { LaidOut structs.now }
     requires objects { AreObjects structs.now function.now.locals }
     ensures laid { IfOk result (λ frame. IsLaid frame (spec.frame structs.now function.now)) }
+    ensures well_formed { HaveBytes structs.now → IfOk result IsWellFormed }
     ensures refused { IfErr result (Refuses (spec.frame structs.now function.now)) }
 {
     match parts(alloc, function, structs) {

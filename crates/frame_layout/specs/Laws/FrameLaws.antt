@@ -1,22 +1,17 @@
--- What a frame promises: its slots stand within it and apart, each on multiples of its alignment, and it is well formed.
-use Rattle.std.proofs.Common.{◌≡◌, refl, sym, ◌∙◌, ap, subst, ℕ, zero, suc, ◌+◌, ◌*◌, ◌/◌, ◌%◌, ◌<◌, ◌≤◌, List, [], ◌∷◌, length, take}
+-- What slots promise, from places on: they stand apart, each on multiples of its alignment, and the tagged ones without gaps.
+use Rattle.std.proofs.Common.{◌≡◌, refl, sym, ◌∙◌, ap, subst, ℕ, zero, suc, ◌+◌, ◌%◌, ◌<◌, ◌≤◌, List, [], ◌∷◌, length, take}
 use Rattle.std.proofs.Common.{slice_get, Some, arith, lit≤}
 use Rattle.std.proofs.Math.Nat.{le_trans}
-use Rattle.c_type_base.specs.declared.typed.StructInfo.{StructInfo}
-use Rattle.c_type_base.specs.declared.typed.TFunction.{TFunction}
-use Rattle.c_type_base.specs.Layout.{round_up, LaidOut}
+use Rattle.c_type_base.specs.Layout.{round_up}
 use Rattle.c_type_base.specs.Laws.LayoutLaws.{round_up-reaches, round_up-multiple}
 use Rattle.slot_safety.specs.declared.kind.Kind.{Kind}
 use Rattle.slot_safety.specs.declared.kind.Kind.TheVariants.{Safe, Tagged}
 use Rattle.frame_layout.specs.declared.placed.Part.{Part}
 use Rattle.frame_layout.specs.declared.frame.Slot.{Slot}
-use Rattle.frame_layout.specs.declared.frame.Frame.{Frame}
-use Rattle.frame_layout.specs.Parts.{parts, ArePositive, AreObjects}
-use Rattle.frame_layout.specs.StatementNeeds.{stmt_need}
+use Rattle.frame_layout.specs.Parts.{ArePositive}
 use Rattle.frame_layout.specs.Frames.{safe_step, safe_end, tagged_step, tagged_end, count_step, slot_of, slots_from}
-use Rattle.frame_layout.specs.Frames.{first_safe, first_tagged, frame_by, frame, largest_frame}
-use Rattle.frame_layout.specs.WellFormed.{tagged_slots, Fill, IsTaggedWell, IsWellFormed, HaveBytes}
-use Rattle.frame_layout.specs.Laws.PartLaws.{AreSome, parts-positive, parts-some}
+use Rattle.frame_layout.specs.WellFormed.{tagged_slots, Fill, IsTaggedWell}
+use Rattle.frame_layout.specs.Laws.PartLaws.{AreSome}
 
 -- ---- where slots end
 
@@ -76,11 +71,25 @@ slots-fill safe tagged count (p ∷ ps) =
 below_fifteen : (n : ℕ) → n % 15 < 15
 below_fifteen n = omega arith
 
+some_here : (safe tagged count : ℕ) (p : Part) (kind : Kind) → 1 ≤ p.bytes → 1 ≤ (slot_of safe tagged count p kind).bytes
+some_here safe tagged count p Safe some = some
+some_here safe tagged count p Tagged some = le_trans some (round_up-reaches p.bytes 16 (lit≤ tt))
+
+-- each slot has at least one byte
+pub slots-some : (safe tagged count : ℕ) (ps : List Part) → AreSome ps → (k : ℕ) (s : Slot) →
+    slice_get (slots_from safe tagged count ps) k ≡ Some s → 1 ≤ s.bytes
+slots-some safe tagged count [] some k s is = cc
+slots-some safe tagged count (p ∷ ps) some zero s is =
+    let same : slot_of safe tagged count p p.kind ≡ s = cc in
+    subst (λ s. 1 ≤ s.bytes) same (some_here safe tagged count p p.kind (some 0 p refl))
+slots-some safe tagged count (p ∷ ps) some (suc k) s is =
+    slots-some (safe_step safe p p.kind) (tagged_step tagged p p.kind) (count_step count p.kind) ps (λ j q at. some (suc j) q at) k s is
+
 tagged_well_here : (safe tagged count : ℕ) (p : Part) (kind : Kind) → 1 ≤ p.bytes → (slot_of safe tagged count p kind).kind ≡ Tagged →
     IsTaggedWell (slot_of safe tagged count p kind)
 tagged_well_here safe tagged count p Safe some is = cc
 tagged_well_here safe tagged count p Tagged some is = record {
-  some = le_trans some (round_up-reaches p.bytes 16 (lit≤ tt));
+  some = some_here safe tagged count p Tagged some;
   whole = round_up-multiple p.bytes 16;
   index = below_fifteen count;
 }
@@ -224,3 +233,19 @@ safe-aligned safe tagged count (q ∷ ps) zero p s there is safely =
     (sym (ap (λ s. s.start % q.align) same) ∙ aligned_here safe tagged count q q.kind (ap (λ s. s.kind) same ∙ safely))
 safe-aligned safe tagged count (q ∷ ps) (suc k) p s there is safely =
     safe-aligned (safe_step safe q q.kind) (tagged_step tagged q q.kind) (count_step count q.kind) ps k p s there is safely
+
+granule_here : (safe tagged count : ℕ) (p : Part) (kind : Kind) → tagged % 16 ≡ 0 → (slot_of safe tagged count p kind).kind ≡ Tagged →
+    (slot_of safe tagged count p kind).start % 16 ≡ 0
+granule_here safe tagged count p Safe whole is = cc
+granule_here safe tagged count p Tagged whole is = whole
+
+-- a tagged slot starts on a granule
+pub tagged-aligned : (safe tagged count : ℕ) (ps : List Part) → tagged % 16 ≡ 0 → (k : ℕ) (s : Slot) →
+    slice_get (slots_from safe tagged count ps) k ≡ Some s → s.kind ≡ Tagged → s.start % 16 ≡ 0
+tagged-aligned safe tagged count [] whole k s is tag = cc
+tagged-aligned safe tagged count (p ∷ ps) whole zero s is tag =
+    let same : slot_of safe tagged count p p.kind ≡ s = cc in
+    sym (ap (λ s. s.start % 16) same) ∙ granule_here safe tagged count p p.kind whole (ap (λ s. s.kind) same ∙ tag)
+tagged-aligned safe tagged count (p ∷ ps) whole (suc k) s is tag =
+    tagged-aligned (safe_step safe p p.kind) (tagged_step tagged p p.kind) (count_step count p.kind) ps
+    (tagged-step_whole tagged p p.kind whole) k s is tag

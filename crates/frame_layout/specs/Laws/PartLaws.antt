@@ -1,5 +1,5 @@
 -- What the parts of a frame are promised: each has at least one byte, and stands on multiples of a positive number.
-use Rattle.std.proofs.Common.{◌≡◌, refl, sym, ◌∙◌, subst, ℕ, zero, suc, ◌+◌, ◌*◌, ◌≤◌, Bool, true, false, ◌&&◌, List, [], ◌∷◌}
+use Rattle.std.proofs.Common.{◌≡◌, refl, sym, ◌∙◌, subst, ℕ, zero, suc, ◌*◌, ◌≤◌, Bool, true, false, ◌&&◌, List, [], ◌∷◌}
 use Rattle.std.proofs.Common.{slice_get, Option, Some, None, arith, lit≤}
 use Rattle.std.specs.Prelude.{ltb}
 use Rattle.c_type_base.specs.Laws.Opened.{given_types}
