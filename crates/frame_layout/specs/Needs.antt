@@ -8,9 +8,13 @@ use Rattle.c_type_base.specs.declared.expr.TNode.{TNode}
 use Rattle.c_type_base.specs.declared.expr.TNode.TheOpen.{TNode-F, TExpr-F}
 use Rattle.c_type_base.specs.declared.expr.TNode.TheFolds.{fold-TNode, fold-TExpr}
 
+-- the greatest number of 64 bits
+abbrev pub greatest : ℕ
+greatest = 18446744073709551615
+
 -- the sum, as far as 64 bits hold it
 abbrev pub capped_sum : ℕ → ℕ → ℕ
-capped_sum a b = min (a + b) 18446744073709551615
+capped_sum a b = min (a + b) greatest
 
 -- the first value waits while the second part is evaluated
 abbrev pub waiting : ℕ → ℕ → ℕ
@@ -31,6 +35,7 @@ arguments_from waits (a ∷ more) = max (capped_sum a waits) (arguments_from (ca
 abbrev pub arguments : List ℕ → ℕ
 arguments needs = max (length needs) (arguments_from 0 needs)
 
+-- the words that a node needs, by those that its parts need
 abbrev pub need_step : TNode-F ℕ ℕ → ℕ
 need_step (TNode-F.Constant n t) = 0
 need_step (TNode-F.Text number) = 0

@@ -2,6 +2,7 @@
 
 ghost use Rattle.std.specs.Prelude.{◌≡◌, ◌≤◌, min, IfOk, IfErr};
 ghost use Rattle.c_type_base.specs.Layout.{LaidOut};
+ghost use Rattle.frame_layout.specs.Needs.{greatest};
 ghost use Rattle.frame_layout.specs.Parts.{ArePositive, AreObjects};
 ghost use Rattle.frame_layout.specs.Frames as spec;
 ghost use Rattle.frame_layout.specs.Layouts.{IsLaid, Refuses};
@@ -20,12 +21,12 @@ const LARGEST_FRAME: u128 = 262144;
 
 /// A count, or the greatest number where it is more.
 fn told(count: u128) -> u64
-    ensures { result ≡ min count 18446744073709551615 }
+    ensures { result ≡ min count greatest }
 {
-    if count < 18446744073709551615 {
+    if count < u64::MAX as u128 {
         count as u64
     } else {
-        18446744073709551615
+        u64::MAX
     }
 }
 
