@@ -10,12 +10,9 @@ use Rattle.slot_safety.specs.declared.kind.Kind.{Kind}
 use Rattle.slot_safety.specs.Kinds.{by_number, kind_by, kinds, is_tagged, harms}
 use Rattle.frame_layout.specs.declared.placed.Part.{Part}
 use Rattle.frame_layout.specs.Scopes.{inner_by, outermost, is_inner, as_told}
-use Rattle.frame_layout.specs.Parts.{Setting, part_of, parts, parts_from, parts_by, ArePositive}
+use Rattle.frame_layout.specs.Parts.{setting, part_of, parts, parts_from, parts_by, ArePositive}
 use Rattle.frame_layout.specs.Laws.PartLaws.{parts-positive}
 use Rattle.frame_layout.proofs.NeedTurns.{drop-here}
-
-abbrev setting : List StructInfo → ℕ → Setting
-setting structs params = record { structs = structs; params = params }
 
 pub parts_turn : (structs : List StructInfo) (params : ℕ) (ls : List LocalInfo) (kinds : List Kind) (outers : List Bool) (i : ℕ)
     (l : LocalInfo) (kind : Kind) (outer : Bool) (before after all : List Part) → i < length ls → i < length kinds → i < length outers →
@@ -56,7 +53,8 @@ parts_are structs f ls found outers all is1 is2 is3 is =
     ∙ ap (λ outers. parts_by given 0 f.locals (kinds structs f) outers) is3
     ∙ parts-as_defined structs f 0 f.locals
 
-pub are_positive : (structs : List StructInfo) → LaidOut structs → (f : TFunction) (all : List Part) → all ≡ parts structs f → ArePositive all
+pub are_positive : (structs : List StructInfo) → LaidOut structs → (f : TFunction) (all : List Part) → all ≡ parts structs f →
+    ArePositive all
 are_positive structs laid f all is = subst ArePositive (sym is) (parts-positive structs laid f 0 f.locals)
 
 pub if_ok : {A E : Type 0} (r : Result A E) (P Q : A → Type 0) → ((a : A) → P a → Q a) → IfOk r P → IfOk r Q

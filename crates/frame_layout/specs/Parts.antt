@@ -28,6 +28,9 @@ pub record Setting : Type 0 where
   pub structs : List StructInfo
   pub params : ℕ
 
+abbrev pub setting : List StructInfo → ℕ → Setting
+setting structs params = record { structs = structs; params = params }
+
 -- the same by lists of the kinds and of what the outermost block declares
 abbrev pub parts_by : Setting → ℕ → List LocalInfo → List Kind → List Bool → List Part
 parts_by given k (l ∷ ls) (kind ∷ kinds) (outer ∷ outers) =

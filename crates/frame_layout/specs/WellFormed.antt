@@ -31,8 +31,8 @@ pub record IsTaggedWell (s : Slot) : Type 0 where
   pub whole : s.bytes % 16 ≡ 0
   pub index : s.index < 15
 
--- The bytes are a multiple of 16 from 32 to the most. The tagged slots fill the frame without gaps from a multiple of 16 that is at least 32
--- to its end. Each safe slot starts below its end.
+-- The bytes are a multiple of 16 from 32 to the most. The tagged slots fill the frame without gaps from a multiple of 16 that is at least
+-- 32 to its end. Each safe slot starts below its end.
 pub record IsWellFormed (f : Frame) : Type 0 where
   pub whole : f.bytes % 16 ≡ 0
   pub least : 32 ≤ f.bytes
@@ -46,4 +46,5 @@ pub record IsWellFormed (f : Frame) : Type 0 where
 
 -- each struct of a table that has members has bytes, as each that the types of members make (ISO C11 6.2.6.1 and 6.7.2.1)
 abbrev pub HaveBytes : List StructInfo → Type 0
-HaveBytes structs = (number : ℕ) (info : StructInfo) → slice_get structs number ≡ Some info → IsTrue (has_members info.members) → 1 ≤ info.bytes
+HaveBytes structs =
+    (number : ℕ) (info : StructInfo) → slice_get structs number ≡ Some info → IsTrue (has_members info.members) → 1 ≤ info.bytes

@@ -47,7 +47,7 @@ fn collect(
     requires kinds { length kinds.now ≡ length locals.now }
     requires outer { length outer.now ≡ length locals.now }
     requires objects { spec.AreObjects structs.now locals.now }
-    ensures { IfOk result (λ parts. parts.items ≡ spec.parts_by (record { structs = structs.now; params = params }) 0 locals.now kinds.now outer.now) }
+    ensures { IfOk result (λ parts. parts.items ≡ spec.parts_by (spec.setting structs.now params) 0 locals.now kinds.now outer.now) }
 {
     let mut parts = Vec::new(alloc);
     for (number, local) in locals.iter().enumerate() {

@@ -20,6 +20,7 @@ harms structs f = stmt_harms structs f.body
 abbrev pub is_tagged : List StructInfo → TFunction → ℕ → Bool
 is_tagged structs f k = among k (harms structs f)
 
+-- the kind of one that is tagged, or not
 abbrev pub kind_by : Bool → Kind
 kind_by true = Tagged
 kind_by false = Safe

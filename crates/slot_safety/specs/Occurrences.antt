@@ -37,6 +37,7 @@ pub record Found : Type 0 where
 abbrev pub NodeUses : Type 0
 NodeUses = Ty → Found
 
+-- a node of which this is known, whatever the type of its expression
 abbrev pub uses_of : Constancy → Path → List ℕ → NodeUses
 uses_of constant path harmed t = record { seen = record { constant = constant; path = path }; harmed = harmed }
 
@@ -56,6 +57,7 @@ touched e = e.harmed ++ misused e.ty e.seen.path
 abbrev pub steps_to : Uses → List ℕ → Path → NodeUses
 steps_to e harmed path = uses_of Varies path (e.harmed ++ (harmed ++ ended e.seen.path path))
 
+-- what is said of a node, by what is said of its parts
 abbrev pub node_step : List StructInfo → TNode-F NodeUses Uses → NodeUses
 node_step structs (TNode-F.Constant n t) = computes (Is n) []
 node_step structs (TNode-F.Text number) = computes Varies []

@@ -8,8 +8,12 @@ use crate::statement::spread_stmt;
 use c_type_base::{StructInfo, TFunction};
 use std::alloc::{AllocError, Global};
 
-/// The kind of each parameter and local, in order. Some have to be tagged: those with an occurrence
-/// that may leave them, or let their address go.
+/// The kind of each parameter and local, in order. Those are tagged with an occurrence that is not
+/// harmless: one whose address is taken or let go, that an index may leave, or that is no scalar and
+/// read or written whole. Nothing below `sizeof` is an occurrence.
+///
+/// # Errors
+/// Want of memory alone.
 pub fn classify(
     alloc: Global,
     function: &TFunction,

@@ -101,7 +101,8 @@ tagged-well safe tagged count (p ∷ ps) some zero s is tag =
     let same : slot_of safe tagged count p p.kind ≡ s = cc in
     subst IsTaggedWell same (tagged_well_here safe tagged count p p.kind (some 0 p refl) (ap (λ s. s.kind) same ∙ tag))
 tagged-well safe tagged count (p ∷ ps) some (suc k) s is tag =
-    tagged-well (safe_step safe p p.kind) (tagged_step tagged p p.kind) (count_step count p.kind) ps (λ j q at. some (suc j) q at) k s is tag
+    tagged-well (safe_step safe p p.kind) (tagged_step tagged p p.kind) (count_step count p.kind) ps
+    (λ j q at. some (suc j) q at) k s is tag
 
 -- the index of each tagged slot is the number of those before it, modulo 15
 index_here : (safe tagged count : ℕ) (p : Part) (kind : Kind) → (slot_of safe tagged count p kind).kind ≡ Tagged →
@@ -169,7 +170,8 @@ slots-stand safe tagged count (p ∷ ps) positive zero s is =
 slots-stand safe tagged count (p ∷ ps) positive (suc k) s is =
     stands_wider (safe_step safe p p.kind) safe (safe_end safe (p ∷ ps)) (tagged_step tagged p p.kind) tagged (tagged_end tagged (p ∷ ps))
     s s.kind (safe_goes_on safe p p.kind (positive 0 p refl)) (tagged_goes_on tagged p p.kind)
-    (slots-stand (safe_step safe p p.kind) (tagged_step tagged p p.kind) (count_step count p.kind) ps (λ j q at. positive (suc j) q at) k s is)
+    (slots-stand (safe_step safe p p.kind) (tagged_step tagged p p.kind) (count_step count p.kind) ps
+    (λ j q at. positive (suc j) q at) k s is)
 
 -- a slot has a byte at this place of the frame
 pub record Has (s : Slot) (place : ℕ) : Type 0 where
@@ -200,7 +202,8 @@ apart-behind safe tagged count p ps positive first k s t place same is one two =
     (slots-stand (safe_step safe p p.kind) (tagged_step tagged p p.kind) (count_step count p.kind) ps others k t is)
 
 -- no byte is of two slots
-pub slots-apart : (safe tagged count : ℕ) (ps : List Part) → ArePositive ps → safe_end safe ps ≤ tagged → (j k : ℕ) (s t : Slot) (place : ℕ) →
+pub slots-apart : (safe tagged count : ℕ) (ps : List Part) → ArePositive ps → safe_end safe ps ≤ tagged →
+    (j k : ℕ) (s t : Slot) (place : ℕ) →
     slice_get (slots_from safe tagged count ps) j ≡ Some s → slice_get (slots_from safe tagged count ps) k ≡ Some t →
     Has s place → Has t place → j ≡ k
 slots-apart safe tagged count [] positive first j k s t place is1 is2 one two = cc

@@ -1,7 +1,7 @@
 use Rattle.std.proofs.Common.{◌≡◌, ap, sym, ◌∙◌, length}
 use Rattle.slot_safety.specs.Kinds.{kind_by, harms}
 use Rattle.slot_safety.specs.Laws.NumberLaws.{length-by_number}
-use Rattle.frame_layout.specs.Parts.{parts_by, ArePositive}
+use Rattle.frame_layout.specs.Parts.{setting, parts_by, ArePositive}
 use Rattle.frame_layout.specs.Parts as spec
 use Rattle.frame_layout.specs.Scopes.{as_told, outermost}
 use Rattle.frame_layout.proofs.PartTurns.{if_ok, parts_are, are_positive}
@@ -28,7 +28,7 @@ returns-clause-value c =
     let ls = c.as_slice.result.now in
     let found = c.as_slice-2.result.now in
     let outers = c.as_slice-3.result.now in
-    if_ok c.collect.result (λ ps. ps.items ≡ parts_by (record { structs = s; params = f.params }) 0 ls found outers) (λ ps. ps.items ≡ spec.parts s f)
+    if_ok c.collect.result (λ ps. ps.items ≡ parts_by (setting s f.params) 0 ls found outers) (λ ps. ps.items ≡ spec.parts s f)
     (λ ps is. parts_are s f ls found outers ps.items c.as_slice.ensures (c.as_slice-2.ensures.value ∙ c.in_ok-kinds.ensures)
     (c.as_slice-3.ensures.value ∙ c.in_ok-outer.ensures) is)
     c.collect.ensures
