@@ -4,3 +4,4 @@ pub mod PartTurns
 pub mod SlotTurns
 pub mod WholeFrames
 mod FrameExamples
+mod NeedExamples
