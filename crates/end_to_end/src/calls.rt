@@ -51,14 +51,25 @@ pub fn call(
     words: &[&str],
     mute: bool,
 ) -> Result<String, AllocError> {
+    let owned = owned(alloc, words)?;
     let mut failing = Vec::new(alloc);
     if mute {
         failing.push(0)?;
     }
+    let mut input = MemSource::new(Vec::new(alloc), Vec::new(alloc));
     let mut out = MemSink::new(alloc, 100, Vec::new(alloc))?;
     let mut err = MemSink::new(alloc, 100, failing)?;
-    let ended = ended(alloc, files, words, &mut out, &mut err)?;
+    let ended = drive(alloc, &owned, files, &mut input, &mut out, &mut err);
     shown(alloc, ended, out.taken(), err.taken())
+}
+
+/// The words in memory of their own.
+fn owned(alloc: Global, words: &[&str]) -> Result<Vec<String>, AllocError> {
+    let mut owned = Vec::new(alloc);
+    for word in words {
+        owned.push(String::from_str(alloc, word)?)?;
+    }
+    Ok(owned)
 }
 
 /// How a call with these words ends, whose input is empty.
@@ -69,10 +80,7 @@ pub fn ended(
     out: &mut MemSink,
     err: &mut MemSink,
 ) -> Result<Ended, AllocError> {
-    let mut owned = Vec::new(alloc);
-    for word in words {
-        owned.push(String::from_str(alloc, word)?)?;
-    }
+    let owned = owned(alloc, words)?;
     let mut input = MemSource::new(Vec::new(alloc), Vec::new(alloc));
     Ok(drive(alloc, &owned, files, &mut input, out, err))
 }
