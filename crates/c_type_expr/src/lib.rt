@@ -3,6 +3,7 @@
 
 mod address;
 mod fault;
+mod judged;
 mod length;
 mod parts;
 mod rows;
@@ -11,6 +12,7 @@ mod type_rows;
 mod walk;
 
 pub use fault::Fault;
+pub use judged::{array_length, expression, judged_value, written};
 pub use length::{computes, length_known};
 pub use parts::whole_on;
 pub use rows::call::{copy_signature, copy_types};
