@@ -61,6 +61,10 @@ pub node_ok : {E : Type 0} {P : Option Known → Type 0} (span : Span) (n m : No
 node_ok span n m w w' r is ok next =
     subst (λ (x : Node). IfOk r (λ k. Walked (expression (expr span x)).judged w w' k)) (sym is) (then_ok r ok next)
 
+pub node_at : (span : Span) (n m : Node) (w w' : Walk) (k : Option Known) → n ≡ m → Walked (expression (expr span m)).judged w w' k →
+    Walked (expression (expr span n)).judged w w' k
+node_at span n m w w' k is walked = subst (λ (x : Node). Walked (expression (expr span x)).judged w w' k) (sym is) walked
+
 pub type_ok : {E : Type 0} {P : Option Written → Type 0} (span : Span) (t u : CType) (w w' : Walk) (r : Result (Option Written) E) → t ≡ u →
     IfOk r P → ((k : Option Written) → P k → Walked (written u span) w w' k) → IfOk r (λ k. Walked (written t span) w w' k)
 type_ok span t u w w' r is ok next =
@@ -127,31 +131,32 @@ arm_arrow span e name w w1 w2 a k first next =
 
 -- ---- expressions of several parts
 
-pub arm_binary : (span : Span) (o : BinaryOperator) (x y : Expr) (w w1 w2 : Walk) (p : Option (Known × Known)) (k : Option Known) →
-    Walked (both (expression x).judged (expression y).judged) w w1 p → Followed (binary_values o span) p w1 w2 k →
-    Walked (expression (expr span (node.Binary o x y))).judged w w2 k
-arm_binary span o x y w w1 w2 p k first next =
-    by_row _ (both (expression x).judged (expression y).judged) (binary_values o span) w w1 w2 p k (judged-binary span o x y) first next
+pub arm_binary : (span : Span) (o : BinaryOperator) (x y : Expr) (w w1 w2 w3 : Walk) (a b k : Option Known) →
+    Walked (expression x).judged w w1 a → Walked (expression y).judged w1 w2 b → Followed (binary_values o span) (pair a b) w2 w3 k →
+    Walked (expression (expr span (node.Binary o x y))).judged w w3 k
+arm_binary span o x y w w1 w2 w3 a b k first second next =
+    by_two _ (expression x).judged (expression y).judged (binary_values o span) w w1 w2 w3 a b k (judged-binary span o x y) first second next
 
-pub arm_assign : (span : Span) (o : Option AssignOperator) (x y : Expr) (w w1 w2 : Walk) (p : Option (Known × Known)) (k : Option Known) →
-    Walked (both (expression x).judged (expression y).judged) w w1 p → Followed (λ (x, y). assign_row o span x y) p w1 w2 k →
-    Walked (expression (expr span (node.Assign o x y))).judged w w2 k
-arm_assign span o x y w w1 w2 p k first next =
-    by_row _ (both (expression x).judged (expression y).judged) (λ (x, y). assign_row o span x y) w w1 w2 p k (judged-assign span o x y)
-    first next
+pub arm_assign : (span : Span) (o : Option AssignOperator) (x y : Expr) (w w1 w2 w3 : Walk) (a b k : Option Known) →
+    Walked (expression x).judged w w1 a → Walked (expression y).judged w1 w2 b →
+    Followed (λ (x, y). assign_row o span x y) (pair a b) w2 w3 k → Walked (expression (expr span (node.Assign o x y))).judged w w3 k
+arm_assign span o x y w w1 w2 w3 a b k first second next =
+    by_two _ (expression x).judged (expression y).judged (λ (x, y). assign_row o span x y) w w1 w2 w3 a b k (judged-assign span o x y)
+    first second next
 
-pub arm_index : (span : Span) (x i : Expr) (w w1 w2 : Walk) (p : Option (Known × Known)) (k : Option Known) →
-    Walked (both (expression x).judged (expression i).judged) w w1 p → Followed (λ (x, y). index_of span x y) p w1 w2 k →
-    Walked (expression (expr span (node.Index x i))).judged w w2 k
-arm_index span x i w w1 w2 p k first next =
-    by_row _ (both (expression x).judged (expression i).judged) (λ (x, y). index_of span x y) w w1 w2 p k (judged-index span x i) first next
+pub arm_index : (span : Span) (x i : Expr) (w w1 w2 w3 : Walk) (a b k : Option Known) →
+    Walked (expression x).judged w w1 a → Walked (expression i).judged w1 w2 b →
+    Followed (λ (x, y). index_of span x y) (pair a b) w2 w3 k → Walked (expression (expr span (node.Index x i))).judged w w3 k
+arm_index span x i w w1 w2 w3 a b k first second next =
+    by_two _ (expression x).judged (expression i).judged (λ (x, y). index_of span x y) w w1 w2 w3 a b k (judged-index span x i)
+    first second next
 
-pub arm_cond : (span : Span) (c x y : Expr) (w w1 w2 w3 : Walk) (a : Option Known) (p : Option (Known × Known)) (k : Option Known) →
-    Walked (expression c).judged w w1 a → Walked (both (expression x).judged (expression y).judged) w1 w2 p →
-    Followed (cond_values span) (pair a p) w2 w3 k → Walked (expression (expr span (node.Cond c x y))).judged w w3 k
-arm_cond span c x y w w1 w2 w3 a p k first second next =
-    by_two _ (expression c).judged (both (expression x).judged (expression y).judged) (cond_values span) w w1 w2 w3 a p k
-    (judged-cond span c x y) first second next
+pub arm_cond : (span : Span) (c x y : Expr) (w w1 w2 w3 w4 : Walk) (d a b k : Option Known) → Walked (expression c).judged w w1 d →
+    Walked (expression x).judged w1 w2 a → Walked (expression y).judged w2 w3 b → Followed (cond_values span) (pair d (pair a b)) w3 w4 k →
+    Walked (expression (expr span (node.Cond c x y))).judged w w4 k
+arm_cond span c x y w w1 w2 w3 w4 d a b k first second third next =
+    by_two _ (expression c).judged (both (expression x).judged (expression y).judged) (cond_values span) w w1 w3 w4 d (pair a b) k
+    (judged-cond span c x y) first (walked_both (expression x).judged (expression y).judged w1 w2 w3 a b second third) next
 
 pub arm_cast : (span : Span) (t : CType) (e : Expr) (w w1 w2 w3 : Walk) (a : Option Ty) (b k : Option Known) →
     Walked (on (written t span) (whole span)) w w1 a → Walked (expression e).judged w1 w2 b →
@@ -168,23 +173,25 @@ arm_sizeof_name span t w w1 w2 a k first next =
 
 -- ---- calls
 
-pub arm_call : (span : Span) (f : Expr) (es : List Expr) (w w1 w2 : Walk) (ks : Option (List Known)) (k : Option Known)
-    (c : Option Called) (called : Called) → c ≡ function_in (meaning_by (expression f).name (env_of w)) → c ≡ Some called →
-    Walked (each (map argument (map expression es))) w w1 ks → Followed (call_by span called) ks w1 w2 k →
+pub arm_call : (span : Span) (f : Expr) (es fs : List Expr) (w w1 w2 : Walk) (ks : Option (List Known)) (k : Option Known)
+    (c : Option Called) (called : Called) → fs ≡ es → c ≡ function_in (meaning_by (expression f).name (env_of w)) → c ≡ Some called →
+    Walked (each (map argument (map expression fs))) w w1 ks → Followed (call_by span called) ks w1 w2 k →
     Walked (expression (expr span (node.Call f es))).judged w w2 k
-arm_call span f es w w1 w2 ks k c called is some first next =
+arm_call span f es fs w w1 w2 ks k c called same is some first next =
+    let listed = subst (λ (xs : List Expr). Walked (each (map argument (map expression xs))) w w1 ks) same first in
     walked_as _ _ w w2 k (judged-call span f es)
     (call_named (expression f) (map expression es) span w w2 k called (sym is ∙ some)
-    (walked_followed (each (map argument (map expression es))) (call_by span called) w w1 w2 ks k first next))
+    (walked_followed (each (map argument (map expression es))) (call_by span called) w w1 w2 ks k listed next))
 
-pub arm_not_called : (span : Span) (f : Expr) (es : List Expr) (w w1 w2 w3 : Walk) (a : Option Known) (ks : Option (List Known))
-    (k : Option Known) (c : Option Called) → c ≡ function_in (meaning_by (expression f).name (env_of w)) → c ≡ None →
-    Walked (expression f).judged w w1 a → Walked (each (map argument (map expression es))) w1 w2 ks →
+pub arm_not_called : (span : Span) (f : Expr) (es fs : List Expr) (w w1 w2 w3 : Walk) (a : Option Known) (ks : Option (List Known))
+    (k : Option Known) (c : Option Called) → fs ≡ es → c ≡ function_in (meaning_by (expression f).name (env_of w)) → c ≡ None →
+    Walked (expression f).judged w w1 a → Walked (each (map argument (map expression fs))) w1 w2 ks →
     Followed (not_called_by span) (pair a ks) w2 w3 k → Walked (expression (expr span (node.Call f es))).judged w w3 k
-arm_not_called span f es w w1 w2 w3 a ks k c is none first second next =
+arm_not_called span f es fs w w1 w2 w3 a ks k c same is none first second next =
+    let listed = subst (λ (xs : List Expr). Walked (each (map argument (map expression xs))) w1 w2 ks) same second in
     walked_as _ _ w w3 k (judged-call span f es)
     (call_other (expression f) (map expression es) span w w3 k (sym is ∙ none)
-    (by_two _ (expression f).judged (each (map argument (map expression es))) (not_called_by span) w w1 w2 w3 a ks k refl first second next))
+    (by_two _ (expression f).judged (each (map argument (map expression es))) (not_called_by span) w w1 w2 w3 a ks k refl first listed next))
 
 -- ---- values
 

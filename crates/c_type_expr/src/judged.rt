@@ -2,9 +2,8 @@
 
 ghost use Rattle.std.specs.Prelude.{◌≡◌, IfOk, map};
 ghost use Rattle.c_ast.specs.Tree.{expr};
-ghost use Rattle.c_ast.specs.declared.expr.Node.TheVariants as node;
 ghost use Rattle.c_type_expr.specs.Expressions as spec;
-ghost use Rattle.c_type_expr.specs.Outcomes.{both, each, on, pair};
+ghost use Rattle.c_type_expr.specs.Outcomes.{each, on};
 ghost use Rattle.c_type_expr.specs.Postfix.{argument};
 ghost use Rattle.c_type_expr.specs.Said as said;
 ghost use Rattle.c_type_expr.specs.Sorted.{listed_items};
@@ -45,7 +44,7 @@ pub fn judged_value(walk: &mut Walk, alloc: Global, e: &Expr) -> Result<Option<K
 
 /// What an expression is, by its outermost operator.
 #[cycle(expression)]
-#[tactic(auto, using(crate::proofs::ArmLaws::arm_constant, crate::proofs::ArmLaws::arm_text, crate::proofs::ArmLaws::arm_variable, crate::proofs::ArmLaws::arm_paren, crate::proofs::ArmLaws::arm_binary, crate::proofs::ArmLaws::arm_sizeof, crate::proofs::ArmLaws::arm_sizeof_name))]
+#[tactic(auto, using(crate::proofs::ArmLaws::arm_constant, crate::proofs::ArmLaws::arm_text, crate::proofs::ArmLaws::arm_variable, crate::proofs::ArmLaws::arm_paren, crate::proofs::ArmLaws::arm_sizeof, crate::proofs::ArmLaws::arm_sizeof_name))]
 fn node(walk: &mut Walk, alloc: Global, span: Span, n: &Node) -> Result<Option<Known>, AllocError>
     ensures { IfOk result (λ k. Walked (spec.expression (expr span n.now)).judged walk.old walk.new k) }
 {
@@ -62,15 +61,26 @@ fn node(walk: &mut Walk, alloc: Global, span: Span, n: &Node) -> Result<Option<K
             unary_on(walk, alloc, *operator, span, e)
         }
         Node::Binary(operator, a, b) => {
-            let (a, b) = two(walk, alloc, a, b)?;
+            let a = expression(walk, alloc, a)?;
+            let b = expression(walk, alloc, b)?;
             binary_on(walk, alloc, *operator, span, a, b)
         }
         Node::Assign(operator, a, b) => {
-            let (a, b) = two(walk, alloc, a, b)?;
+            let a = expression(walk, alloc, a)?;
+            let b = expression(walk, alloc, b)?;
             assign_on(walk, alloc, *operator, span, a, b)
         }
-        Node::Cond(c, a, b) => conditional(walk, alloc, span, c, a, b),
-        Node::Cast(t, e) => cast(walk, alloc, span, t, e),
+        Node::Cond(c, a, b) => {
+            let c = expression(walk, alloc, c)?;
+            let a = expression(walk, alloc, a)?;
+            let b = expression(walk, alloc, b)?;
+            cond_on(walk, alloc, span, c, a, b)
+        }
+        Node::Cast(t, e) => {
+            let t = type_name(walk, alloc, t, span)?;
+            let e = expression(walk, alloc, e)?;
+            cast_on(walk, alloc, span, t, e)
+        }
         Node::SizeofExpr(e) => {
             let e = expression(walk, alloc, e)?;
             sizeof_on(walk, alloc, span, e)
@@ -79,9 +89,23 @@ fn node(walk: &mut Walk, alloc: Global, span: Span, n: &Node) -> Result<Option<K
             let t = type_name(walk, alloc, t, span)?;
             sizeof_type_on(walk, alloc, span, t)
         }
-        Node::Call(function, arguments) => call(walk, alloc, span, function, arguments.as_slice()),
+        Node::Call(function, arguments) => {
+            let listed = arguments.as_slice();
+            match function_named(walk, alloc, function)? {
+                Some(called) => {
+                    let arguments = values(walk, alloc, listed)?;
+                    call_on(walk, alloc, span, called, arguments)
+                }
+                None => {
+                    let function = expression(walk, alloc, function)?;
+                    let arguments = values(walk, alloc, listed)?;
+                    Ok(not_called(walk, span, function, arguments))
+                }
+            }
+        }
         Node::Index(a, i) => {
-            let (a, i) = two(walk, alloc, a, i)?;
+            let a = expression(walk, alloc, a)?;
+            let i = expression(walk, alloc, i)?;
             index_on(walk, alloc, span, a, i)
         }
         Node::Member(e, name) => {
@@ -99,81 +123,9 @@ fn node(walk: &mut Walk, alloc: Global, span: Span, n: &Node) -> Result<Option<K
     }
 }
 
-/// Two operands, the left one first.
-#[cycle(expression)]
-fn two(
-    walk: &mut Walk,
-    alloc: Global,
-    a: &Expr,
-    b: &Expr,
-) -> Result<(Option<Known>, Option<Known>), AllocError>
-    ensures { IfOk result (λ r. Walked (both (spec.expression a.now).judged (spec.expression b.now).judged) walk.old walk.new (pair r.0 r.1)) }
-{
-    let a = expression(walk, alloc, a)?;
-    let b = expression(walk, alloc, b)?;
-    Ok((a, b))
-}
-
-/// `c ? a : b`
-#[cycle(expression)]
-fn conditional(
-    walk: &mut Walk,
-    alloc: Global,
-    span: Span,
-    c: &Expr,
-    a: &Expr,
-    b: &Expr,
-) -> Result<Option<Known>, AllocError>
-    ensures { IfOk result (λ k. Walked (spec.expression (expr span (node.Cond c.now a.now b.now))).judged walk.old walk.new k) }
-{
-    let c = expression(walk, alloc, c)?;
-    let (a, b) = two(walk, alloc, a, b)?;
-    cond_on(walk, alloc, span, c, a, b)
-}
-
-/// `( type ) e`
-#[cycle(expression)]
-fn cast(
-    walk: &mut Walk,
-    alloc: Global,
-    span: Span,
-    t: &CType,
-    e: &Expr,
-) -> Result<Option<Known>, AllocError>
-    ensures { IfOk result (λ k. Walked (spec.expression (expr span (node.Cast t.now e.now))).judged walk.old walk.new k) }
-{
-    let t = type_name(walk, alloc, t, span)?;
-    let e = expression(walk, alloc, e)?;
-    cast_on(walk, alloc, span, t, e)
-}
-
-/// A call of a function's name, or of something else.
-#[cycle(expression)]
-fn call(
-    walk: &mut Walk,
-    alloc: Global,
-    span: Span,
-    function: &Expr,
-    arguments: &[Expr],
-) -> Result<Option<Known>, AllocError>
-    ensures { IfOk result (λ k. Walked (spec.expression (expr span (node.Call function.now arguments.now))).judged walk.old walk.new k) }
-{
-    match function_named(walk, alloc, function)? {
-        Some(called) => {
-            let arguments = values(walk, alloc, arguments)?;
-            call_on(walk, alloc, span, called, arguments)
-        }
-        None => {
-            let function = expression(walk, alloc, function)?;
-            let arguments = values(walk, alloc, arguments)?;
-            Ok(not_called(walk, span, function, arguments))
-        }
-    }
-}
-
 /// The values of arguments, if all are known.
 #[cycle(expression)]
-#[tactic(auto, using(crate::proofs::ArmLaws::arm_no_argument, crate::proofs::ArmLaws::arm_next_argument, crate::proofs::ArmLaws::arm_arguments))]
+#[tactic(auto, using(crate::proofs::ArmLaws::arm_no_argument))]
 fn values(
     walk: &mut Walk,
     alloc: Global,
@@ -205,7 +157,7 @@ fn type_name(
 
 /// What is judged of the type of a construct. The error is want of memory.
 #[cycle(expression)]
-#[tactic(auto, using(crate::proofs::ArmLaws::arm_void, crate::proofs::ArmLaws::arm_int, crate::proofs::ArmLaws::arm_struct, crate::proofs::ArmLaws::arm_open, crate::proofs::ArmLaws::arm_array))]
+#[tactic(auto, using(crate::proofs::ArmLaws::arm_void, crate::proofs::ArmLaws::arm_int, crate::proofs::ArmLaws::arm_struct))]
 pub fn written(
     walk: &mut Walk,
     alloc: Global,
@@ -222,15 +174,17 @@ pub fn written(
             let t = written(walk, alloc, t.get(), span)?;
             pointer_on(walk, alloc, span, t)
         }
-        CType::Array(t, None) => {
-            let t = written(walk, alloc, t.get(), span)?;
-            open_on(walk, alloc, span, t)
-        }
-        CType::Array(t, Some(length)) => {
-            let length = array_length(walk, alloc, length)?;
-            let t = written(walk, alloc, t.get(), span)?;
-            array_on(walk, alloc, span, length, t)
-        }
+        CType::Array(t, length) => match length {
+            None => {
+                let t = written(walk, alloc, t.get(), span)?;
+                open_on(walk, alloc, span, t)
+            }
+            Some(length) => {
+                let length = array_length(walk, alloc, length)?;
+                let t = written(walk, alloc, t.get(), span)?;
+                array_on(walk, alloc, span, length, t)
+            }
+        },
     }
 }
 
