@@ -18,5 +18,5 @@ pub use parts::whole_on;
 pub use rows::call::{copy_signature, copy_types};
 pub use rows::leaf::text_bytes;
 pub use scopes::{Binding, Called, Meaning, Place, Scopes, Signature};
-pub use type_rows::{struct_tag, tag_number};
+pub use type_rows::{struct_tag, tag_number, whole};
 pub use walk::Walk;
