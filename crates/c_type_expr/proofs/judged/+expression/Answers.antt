@@ -77,22 +77,22 @@ written-returns-in_ok-t-in-Some t c =
     type_ok c.args.span _ (ctype.Array c.get-in-Some.result.now (Some c.in-Some.length)) _ _ c.array_on.result
     (c.in-Array.is ∙ (λ i. ctype.Array (sym c.get-in-Some.ensures i) (c.in-Some.is i)))
     c.array_on.ensures (λ k next.
-    arm_array c.args.span c.get-in-Some.result.now c.in-Some.length _ _ _ _ c.in_ok-length.length c.in_ok-t-in-Some.t k
-    c.in_ok-length.ensures c.in_ok-t-in-Some.ensures next)
+    arm_array c.args.span c.get-in-Some.result.now c.in-Some.length _ _ _ _ c.in_ok-length-in-Some.length c.in_ok-t-in-Some.t k
+    c.in_ok-length-in-Some.ensures c.in_ok-t-in-Some.ensures next)
 
 pub node-returns-in_ok-arguments-in-Some : goal.node-returns-in_ok-arguments-in-Some
 node-returns-in_ok-arguments-in-Some t c =
     node_ok c.args.span _ (node.Call c.in-Call.function c.in-Call.arguments) _ _ c.call_on.result c.in-Call.is c.call_on.ensures (λ k next.
     arm_call c.args.span c.in-Call.function c.in-Call.arguments c.as_slice-listed.result.now _ _ _
-    (listed_items c.in_ok-arguments-in-Some.arguments) k c.in_ok-called.field-0 c.in-Some.called c.as_slice-listed.ensures
-    c.in_ok-called.ensures c.in-Some.is c.in_ok-arguments-in-Some.ensures next)
+    (listed_items c.in_ok-arguments-in-Some.arguments) k c.in_ok-called-in-Call.field-0 c.in-Some.called c.as_slice-listed.ensures
+    c.in_ok-called-in-Call.ensures c.in-Some.is c.in_ok-arguments-in-Some.ensures next)
 
 pub node-returns-in_ok-arguments-in-None : goal.node-returns-in_ok-arguments-in-None
 node-returns-in_ok-arguments-in-None t c =
     node_at c.args.span _ (node.Call c.in-Call.function c.in-Call.arguments) _ _ _ c.in-Call.is
     (arm_not_called c.args.span c.in-Call.function c.in-Call.arguments c.as_slice-listed.result.now _ _ _ _
-    c.in_ok-function-in-None.function (listed_items c.in_ok-arguments-in-None.arguments) c.not_called.result c.in_ok-called.field-0
-    c.as_slice-listed.ensures c.in_ok-called.ensures c.in-None.is c.in_ok-function-in-None.ensures c.in_ok-arguments-in-None.ensures
+    c.in_ok-function-in-None.function (listed_items c.in_ok-arguments-in-None.arguments) c.not_called.result c.in_ok-called-in-Call.field-0
+    c.as_slice-listed.ensures c.in_ok-called-in-Call.ensures c.in-None.is c.in_ok-function-in-None.ensures c.in_ok-arguments-in-None.ensures
     c.not_called.ensures)
 
 pub values-loop-argument-preserved : goal.values-loop-argument-preserved
