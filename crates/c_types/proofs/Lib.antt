@@ -13,3 +13,6 @@ pub mod RowLaws
 pub mod CallLaws
 pub mod ScopeLaws
 pub mod ArmLaws
+pub mod PartLaws
+pub mod DeclarationLaws
+pub mod StatementLaws

@@ -18,7 +18,8 @@ use Rattle.c_types.specs.Outcomes.{Judged, sure, not_known, on, behind, joined}
 use Rattle.c_types.specs.declared.known.Written.{Written}
 use Rattle.c_types.specs.declared.known.Written.TheVariants.{Whole, Open}
 use Rattle.c_types.specs.Expressions.{written}
-use Rattle.c_types.specs.Initials.{InitSaid, Fitted, initialiser, tree_of}
+use Rattle.c_types.specs.declared.fitted.Fitted.{Fitted}
+use Rattle.c_types.specs.Initials.{InitSaid, initialiser, tree_of}
 
 abbrev pub option_map : {A B : Type 0} → (A → B) → Option A → Option B
 option_map f None = None

@@ -20,6 +20,7 @@ use Rattle.c_types.specs.declared.typed.InitPiece.{InitPiece}
 use Rattle.c_types.specs.declared.typed.InitValue.{InitValue}
 use Rattle.c_types.specs.declared.typed.InitValue.TheVariants as initial_value
 use Rattle.c_types.specs.declared.typed.Target.{Target}
+use Rattle.c_types.specs.declared.fitted.Fitted.{Fitted}
 use Rattle.c_types.specs.Sizes.{int_bytes, size, is_complete}
 use Rattle.c_types.specs.Layout.{members_of, first_scalar}
 use Rattle.c_types.specs.Types.{TyLayer, same_int, is_char_type, is_array, is_struct, is_there}
@@ -34,11 +35,6 @@ use Rattle.c_types.specs.Known.{value, converted, is_null, is_value, assignable}
 use Rattle.c_types.specs.Operators.{breaks}
 use Rattle.c_types.specs.Said.{Said}
 use Rattle.c_types.specs.Expressions.{expression}
-
--- what an initialiser is in the typed program, and the bytes with which an object of the whole run begins
-pub record Fitted : Type 0 where
-  pub tree : TInit
-  pub pieces : List InitPiece
 
 -- what is said of an initialiser
 pub record InitSaid : Type 0 where
@@ -59,8 +55,9 @@ pub record InitSaid : Type 0 where
 abbrev pub piece : ℕ → InitValue → InitPiece
 piece offset v = record { offset = offset; value = v }
 
+-- Offsets are modulo 2^64, as in addresses that are known before the run: no object has a place that far.
 abbrev pub moved_piece : ℕ → InitPiece → InitPiece
-moved_piece by p = record p { offset = p.offset + by }
+moved_piece by p = record p { offset = (p.offset + by) % 2 ^ 64 }
 
 -- a number below 2^64 as a signed one
 abbrev pub as_signed : ℕ → ℤ

@@ -24,6 +24,8 @@ pub mod Names
 pub mod Scoping
 pub mod Least
 pub mod Walked
+pub mod Locals
+pub mod Made
 pub mod Parts
 pub mod Sorted
 pub mod Laws
