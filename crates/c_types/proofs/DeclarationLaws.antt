@@ -1,7 +1,8 @@
 -- Declarations of locals are walked part by part.
-use Rattle.std.proofs.Common.{◌≡◌, refl, sym, ◌∙◌, ap, ℕ, Bool, List, [], ◌∷◌, ◌++◌, length, Option, Some, None, append-nil}
-use Rattle.std.specs.Prelude.{if◌then◌else◌}
+use Rattle.std.proofs.Common.{◌≡◌, refl, sym, ◌∙◌, ap, ℕ, Bool, false, List, [], ◌∷◌, ◌++◌, length, Option, Some, None, append-nil}
+use Rattle.std.specs.Prelude.{leb, if◌then◌else◌}
 use Rattle.c_ast.specs.declared.declaration.Decl.{Decl}
+use Rattle.c_ast.specs.declared.token.Span.{Span}
 use Rattle.c_types.specs.declared.fitted.Fitted.{Fitted}
 use Rattle.c_types.specs.declared.known.Written.{Written}
 use Rattle.c_types.specs.declared.scopes.Meaning.TheVariants as means
@@ -16,10 +17,11 @@ use Rattle.c_types.specs.Faults.{Rule, rule, broken, all_kept}
 use Rattle.c_types.specs.Locals.{declares_object}
 use Rattle.c_types.specs.Outcomes.{Judged, behind, joined}
 use Rattle.c_types.specs.Scoping.{with_binding}
+use Rattle.c_types.specs.Sizes.{is_complete, size, largest}
 use Rattle.c_types.specs.Walked.{env_of, blamed, passed_by, Walked}
 use Rattle.c_types.proofs.EachLaws.{as_known}
 use Rattle.c_types.proofs.PartLaws.{walked_made, walked_given}
-use Rattle.c_types.proofs.WalkedLaws.{judged_next, after_two}
+use Rattle.c_types.proofs.WalkedLaws.{blamed_twice, judged_next, after_two}
 
 -- ---- the type of an object
 
@@ -35,6 +37,14 @@ type_walked d w w' k written_as t is first made =
     (as_known _ w w' k (Some written_as) is first) (ap Some made)
 
 -- ---- a local
+
+pub typed_asked : (w w1 w2 : Walk) (span : Span) (new complete small : Bool) (t : Ty) → w1 ≡ blamed w (broken span (rule 10 new ∷ [])) →
+    w2 ≡ blamed w1 (broken span (rule 15 complete ∷ rule 17 small ∷ [])) → complete ≡ is_complete w.structs t →
+    small ≡ leb (size w.structs t) largest → w2 ≡ blamed w (broken span (rule 10 new ∷ object_rules w.structs (Some t)))
+typed_asked w w1 w2 span new complete small t first second whole fits =
+    second ∙ ap (λ (x : Walk). blamed x (broken span (rule 15 complete ∷ rule 17 small ∷ []))) first
+    ∙ blamed_twice w span 10 new (rule 15 complete ∷ rule 17 small ∷ [])
+    ∙ (λ i. blamed w (broken span (rule 10 new ∷ rule 15 (whole i) ∷ rule 17 (fits i) ∷ [])))
 
 -- the rules on an object in a block
 abbrev rules_at : Walk → Decl → Option Ty → List Rule

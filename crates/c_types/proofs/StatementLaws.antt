@@ -188,3 +188,12 @@ pub item-statement : (s : Stmt) (w w' : Walk) (t : Option TStmt) (k : Option TIt
     k ≡ option_map (λ t. titem.Stmt t) t → Walked (item_judged (item.Stmt s)) w w' k
 item-statement s w w' t k inside made =
     walked_as _ _ w w' k (judged-statement s) (walked_made _ (λ t. titem.Stmt t) w w' t k inside made)
+
+-- ---- rows of declarations, and of parts
+
+abbrev pub locals_judged : List Decl → Judged (List TDecl)
+locals_judged ds = each (map local ds)
+
+pub all_walked : {X A : Type 0} (f : X → Judged A) (xs : List X) (i : ℕ) (w w' : Walk) (as' : Option (List A)) → length xs ≤ i →
+    Walked (each (map f (take i xs))) w w' as' → Walked (each (map f xs)) w w' as'
+all_walked f xs i w w' as' over walked = subst (λ (ys : List _). Walked (each (map f ys)) w w' as') (take_all i xs over) walked

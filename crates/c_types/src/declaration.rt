@@ -1,6 +1,7 @@
 //! Declarations of objects in blocks, and the type that a declaration gives its object (C11 6.7).
 
-ghost use Rattle.std.specs.Prelude.{◌≡◌, ◌∷◌, ◌++◌, length, IfOk, OnOk, None, option_copied, if◌then◌else◌};
+ghost use Rattle.std.specs.Prelude.{◌≡◌, ◌∷◌, ◌++◌, ◌&&◌, leb, length, IfOk, OnOk, None, Some, option_copied, if◌then◌else◌};
+ghost use Rattle.std.specs.Str.{bytes_eq};
 ghost use Rattle.c_types.specs.declared.scopes.Meaning.TheVariants as means;
 ghost use Rattle.c_types.specs.declared.scopes.Place.TheVariants as place;
 ghost use Rattle.c_types.specs.Declarations as spec;
@@ -11,6 +12,7 @@ ghost use Rattle.c_types.specs.Faults.{rule, broken, all_kept};
 ghost use Rattle.c_types.specs.Initials.{initialiser};
 ghost use Rattle.c_types.specs.Locals.{declares_object};
 ghost use Rattle.c_types.specs.Scoping.{with_binding};
+ghost use Rattle.c_types.specs.Sizes.{size, largest};
 ghost use Rattle.c_types.specs.Walked.{Walked, env_of, blamed};
 
 use crate::expression::written;
@@ -22,7 +24,7 @@ use crate::scopes::{Binding, Meaning, Place};
 use crate::size::capped_size;
 use crate::statement::TDecl;
 use crate::ty::Ty;
-use crate::typed::LocalInfo;
+use crate::typed::{LocalInfo, StructInfo};
 use crate::walk::Walk;
 use c_ast::{Decl, Expr, Init, Name, Node, Span};
 use sqlite_items::Boxed;
@@ -41,7 +43,7 @@ pub fn declared_type(walk: &mut Walk, alloc: Global, d: &Decl) -> Result<Option<
 
 /// The type of an object, by its initialiser where the length of an array is left out.
 fn object_type(alloc: Global, init: Option<&Init>, t: Written) -> Result<Ty, AllocError>
-    ensures { IfOk result (λ made. made ≡ spec.object_type (option_map initialiser (option_copied init)) t) }
+    ensures { IfOk result (λ made. made ≡ spec.object_type (option_map initialiser (option_copied init.entry)) t) }
 {
     match t {
         Written::Whole(t) => Ok(t),
@@ -54,7 +56,7 @@ fn object_type(alloc: Global, init: Option<&Init>, t: Written) -> Result<Ty, All
 
 /// The length that an initialiser gives an array.
 fn given_length(element: &Ty, init: Option<&Init>) -> Option<u64>
-    ensures { result ≡ spec.given_length element.now (option_map initialiser (option_copied init)) }
+    ensures { result ≡ spec.given_length element.now (option_map initialiser (option_copied init.entry)) }
 {
     match init {
         None => None,
@@ -93,26 +95,45 @@ pub fn is_new(walk: &Walk, name: &[u8]) -> bool
 pub fn is_free(stdio: bool, name: &[u8]) -> bool
     ensures { result ≡ spec.no (stdio && bytes_eq name.now spec.eof_name) }
 {
-    !(stdio && name == b"EOF")
+    !(stdio && name == b"EOF".as_slice())
+}
+
+/// Whether a type has at most so many bytes as one may have.
+pub fn is_small(t: &Ty, structs: &[StructInfo]) -> bool
+    ensures { result ≡ leb (size structs.now t.now) largest }
+{
+    capped_size(t, structs) <= 16777216
 }
 
 /// Asks whether a name is new, and whether an object may have the type. Whether both are so.
 pub fn ask_object(walk: &mut Walk, span: Span, new: bool, t: Option<&Ty>) -> bool
-    ensures kept { result ≡ all_kept (rule 10 new ∷ object_rules walk.old.structs (option_copied t)) }
-    ensures blames { walk.new ≡ blamed walk.old (broken span (rule 10 new ∷ object_rules walk.old.structs (option_copied t))) }
+    ensures kept { result ≡ all_kept (rule 10 new ∷ object_rules walk.old.structs (option_copied t.entry)) }
+    ensures blames { walk.new ≡ blamed walk.old (broken span (rule 10 new ∷ object_rules walk.old.structs (option_copied t.entry))) }
 {
-    walk.ask(span, 10, new);
-    let Some(t) = t else {
-        return new;
-    };
+    match t {
+        None => {
+            walk.ask(span, 10, new);
+            new
+        }
+        Some(t) => ask_typed(walk, span, new, t),
+    }
+}
+
+/// The same where the type is known.
+#[tactic(auto, using(crate::proofs::WalkedLaws::blamed_twice))]
+fn ask_typed(walk: &mut Walk, span: Span, new: bool, t: &Ty) -> bool
+    ensures kept { result ≡ all_kept (rule 10 new ∷ object_rules walk.old.structs (Some t.now)) }
+    ensures blames { walk.new ≡ blamed walk.old (broken span (rule 10 new ∷ object_rules walk.old.structs (Some t.now))) }
+{
     let complete = is_complete(t, walk.structs.as_slice());
-    let small = capped_size(t, walk.structs.as_slice()) <= 16777216;
+    let small = is_small(t, walk.structs.as_slice());
+    walk.ask(span, 10, new);
     walk.ask_both(span, 15, complete, 17, small);
     new && complete && small
 }
 
 fn copy_known(alloc: Global, t: Option<&Ty>) -> Result<Option<Ty>, AllocError>
-    ensures { IfOk result (λ copied. copied ≡ option_copied t) }
+    ensures { IfOk result (λ copied. copied ≡ option_copied t.entry) }
 {
     match t {
         None => Ok(None),
@@ -131,8 +152,8 @@ pub fn bind_local(
 ) -> Result<(), AllocError>
     ensures {
         OnOk result (walk.new ≡ record walk.old {
-            scopes = with_binding walk.old.scopes (binds name.now (means.Object (place.Local number) (option_copied t)));
-            locals = walk.old.locals ++ local_info name.now span (option_copied t);
+            scopes = with_binding walk.old.scopes (binds name.now (means.Object (place.Local number) (option_copied t.entry)));
+            locals = walk.old.locals ++ local_info name.now span (option_copied t.entry);
         })
     }
 {
@@ -156,7 +177,7 @@ fn declare_local(
     t: Option<&Ty>,
 ) -> Result<bool, AllocError>
     requires { number ≡ length walk.old.locals }
-    ensures { IfOk result (λ kept. Walked (declares_object d.now (option_copied t)) walk.old walk.new (if kept then option_copied t else None)) }
+    ensures { IfOk result (λ kept. Walked (declares_object d.now (option_copied t.entry)) walk.old walk.new (if kept then option_copied t.entry else None)) }
 {
     let new = is_new(walk, d.name.as_slice());
     let kept = ask_object(walk, d.span, new, t);
@@ -172,7 +193,7 @@ fn made_local(
     t: Option<&Ty>,
     init: Option<Option<Fitted>>,
 ) -> Option<TDecl>
-    ensures { result ≡ spec.tdecl number span (if kept then option_copied t else None) init }
+    ensures { result ≡ spec.tdecl number span (if kept then option_copied t.entry else None) init }
 {
     let Some(init) = init else {
         return None;

@@ -20,7 +20,7 @@ pub fn initialised(
     t: Option<&Ty>,
     init: Option<&Init>,
 ) -> Result<Option<Option<Fitted>>, AllocError>
-    ensures { IfOk result (λ f. Walked (spec.initialised from_start (option_copied t) (option_map initialiser (option_copied init))) _walk.old _walk.new f) }
+    ensures { IfOk result (λ f. Walked (spec.initialised from_start (option_copied t.entry) (option_map initialiser (option_copied init.entry))) _walk.old _walk.new f) }
 {
     Err(AllocError)
 }

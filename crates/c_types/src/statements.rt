@@ -4,7 +4,7 @@ ghost use Rattle.std.specs.Prelude.{◌≡◌, IfOk, map};
 ghost use Rattle.c_types.specs.Declarations.{option_map, local};
 ghost use Rattle.c_types.specs.Expressions.{judged_value};
 ghost use Rattle.c_types.specs.Laws.SaidLaws.{item_judged};
-ghost use Rattle.c_types.specs.Made.{block_made, if_made, while_made, do_made, for_made, expression_row, for_inside};
+ghost use Rattle.c_types.specs.Made.{block_made, if_made, while_made, do_made, for_made, expression_row};
 ghost use Rattle.c_types.specs.Outcomes.{each, on, perhaps, present};
 ghost use Rattle.c_types.specs.Sorted.{with_known};
 ghost use Rattle.c_types.specs.Statements as spec;
@@ -328,9 +328,13 @@ pub fn statement(walk: &mut Walk, alloc: Global, s: &Stmt) -> Result<Option<TStm
         }
         Stmt::For(decls, first, e, next, body) => {
             walk.scopes.open(alloc)?;
-            let made = for_inside(walk, alloc, decls.as_slice(), first, e, next, body)?;
+            let declared = locals(walk, alloc, decls.as_slice())?;
+            let first = optional_effect(walk, alloc, first)?;
+            let e = optional_condition(walk, alloc, e)?;
+            let next = optional_effect(walk, alloc, next)?;
+            let body = boxed(walk, alloc, body)?;
             walk.scopes.close(alloc);
-            Ok(made)
+            Ok(made_for(declared, first, e, next, body))
         }
         Stmt::Return(e, span) => return_statement(walk, alloc, *span, e),
         Stmt::Break(span) => Ok(Some(TStmt::Break(*span))),
@@ -350,27 +354,6 @@ fn boxed(
         None => Ok(None),
         Some(made) => Ok(Some(Boxed::new(alloc, made)?)),
     }
-}
-
-/// The parts of a `for`, in a scope of their own.
-#[cycle(statement)]
-fn for_inside(
-    walk: &mut Walk,
-    alloc: Global,
-    decls: &[Decl],
-    first: &Option<Expr>,
-    condition: &Option<Expr>,
-    next: &Option<Expr>,
-    body: &Boxed<Stmt>,
-) -> Result<Option<TStmt>, AllocError>
-    ensures { IfOk result (λ t. Walked (for_inside decls.now first.now condition.now next.now (spec.statement body.now).judged) walk.old walk.new t) }
-{
-    let declared = locals(walk, alloc, decls)?;
-    let first = optional_effect(walk, alloc, first)?;
-    let condition = optional_condition(walk, alloc, condition)?;
-    let next = optional_effect(walk, alloc, next)?;
-    let body = boxed(walk, alloc, body)?;
-    Ok(made_for(declared, first, condition, next, body))
 }
 
 /// The parts of a block.
