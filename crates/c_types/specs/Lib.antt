@@ -26,6 +26,7 @@ pub mod Least
 pub mod Walked
 pub mod Locals
 pub mod Made
+pub mod Slots
 pub mod Parts
 pub mod Sorted
 pub mod Laws
