@@ -1,6 +1,7 @@
 -- Initialisers are walked part by part.
-use Rattle.std.proofs.Common.{◌≡◌, refl, sym, ◌∙◌, ap, subst, ℕ, ◌+◌, ◌<◌, ◌≤◌, drop, drop-cons, Bool, true, false, ◌&&◌, List, [], ◌∷◌, ◌++◌, map, take, get_or, length, Option, Some, None, append_assoc, append-nil}
+use Rattle.std.proofs.Common.{◌≡◌, refl, sym, ◌∙◌, ap, subst, ℕ, ◌+◌, ◌<◌, ◌≤◌, ◌-◌, arith, drop, drop-cons, length-drop, Bool, true, false, ◌&&◌, List, [], ◌∷◌, ◌++◌, map, take, get_or, length, Option, Some, None, append_assoc, append-nil}
 use Rattle.std.specs.Prelude.{if◌then◌else◌}
+use Rattle.std.proofs.lemmas.List.{take_all}
 use Rattle.c_ast.specs.declared.declaration.Init.{Init}
 use Rattle.c_ast.specs.declared.declaration.Init.TheVariants as init
 use Rattle.c_ast.specs.declared.expr.Expr.{Expr}
@@ -216,3 +217,14 @@ pub spare_at : (inits : List Init) (d : Init) (w w1 w2 w3 : Walk) (b c : Bool) �
 spare_at inits d w w1 w2 w3 b c below first asked rest =
     subst (λ (is : List Init). Spare (map initialiser is) w w3) (sym (drop-cons inits 0 d below))
     (spare_walked (initialiser (get_or inits 0 d)) (map initialiser (drop 1 inits)) w w1 w2 w3 b c first asked rest)
+
+all_behind : (inits : List Init) → take (length inits - 1) (drop 1 inits) ≡ drop 1 inits
+all_behind inits = take_all (length inits - 1) (drop 1 inits) (grind (arith, length-drop))
+
+pub spare_behind : (inits : List Init) (d : Init) (w w1 w2 w3 : Walk) (b c : Bool) → 1 ≤ length inits →
+    Passes (loose_by (get_or inits 0 d)) w w1 b →
+    w2 ≡ blamed w1 (broken (initialiser (get_or inits 0 d)).span (rule 16 false ∷ [])) →
+    Passes (all_loose (take (length inits - 1) (drop 1 inits))) w2 w3 c → Spare (map initialiser inits) w w3
+spare_behind inits d w w1 w2 w3 b c below first asked rest =
+    spare_at inits d w w1 w2 w3 b c below first asked
+    (subst (λ (is : List Init). Passes (all_loose is) w2 w3 c) (all_behind inits) rest)

@@ -23,3 +23,4 @@ pub mod ExpressionInitialLaws
 pub mod PlaceLaws
 pub mod FitLaws
 pub mod BraceLaws
+pub mod ScalarLaws

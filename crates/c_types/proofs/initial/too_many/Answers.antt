@@ -1,7 +1,7 @@
-use Rattle.c_types.proofs.InitialLaws.{spare_at}
+use Rattle.c_types.proofs.InitialLaws.{spare_behind}
 use Rattle.c_types.proofs.initial.too_many.Goals as goal
 
 pub returns : goal.returns
 returns c =
-    spare_at c.args.inits.now c.first-item.result _ _ _ _ _ _ c.in-len1-up.len_at_least (rw (← c.first-item.is) c.in_ok-loose.ensures)
+    spare_behind c.args.inits.now c.first-item.result _ _ _ _ _ _ c.in-len1-up.len_at_least (rw (← c.first-item.is) c.in_ok-loose.ensures)
     (rw (← c.first-item.is, ← c.span_of.ensures) c.ask.ensures) c.in_ok-loose_all.ensures

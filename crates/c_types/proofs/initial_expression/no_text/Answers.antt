@@ -1,5 +1,8 @@
-use Rattle.c_types.proofs.ExpressionInitialLaws.{no_text_known}
+use Rattle.c_types.proofs.ExpressionInitialLaws.{no_text_unknown, no_text_known}
 use Rattle.c_types.proofs.initial_expression.no_text.Goals as goal
+
+pub returns-in-None : goal.returns-in-None
+returns-in-None c = no_text_unknown c.args.e.now _ _ _ _ c.in-None.is c.in_ok-expression.ensures c.ask.ensures
 
 pub returns-in-Some : goal.returns-in-Some
 returns-in-Some c =
