@@ -1,6 +1,6 @@
 -- The loop over the initialisers of a list.
-use Rattle.std.proofs.Common.{◌≡◌, refl, sym, ◌∙◌, ap, subst, ℕ, ◌+◌, ◌<◌, ◌≤◌, Bool, List, [], ◌∷◌, map, drop, get_or, length, Option, Some, None, drop-cons, add-one}
-use Rattle.std.proofs.lemmas.List.{drop_all}
+use Rattle.std.proofs.Common.{◌≡◌, refl, sym, ◌∙◌, ap, subst, ℕ, ◌+◌, ◌<◌, ◌≤◌, Bool, List, [], ◌∷◌, map, drop, get_or, length, Option, Some, None, drop-cons, add-one, arith, take, ◌-◌, length-drop}
+use Rattle.std.proofs.lemmas.List.{drop_all, take_all}
 use Rattle.c_ast.specs.declared.declaration.Init.{Init}
 use Rattle.c_types.specs.declared.fitted.Fitted.{Fitted}
 use Rattle.c_types.specs.declared.initial.Slot.{Slot}
@@ -68,3 +68,21 @@ fit_end from_start t inits k w w' so_far over stands =
     (goes_last (slots_at w.structs t) from_start (map initialiser inits) k w w' so_far
     (subst (λ (is : List Init). Goes (slots_at w.structs t) from_start (map initialiser inits) k (map initialiser is) w w' so_far)
     (drop_all k inits over) stands))
+
+all_from : (inits : List Init) (k : ℕ) → take (length inits - k) (drop k inits) ≡ drop k inits
+all_from inits k = take_all (length inits - k) (drop k inits) (grind (arith, length-drop))
+
+past_by : (from_start : Bool) (t : Ty) (inits : List Init) (k : ℕ) (w w' w1 : Walk) (so_far : Option (List Fitted)) →
+    k < length inits → w'.structs ≡ w.structs → Stands from_start t inits k w w' so_far → None ≡ slots_at w'.structs t k →
+    Spare (map initialiser (drop k inits)) w' w1 → Walked (fits_all from_start t (map initialiser inits)) w w1 None
+past_by from_start t [] k w w' w1 so_far below same stands place over = absurd (omega (arith, below))
+past_by from_start t (i ∷ is) k w w' w1 so_far below same stands place over =
+    fit_over from_start t (i ∷ is) k i w w' w1 so_far below same stands place over
+
+pub fit_past : (from_start : Bool) (t : Ty) (inits : List Init) (k : ℕ) (w w' w1 : Walk) (so_far : Option (List Fitted)) →
+    k < length inits → w'.structs ≡ w.structs → Stands from_start t inits k w w' so_far → None ≡ slots_at w'.structs t k →
+    Spare (map initialiser (take (length inits - k) (drop k inits))) w' w1 →
+    Walked (fits_all from_start t (map initialiser inits)) w w1 None
+fit_past from_start t inits k w w' w1 so_far below same stands place over =
+    past_by from_start t inits k w w' w1 so_far below same stands place
+    (subst (λ (is : List Init). Spare (map initialiser is) w' w1) (all_from inits k) over)
