@@ -1,5 +1,5 @@
 -- An expression as an initialiser is walked as an expression, and then by its row.
-use Rattle.std.proofs.Common.{◌≡◌, refl, sym, ◌∙◌, ap, subst, ℕ, ◌+◌, arith, Bool, false, List, [], ◌∷◌, ◌++◌, length, length-append, Option, Some, None}
+use Rattle.std.proofs.Common.{◌≡◌, refl, sym, ◌∙◌, ap, subst, ℕ, ◌+◌, arith, Bool, true, false, List, [], ◌∷◌, ◌++◌, length, length-append, Option, Some, None}
 use Rattle.std.specs.Prelude.{leb}
 use Rattle.std.proofs.lemmas.Bool.Decides.{nat_tests}
 use Rattle.c_ast.specs.Laws.Opened.{given_trees}
@@ -13,7 +13,7 @@ use Rattle.c_types.specs.declared.ty.Ty.{Ty, out-Ty}
 use Rattle.c_types.specs.declared.walk.Walk.{Walk}
 use Rattle.c_types.specs.Expressions.{expression, node_step, expr_step}
 use Rattle.c_types.specs.Faults.{rule, broken}
-use Rattle.c_types.specs.Initials.{spelled, may_fit, assigned}
+use Rattle.c_types.specs.Initials.{spelled, may_fit, assigned, array_by}
 use Rattle.c_types.specs.Known.{value, is_value}
 use Rattle.c_types.specs.Operators.{breaks}
 use Rattle.c_types.specs.Outcomes.{Judged, asked}
@@ -78,3 +78,28 @@ scalar_fit e from_start t w w1 w2 k v u f is first valued next =
     either_some s.judged (asked s.span rules) (λ k. assigned s.span from_start t (value k)) w w1 w2 k v (Some f) is first
     (subst (λ (span : Span). Walked (assigned span from_start t (value v)) w1 w2 (Some f)) (sym (said_span e))
     (subst (λ (x : Known). Walked (assigned e.span from_start t x) w1 w2 (Some f)) valued next))
+
+abbrev array_at : Expr → Option (List ℕ) → Bool → ℕ → Judged Fitted
+array_at e text chars n = array_by e.span (expression e).judged text chars n
+
+no_text_at : (e : Expr) (w w' : Walk) (k : Option Fitted) → Walked (no_text_row (expression e)) w w' k → Walked (array_at e None false 0) w w' k
+no_text_at e w w' k walked =
+    subst (λ (span : Span). Walked (array_by span (expression e).judged None false 0) w w' k) (said_span e) walked
+
+array_of_none : (e : Expr) (chars : Bool) (n : ℕ) → array_at e None chars n ≡ array_at e None false 0
+array_of_none e true n = refl
+array_of_none e false n = refl
+
+array_of_others : (e : Expr) (text : Option (List ℕ)) (n : ℕ) → array_at e text false n ≡ array_at e None false 0
+array_of_others e None n = refl
+array_of_others e (Some bytes) n = refl
+
+pub array_none : (e : Expr) (chars : Bool) (n : ℕ) (w w' : Walk) (k : Option Fitted) → (expression e).text ≡ None →
+    Walked (no_text_row (expression e)) w w' k → Walked (array_by e.span (expression e).judged (expression e).text chars n) w w' k
+array_none e chars n w w' k none walked =
+    subst (λ (p : Judged Fitted). Walked p w w' k) (sym (ap (λ o. array_at e o chars n) none ∙ array_of_none e chars n)) (no_text_at e w w' k walked)
+
+pub array_false : (e : Expr) (n : ℕ) (w w' : Walk) (k : Option Fitted) → Walked (no_text_row (expression e)) w w' k →
+    Walked (array_by e.span (expression e).judged (expression e).text false n) w w' k
+array_false e n w w' k walked =
+    subst (λ (p : Judged Fitted). Walked p w w' k) (sym (array_of_others e (expression e).text n)) (no_text_at e w w' k walked)
