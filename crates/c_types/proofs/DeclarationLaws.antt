@@ -93,7 +93,8 @@ initialised_walked d t b i number w w1 w2 first count second =
     let q = initialised false t (init_of d) in
     let next = judged_next w w1 o q first.after_is in
     record {
-      after_is = after_two w w1 w2 o q (tdecl (length w.locals) d.span o.known (q (behind o (env_of w))).known) first.after_is second.after_is;
+      after_is = after_two w w1 w2 o q (tdecl (length w.locals) d.span o.known (q (behind o (env_of w))).known)
+          first.after_is second.after_is;
       known_is = ap (λ n. tdecl n d.span b i) count ∙ ap (λ k. tdecl (length w.locals) d.span k i) first.known_is
           ∙ ap (tdecl (length w.locals) d.span o.known) (second.known_is ∙ ap (λ r. r.known) next);
     }

@@ -26,9 +26,11 @@ next_of inits k d below =
 
 opened_at : (from_start : Bool) (t : Ty) (inits : List Init) (k : ℕ) (d : Init) (w w' : Walk) (so_far : Option (List Fitted)) →
     k < length inits → Stands from_start t inits k w w' so_far →
-    Goes (slots_at w.structs t) from_start (map initialiser inits) k (initialiser (get_or inits k d) ∷ map initialiser (drop (k + 1) inits)) w w' so_far
+    Goes (slots_at w.structs t) from_start (map initialiser inits) k
+    (initialiser (get_or inits k d) ∷ map initialiser (drop (k + 1) inits)) w w' so_far
 opened_at from_start t inits k d w w' so_far below stands =
-    subst (λ (is : List InitSaid). Goes (slots_at w.structs t) from_start (map initialiser inits) k is w w' so_far) (next_of inits k d below) stands
+    subst (λ (is : List InitSaid). Goes (slots_at w.structs t) from_start (map initialiser inits) k is w w' so_far)
+    (next_of inits k d below) stands
 
 place_there : (t : Ty) (k : ℕ) (structs structs' : List StructInfo) (o : Option Slot) → structs' ≡ structs →
     o ≡ slots_at structs' t k → slots_at structs t k ≡ o

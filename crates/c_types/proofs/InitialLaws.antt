@@ -42,7 +42,8 @@ passes_as p q w w' b same passed = subst (λ (x : Judged _). Passes x w w' b) (s
 pub loose_unknown : (e : Expr) (w w' : Walk) (k : Option Known) → k ≡ None → Walked (expression e).judged w w' k →
     Passes (loose_in e) w w' false
 loose_unknown e w w' k is first =
-    passes_of (loose_in e) w w' None false (on_none (expression e).judged (λ k. ruled e.span (rule 12 (is_value k) ∷ []) tt) w w' k is first) refl
+    passes_of (loose_in e) w w' None false
+    (on_none (expression e).judged (λ k. ruled e.span (rule 12 (is_value k) ∷ []) tt) w w' k is first) refl
 
 pub loose_known : (e : Expr) (w w1 w2 : Walk) (k : Option Known) (v : Known) → k ≡ Some v → Walked (expression e).judged w w1 k →
     w2 ≡ blamed w1 (broken e.span (rule 12 (is_value v) ∷ [])) → Passes (loose_in e) w w2 true
@@ -130,7 +131,8 @@ nothing_before : (r : Option (List Fitted)) → r ≡ appended (Some []) r
 nothing_before None = refl
 nothing_before (Some fs) = refl
 
-pub goes_first : (slot : ℕ → Option Slot) (from_start : Bool) (all : List InitSaid) (w : Walk) → Goes slot from_start all 0 all w w (Some [])
+pub goes_first : (slot : ℕ → Option Slot) (from_start : Bool) (all : List InitSaid) (w : Walk) →
+    Goes slot from_start all 0 all w w (Some [])
 goes_first slot from_start all w = λ end r walked. as_known _ w end r (appended (Some []) r) (nothing_before r) walked
 
 pub goes_last : (slot : ℕ → Option Slot) (from_start : Bool) (all : List InitSaid) (k : ℕ) (w w' : Walk) (so_far : Option (List Fitted)) →

@@ -34,7 +34,8 @@ walked_at p q w w' k same walked = record {
   known_is = walked.known_is ∙ ap (λ o. o.known) (sym same);
 }
 
-unknown_behind : {A B : Type 0} (p : Judged A) (w w' : Walk) (k : Option A) → Walked p w w' k → Walked {A = B} (on p (λ x. not_known)) w w' None
+unknown_behind : {A B : Type 0} (p : Judged A) (w w' : Walk) (k : Option A) → Walked p w w' k →
+    Walked {A = B} (on p (λ x. not_known)) w w' None
 unknown_behind {A} {B} p w w' None first = walked_followed p (λ x. not_known {A = B}) w w' w' None None first (refl, refl)
 unknown_behind {A} {B} p w w' (Some v) first =
     walked_followed p (λ x. not_known {A = B}) w w' w' (Some v) None first (walked_unknown {A = B} w')
@@ -54,7 +55,8 @@ list_bare span is from_start t w w' b struct bare passed =
 
 -- ---- a type with places, and one without
 
-slots_there : (structs : List StructInfo) (level : TyLayer) → (is_there (element_of_level level) || is_there (struct_of_level level)) ≡ true →
+slots_there : (structs : List StructInfo) (level : TyLayer) →
+    (is_there (element_of_level level) || is_there (struct_of_level level)) ≡ true →
     is_there (slots structs level) ≡ true
 slots_there structs Ty-F.Void placed = absurd (cc)
 slots_there structs (Ty-F.Int t) placed = absurd (cc)
@@ -62,7 +64,8 @@ slots_there structs (Ty-F.Pointer t) placed = absurd (cc)
 slots_there structs (Ty-F.Array t n) placed = refl
 slots_there structs (Ty-F.Struct n) placed = refl
 
-slots_missing : (structs : List StructInfo) (level : TyLayer) → (is_there (element_of_level level) || is_there (struct_of_level level)) ≡ false →
+slots_missing : (structs : List StructInfo) (level : TyLayer) →
+    (is_there (element_of_level level) || is_there (struct_of_level level)) ≡ false →
     slots structs level ≡ None
 slots_missing structs Ty-F.Void bare = refl
 slots_missing structs (Ty-F.Int t) bare = refl
@@ -127,11 +130,13 @@ abbrev by_type : Bool → Ty → InitSaid → Judged Fitted
 by_type from_start t i = fitted_to i from_start t
 
 pub fitted_one : (e : Expr) (from_start : Bool) (t : Ty) (w w' : Walk) (k : Option Fitted) →
-    Walked (expression_for (expression e) from_start t (out-Ty t)) w w' k → Walked (fitted_to (initialiser (init.One e)) from_start t) w w' k
+    Walked (expression_for (expression e) from_start t (out-Ty t)) w w' k →
+    Walked (fitted_to (initialiser (init.One e)) from_start t) w w' k
 fitted_one e from_start t w w' k walked = walked_as _ _ w w' k (ap (by_type from_start t) (said-one e)) walked
 
 pub fitted_list : (is : List Init) (span : Span) (from_start : Bool) (t : Ty) (w w' : Walk) (k : Option Fitted) →
-    Walked (list_for span (map initialiser is) from_start t) w w' k → Walked (fitted_to (initialiser (init.List is span)) from_start t) w w' k
+    Walked (list_for span (map initialiser is) from_start t) w w' k →
+    Walked (fitted_to (initialiser (init.List is span)) from_start t) w w' k
 fitted_list is span from_start t w w' k walked = walked_as _ _ w w' k (ap (by_type from_start t) (said-list is span)) walked
 
 -- ---- an initialiser of an object

@@ -24,7 +24,8 @@ while_made c s = option_map (λ (c, t). tstmt.While c t) (pair c s)
 abbrev pub do_made : Option TStmt → Option TExpr → Option TStmt
 do_made s c = option_map (λ (t, c). tstmt.DoWhile t c) (pair s c)
 
-abbrev pub for_made : Option (List TDecl) → Option (Option TExpr) → Option (Option TExpr) → Option (Option TExpr) → Option TStmt → Option TStmt
+abbrev pub for_made :
+    Option (List TDecl) → Option (Option TExpr) → Option (Option TExpr) → Option (Option TExpr) → Option TStmt → Option TStmt
 for_made ts first c next s =
     option_map (λ (ts, r). tstmt.For ts r.0 r.1.0 r.1.1.0 r.1.1.1) (pair ts (pair first (pair c (pair next s))))
 

@@ -171,7 +171,8 @@ fn declare_local(
     t: Option<&Ty>,
 ) -> Result<bool, AllocError>
     requires { number ≡ length walk.old.locals }
-    ensures { IfOk result (λ kept. Walked (declares_object d.now (option_copied t.entry)) walk.old walk.new (if kept then option_copied t.entry else None)) }
+    ensures { IfOk result (λ kept.
+        Walked (declares_object d.now (option_copied t.entry)) walk.old walk.new (if kept then option_copied t.entry else None)) }
 {
     let new = is_new(walk, d.name.as_slice());
     let kept = ask_object(walk, d.span, new, t);

@@ -32,7 +32,8 @@ pub fn initialised(
     t: Option<&Ty>,
     init: Option<&Init>,
 ) -> Result<Option<Option<Fitted>>, AllocError>
-    ensures { IfOk result (λ f. Walked (spec.initialised from_start (option_copied t.entry) (option_map initialiser (option_copied init.entry))) walk.old walk.new f) }
+    ensures { IfOk result (λ f.
+        Walked (spec.initialised from_start (option_copied t.entry) (option_map initialiser (option_copied init.entry))) walk.old walk.new f) }
 {
     let Some(init) = init else {
         return Ok(Some(None));

@@ -1,9 +1,10 @@
 //! Expressions as initialisers (C11 6.7.9 paragraphs 4, 11, 13 and 14).
 
-ghost use Rattle.std.specs.Prelude.{◌≡◌, ◌∷◌, ◌++◌, [], IfOk};
+ghost use Rattle.std.specs.Prelude.{◌≡◌, ◌∷◌, ◌++◌, [], IfOk, option_copied};
 ghost use Rattle.c_type_base.specs.declared.ty.Ty.{out-Ty};
 ghost use Rattle.c_ast.specs.declared.expr.Node.{out-Node};
 ghost use Rattle.c_type_expr.specs.Expressions as said;
+ghost use Rattle.c_type_expr.specs.Outcomes.{option_map};
 ghost use Rattle.c_types.specs.Initials as spec;
 ghost use Rattle.c_types.specs.Slots.{text_row, no_text_row, scalar_row};
 ghost use Rattle.c_type_expr.specs.Walked.{Walked};
@@ -138,6 +139,16 @@ fn no_text(walk: &mut Walk, alloc: Global, e: &Expr) -> Result<Option<Fitted>, A
     }
 }
 
+/// The bytes of a text that stands alone.
+fn text_in(e: &Expr) -> Option<&Bytes>
+    ensures { (said.expression e.now).text ≡ option_map (λ text. text ++ 0 ∷ []) (option_copied result) }
+{
+    match e.node.get() {
+        Node::Text(bytes) => Some(bytes),
+        _ => None,
+    }
+}
+
 /// An expression for an array of so many chars, or of others.
 fn array_by(
     walk: &mut Walk,
@@ -146,14 +157,16 @@ fn array_by(
     chars: bool,
     n: u64,
 ) -> Result<Option<Fitted>, AllocError>
-    ensures { IfOk result (λ f. Walked (spec.array_by e.now.span (said.expression e.now).judged (said.expression e.now).text chars n) walk.old walk.new f) }
+    ensures { IfOk result (λ f.
+        Walked (spec.array_by e.now.span (said.expression e.now).judged (said.expression e.now).text chars n) walk.old walk.new f) }
 {
-    if chars {
-        if let Node::Text(bytes) = e.node.get() {
-            return text_for(walk, alloc, e, bytes, n);
-        }
+    if !chars {
+        return no_text(walk, alloc, e);
     }
-    no_text(walk, alloc, e)
+    match text_in(e) {
+        None => no_text(walk, alloc, e),
+        Some(bytes) => text_for(walk, alloc, e, bytes, n),
+    }
 }
 
 /// An expression for a scalar or a struct.

@@ -8,5 +8,6 @@ returns-in-None c =
 
 pub returns-in_ok-assigned-in-Some : goal.returns-in_ok-assigned-in-Some
 returns-in_ok-assigned-in-Some c =
-    scalar_fit c.args.e.now c.args.from_start c.args.t.now _ _ _ _ c.in-Some.k c.in_ok-k-in-Some.k c.in_ok-assigned-in-Some.field-0 c.in-Some.is
+    scalar_fit c.args.e.now c.args.from_start c.args.t.now _ _ _ _ c.in-Some.k c.in_ok-k-in-Some.k c.in_ok-assigned-in-Some.field-0
+    c.in-Some.is
     c.in_ok-expression.ensures c.in_ok-k-in-Some.ensures c.in_ok-assigned-in-Some.ensures
