@@ -73,37 +73,15 @@ scalar_fit e from_start t w w1 w2 k v u f is first valued next =
     (subst (λ (span : Span). Walked (assigned span from_start t (value v)) w1 w2 (Some f)) (sym (said-span e))
     (subst (λ (x : Known). Walked (assigned e.span from_start t x) w1 w2 (Some f)) valued next))
 
--- a text for an array of chars
-pub array_text : (e : Expr) (n : ℕ) (text : List ℕ) (w w' : Walk) (k : Option Fitted) → (expression e).text ≡ Some text →
-    Walked (text_row (expression e) n text) w w' k → Walked (array_by e.span (expression e).judged (expression e).text true n) w w' k
-array_text e n text w w' k is walked =
-    subst (λ (o : Option (List ℕ)). Walked (array_by e.span (expression e).judged o true n) w w' k) (sym is)
-    (subst (λ (span : Span). Walked (array_by span (expression e).judged (Some text) true n) w w' k) (said-span e) walked)
+-- all is the same for an array of others, whether or not it is a text
+array_of_others : (span : Span) (p : Judged Known) (text : Option (List ℕ)) (n : ℕ) → array_by span p text false n ≡ array_by span p None false 0
+array_of_others span p None n = refl
+array_of_others span p (Some bytes) n = refl
 
--- all others
-abbrev array_at : Expr → Option (List ℕ) → Bool → ℕ → Judged Fitted
-array_at e text chars n = array_by e.span (expression e).judged text chars n
-
-no_text_at : (e : Expr) (w w' : Walk) (k : Option Fitted) →
-    Walked (no_text_row (expression e)) w w' k → Walked (array_at e None false 0) w w' k
-no_text_at e w w' k walked =
-    subst (λ (span : Span). Walked (array_by span (expression e).judged None false 0) w w' k) (said-span e) walked
-
-array_of_none : (e : Expr) (chars : Bool) (n : ℕ) → array_at e None chars n ≡ array_at e None false 0
-array_of_none e true n = refl
-array_of_none e false n = refl
-
-array_of_others : (e : Expr) (text : Option (List ℕ)) (n : ℕ) → array_at e text false n ≡ array_at e None false 0
-array_of_others e None n = refl
-array_of_others e (Some bytes) n = refl
-
-pub array_none : (e : Expr) (chars : Bool) (n : ℕ) (w w' : Walk) (k : Option Fitted) → (expression e).text ≡ None →
+pub array_false : (e : Expr) (chars : Bool) (n : ℕ) (w w' : Walk) (k : Option Fitted) → chars ≡ false →
     Walked (no_text_row (expression e)) w w' k → Walked (array_by e.span (expression e).judged (expression e).text chars n) w w' k
-array_none e chars n w w' k none walked =
-    subst (λ (p : Judged Fitted). Walked p w w' k) (sym (ap (λ o. array_at e o chars n) none ∙ array_of_none e chars n))
-    (no_text_at e w w' k walked)
-
-pub array_false : (e : Expr) (n : ℕ) (w w' : Walk) (k : Option Fitted) → Walked (no_text_row (expression e)) w w' k →
-    Walked (array_by e.span (expression e).judged (expression e).text false n) w w' k
-array_false e n w w' k walked =
-    subst (λ (p : Judged Fitted). Walked p w w' k) (sym (array_of_others e (expression e).text n)) (no_text_at e w w' k walked)
+array_false e chars n w w' k is walked =
+    subst (λ (p : Judged Fitted). Walked p w w' k)
+    (sym (ap (λ b. array_by e.span (expression e).judged (expression e).text b n) is
+    ∙ array_of_others e.span (expression e).judged (expression e).text n))
+    (subst (λ (span : Span). Walked (array_by span (expression e).judged None false 0) w w' k) (said-span e) walked)
