@@ -18,7 +18,7 @@ use Rattle.c_types.specs.Locals.{declares_object}
 use Rattle.c_type_expr.specs.Outcomes.{Judged, behind, joined}
 use Rattle.c_type_expr.specs.Scoping.{with_binding}
 use Rattle.c_type_base.specs.Sizes.{is_complete, size, largest}
-use Rattle.c_type_expr.specs.Walked.{env_of, blamed, passed_by, Walked}
+use Rattle.c_type_expr.specs.Walked.{env_of, blamed, Walked}
 use Rattle.c_type_expr.specs.Laws.EachLaws.{as_known}
 use Rattle.c_types.proofs.PartLaws.{walked_made, walked_given}
 use Rattle.c_type_expr.specs.Laws.WalkedLaws.{judged_next, after_two}

@@ -1,5 +1,5 @@
 -- An expression as an initialiser is walked as an expression, and then by its row.
-use Rattle.std.proofs.Common.{◌≡◌, refl, sym, ◌∙◌, ap, subst, ℕ, ◌+◌, arith, Bool, true, false, List, [], ◌∷◌, ◌++◌, length, length-append, Option, Some, None}
+use Rattle.std.proofs.Common.{◌≡◌, refl, sym, ◌∙◌, ap, subst, ℕ, ◌+◌, arith, Bool, false, List, [], ◌∷◌, ◌++◌, length, length-append, Option, Some, None}
 use Rattle.std.specs.Prelude.{leb}
 use Rattle.std.proofs.lemmas.Bool.Decides.{nat_tests}
 use Rattle.c_ast.specs.declared.expr.Expr.{Expr}
@@ -14,7 +14,6 @@ use Rattle.c_types.specs.Initials.{spelled, may_fit, assigned, array_by}
 use Rattle.c_type_base.specs.Known.{value, is_value}
 use Rattle.c_type_expr.specs.Operators.{breaks}
 use Rattle.c_type_expr.specs.Outcomes.{Judged, asked}
-use Rattle.c_type_expr.specs.Said.{Said}
 use Rattle.c_types.specs.Slots.{text_row, no_text_row, scalar_row}
 use Rattle.c_type_expr.specs.Walked.{blamed, Walked}
 use Rattle.c_type_expr.specs.Laws.SaidLaws.{said-span}

@@ -1,6 +1,6 @@
 -- Places in arrays, and what a struct inside a type is.
-use Rattle.std.proofs.Common.{◌≡◌, refl, sym, ◌∙◌, ap, ℕ, ◌*◌, ◌%◌, ◌<◌, List, Option, Some, None}
-use Rattle.std.specs.Prelude.{ltb, if◌then◌else◌, IfSome, IfNone}
+use Rattle.std.proofs.Common.{◌≡◌, sym, ◌∙◌, ap, ℕ, ◌*◌, ◌%◌, ◌<◌, List, Option, Some, None}
+use Rattle.std.specs.Prelude.{if◌then◌else◌, IfSome, IfNone}
 use Rattle.std.proofs.lemmas.Bool.{lt-ltb}
 use Rattle.std.proofs.lemmas.Nat.{mul-mod_second}
 use Rattle.c_types.specs.declared.initial.Slot.{Slot}

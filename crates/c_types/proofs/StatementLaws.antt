@@ -1,5 +1,5 @@
 -- Statements are walked part by part: one law a statement.
-use Rattle.std.proofs.Common.{◌≡◌, refl, sym, ◌∙◌, ap, ℕ, ◌+◌, ◌<◌, ◌≤◌, List, [], ◌∷◌, map, take, get_or, length, Option, Some, None, subst}
+use Rattle.std.proofs.Common.{◌≡◌, refl, sym, ap, ℕ, ◌≤◌, List, [], ◌∷◌, map, take, length, Option, Some, None, subst}
 use Rattle.std.proofs.lemmas.List.{take_all}
 use Rattle.c_ast.specs.declared.token.Span.{Span}
 use Rattle.c_ast.specs.declared.declaration.Decl.{Decl}
@@ -22,12 +22,12 @@ use Rattle.c_type_expr.specs.Expressions.{judged_value}
 use Rattle.c_type_expr.specs.Faults.{rule, broken}
 use Rattle.c_types.specs.Laws.SaidLaws.{item_judged, said-block, said-expression, said-empty, said-if, said-if_else, said-while, said-do, said-for, said-return, said-break, said-continue, judged-local, judged-statement}
 use Rattle.c_types.specs.Made.{block_made, if_made, while_made, do_made, for_made, expression_row, for_inside}
-use Rattle.c_type_expr.specs.Outcomes.{Judged, sure, pair, present, both, each, perhaps, on, ruled}
+use Rattle.c_type_expr.specs.Outcomes.{Judged, sure, pair, present, each, perhaps, on, ruled}
 use Rattle.c_type_expr.specs.Scoping.{opened_names, closed_names}
 use Rattle.c_types.specs.Statements.{StmtSaid, effect, condition, return_row, block, statement}
 use Rattle.c_type_base.specs.Types.{is_scalar}
 use Rattle.c_type_expr.specs.Walked.{blamed, Walked}
-use Rattle.c_type_expr.specs.Laws.EachLaws.{as_known, walked_next}
+use Rattle.c_type_expr.specs.Laws.EachLaws.{as_known}
 use Rattle.c_type_expr.specs.Laws.NodeLaws.{walked_as, on_none, on_some}
 use Rattle.c_types.proofs.PartLaws.{walked_made, walked_scoped}
 use Rattle.c_type_expr.specs.Laws.WalkedLaws.{walked_sure, walked_both, walked_on, walked_on_none, walked_ruled}

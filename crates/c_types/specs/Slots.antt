@@ -1,11 +1,10 @@
 -- Lists of initialisers, by the type of what they are for.
-use Rattle.std.specs.Prelude.{◌≡◌, ℕ, ◌∷◌, ◌++◌, Bool, false, ◌&&◌, List, [], slice_get, Option, Some, None, if◌then◌else◌}
+use Rattle.std.specs.Prelude.{◌≡◌, ℕ, ◌∷◌, Bool, false, ◌&&◌, List, [], slice_get, Option, Some, None, if◌then◌else◌}
 use Rattle.c_ast.specs.declared.token.Span.{Span}
 use Rattle.c_ast.specs.declared.expr.Expr.{Expr}
 use Rattle.c_ast.specs.declared.declaration.Init.TheVariants as init
 use Rattle.c_types.specs.declared.fitted.Fitted.{Fitted}
 use Rattle.c_types.specs.declared.initial.Slot.{Slot}
-use Rattle.c_type_base.specs.declared.known.Known.{Known}
 use Rattle.c_type_base.specs.declared.ty.Ty.{Ty, out-Ty}
 use Rattle.c_type_base.specs.declared.typed.InitPiece.{InitPiece}
 use Rattle.c_type_base.specs.declared.typed.InitValue.{InitValue}
