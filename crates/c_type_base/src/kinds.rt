@@ -161,6 +161,25 @@ pub fn is_scalar(ty: &Ty) -> bool
     }
 }
 
+/// Whether it is one of the three char types.
+pub fn is_char_type(ty: &Ty) -> bool
+    ensures { result ≡ spec.is_char_type ty.now }
+{
+    match ty {
+        Ty::Int(int) => is_char(*int),
+        _ => false,
+    }
+}
+
+fn is_char(int: IntType) -> bool
+    ensures { result ≡ spec.is_char int }
+{
+    match int {
+        IntType::Char | IntType::SignedChar | IntType::UnsignedChar => true,
+        _ => false,
+    }
+}
+
 /// Whether the size of a type is known.
 pub fn is_complete(ty: &Ty, structs: &[StructInfo]) -> bool
     ensures { result ≡ is_complete structs.now ty.now }

@@ -12,15 +12,15 @@ mod ty;
 mod typed;
 mod values;
 
-pub use arithmetic::{is_negative, promoted, usual};
+pub use arithmetic::{is_negative, promoted, usual, wrap};
 pub use constant::{chosen, constant_of, constant_of_one, moved, wrapped};
 pub use expr::{Callee, TExpr, TNode};
 pub use kinds::{
-    copy_ty, has_body, int_of, is_array, is_complete, is_integer, is_pointer, is_scalar, is_struct,
-    is_void, same_type, struct_of, target_of, wrapped_size,
+    copy_ty, has_body, int_of, is_array, is_char_type, is_complete, is_integer, is_pointer,
+    is_scalar, is_struct, is_void, same_type, struct_of, target_of, wrapped_size,
 };
 pub use known::{Constancy, Fixed, Known, Written};
-pub use size::{align_of, member_offset, size_of};
+pub use size::{align_of, capped_size, int_size, member_offset, size_of};
 pub use statement::{TDecl, TInit, TItem, TStmt};
 pub use ty::Ty;
 pub use typed::{

@@ -1,6 +1,6 @@
 -- The operators on values (ISO C11 6.5.3.3, 6.5.5 to 6.5.15): which operands fit, what the result is, and where a conversion stands.
 -- Each line of a table is one row for the types of its operands; where none fits, rule 12 is broken.
-use Rattle.std.specs.Prelude.{ℕ, ◌+◌, ◌*◌, ◌%◌, ◌^◌, Bool, true, false, List, [], ◌∷◌, Option, Some, None, nat_eq, if◌then◌else◌}
+use Rattle.std.specs.Prelude.{ℕ, Bool, true, List, [], ◌∷◌, Option, None}
 use Rattle.c_ast.specs.declared.token.Span.{Span}
 use Rattle.c_ast.specs.declared.int_type.IntType.{IntType}
 use Rattle.c_ast.specs.declared.int_type.IntType.TheVariants as int
@@ -17,13 +17,14 @@ use Rattle.c_type_base.specs.declared.typed.StructInfo.{StructInfo}
 use Rattle.c_type_base.specs.Sizes.{size, is_complete}
 use Rattle.c_type_base.specs.Types.{TyLayer, same_type, is_void}
 use Rattle.c_type_base.specs.Conversions.{promoted, usual}
-use Rattle.c_type_base.specs.Arithmetic.{negated, binary_value, unary_value}
+use Rattle.c_type_base.specs.Arithmetic.{negated, unary_value}
+use Rattle.c_type_base.specs.Constants.{constant_of, constant_of_one, chosen, moved, forward}
 use Rattle.c_type_expr.specs.Faults.{Rule, rule, fault}
 use Rattle.c_type_expr.specs.Outcomes.{Judged, ruled, sure}
 use Rattle.c_type_base.specs.declared.known.Known.{Known}
 use Rattle.c_type_base.specs.declared.known.Constancy.{Constancy}
 use Rattle.c_type_base.specs.declared.known.Fixed.{Fixed}
-use Rattle.c_type_base.specs.declared.known.Constancy.TheVariants.{Varies, DividesByZero, Is}
+use Rattle.c_type_base.specs.declared.known.Constancy.TheVariants.{Varies}
 use Rattle.c_type_base.specs.Known.{texpr, plain, converted, is_null}
 
 -- a construct that breaks a rule and has no type

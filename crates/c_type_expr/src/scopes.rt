@@ -2,13 +2,14 @@
 
 ghost use Rattle.std.specs.Prelude.{◌≡◌, ◌∷◌, OnOk, option_copied, reverse};
 ghost use Rattle.c_type_expr.specs.Environment.{in_scope, in_scopes};
-ghost use Rattle.c_type_expr.specs.Scoping.{no_names, with_binding};
+ghost use Rattle.c_type_expr.specs.Scoping.{no_names, with_binding, opened_names, closed_names};
 
 use c_ast::Name;
 use c_type_base::{Callee, Ty};
 use sqlite_items::{Items, at};
 use std::alloc::{AllocError, Global};
 use std::marker::Model;
+use std::mem;
 
 /// Where an object is found.
 #[derive(Clone, Copy)]
@@ -115,6 +116,24 @@ impl Scopes {
     {
         self.inner.push(binding)?;
         Ok(())
+    }
+
+    /// Opens a scope of its own inside.
+    pub fn open(&mut self, alloc: Global) -> Result<(), AllocError>
+        ensures { OnOk result (self.new ≡ opened_names self.old) }
+    {
+        let scope = mem::replace(&mut self.inner, Items::new(alloc));
+        self.outer.push(scope)
+    }
+
+    /// Closes the innermost scope; the outermost has no names then.
+    pub fn close(&mut self, alloc: Global)
+        ensures { self.new ≡ closed_names self.old }
+    {
+        self.inner = match self.outer.pop() {
+            Some(scope) => scope,
+            None => Items::new(alloc),
+        };
     }
 }
 

@@ -31,7 +31,8 @@ use Rattle.c_type_expr.specs.declared.scopes.Place.TheVariants as place
 use Rattle.c_type_expr.specs.Environment.{Env, binds}
 use Rattle.c_type_expr.specs.Expressions.{expression, written}
 use Rattle.c_type_expr.specs.Outcomes.{Outcome}
-use Rattle.c_types.specs.Initials.{Fitted, initialiser, piece}
+use Rattle.c_types.specs.declared.fitted.Fitted.{Fitted}
+use Rattle.c_types.specs.Initials.{initialiser, piece}
 use Rattle.c_type_base.specs.declared.typed.InitPiece.{InitPiece}
 use Rattle.c_type_base.specs.declared.typed.InitValue.TheVariants as initial_value
 use Rattle.c_types.specs.Declarations.{local}

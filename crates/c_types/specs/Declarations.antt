@@ -18,7 +18,8 @@ use Rattle.c_type_expr.specs.Outcomes.{option_map, Judged, sure, not_known, on, 
 use Rattle.c_type_base.specs.declared.known.Written.{Written}
 use Rattle.c_type_base.specs.declared.known.Written.TheVariants.{Whole, Open}
 use Rattle.c_type_expr.specs.Expressions.{written}
-use Rattle.c_types.specs.Initials.{InitSaid, Fitted, initialiser, tree_of}
+use Rattle.c_types.specs.declared.fitted.Fitted.{Fitted}
+use Rattle.c_types.specs.Initials.{InitSaid, initialiser, tree_of}
 
 abbrev pub no : Bool → Bool
 no b = (if b then false else true)

@@ -20,6 +20,8 @@ use Rattle.c_type_base.specs.declared.typed.InitPiece.{InitPiece}
 use Rattle.c_type_base.specs.declared.typed.InitValue.{InitValue}
 use Rattle.c_type_base.specs.declared.typed.InitValue.TheVariants as initial_value
 use Rattle.c_type_base.specs.declared.typed.Target.{Target}
+use Rattle.c_types.specs.declared.fitted.Fitted.{Fitted}
+use Rattle.c_types.specs.declared.initial.Slot.{Slot}
 use Rattle.c_type_base.specs.Sizes.{int_bytes, size, is_complete}
 use Rattle.c_type_base.specs.Layout.{members_of, first_scalar}
 use Rattle.c_type_base.specs.Types.{TyLayer, same_int, is_char_type, is_array, is_struct, is_there}
@@ -34,11 +36,6 @@ use Rattle.c_type_base.specs.Known.{value, converted, is_null, is_value, assigna
 use Rattle.c_type_expr.specs.Operators.{breaks}
 use Rattle.c_type_expr.specs.Said.{Said}
 use Rattle.c_type_expr.specs.Expressions.{expression}
-
--- what an initialiser is in the typed program, and the bytes with which an object of the whole run begins
-pub record Fitted : Type 0 where
-  pub tree : TInit
-  pub pieces : List InitPiece
 
 -- what is said of an initialiser
 pub record InitSaid : Type 0 where
@@ -59,8 +56,9 @@ pub record InitSaid : Type 0 where
 abbrev pub piece : ℕ → InitValue → InitPiece
 piece offset v = record { offset = offset; value = v }
 
+-- Offsets are modulo 2^64, as those of addresses that are known before the run: no object has a place that far.
 abbrev pub moved_piece : ℕ → InitPiece → InitPiece
-moved_piece by p = record p { offset = p.offset + by }
+moved_piece by p = record p { offset = (p.offset + by) % 2 ^ 64 }
 
 -- a number below 2^64 as a signed one
 abbrev pub as_signed : ℕ → ℤ
@@ -143,18 +141,13 @@ expression_for e from_start t level =
 
 -- ---- a list
 
--- where an initialiser of a list stands: the type that it has to fit, and its bytes from the start
-pub record Slot : Type 0 where
-  pub ty : Ty
-  pub offset : ℕ
-
 abbrev pub member_slot : Option MemberInfo → Option Slot
 member_slot None = None
 member_slot (Some m) = Some (record { ty = m.ty; offset = m.offset })
 
 -- the places of the initialisers of an array, and of a struct; a scalar has none
 abbrev pub slots : List StructInfo → TyLayer → Option (ℕ → Option Slot)
-slots structs (Ty-F.Array t n) = Some (λ k. (if ltb k n then Some (record { ty = t; offset = k * size structs t }) else None))
+slots structs (Ty-F.Array t n) = Some (λ k. (if ltb k n then Some (record { ty = t; offset = k * size structs t % 2 ^ 64 }) else None))
 slots structs (Ty-F.Struct number) = Some (λ k. member_slot (slice_get (members_of (slice_get structs number)) k))
 slots structs _ = None
 

@@ -7,4 +7,7 @@ pub mod Functions
 pub mod Structs
 pub mod Units
 pub mod WellTyped
+pub mod Locals
+pub mod Made
+pub mod Slots
 pub mod Laws

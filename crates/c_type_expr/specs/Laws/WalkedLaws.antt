@@ -47,11 +47,11 @@ passed_faults w faults k = λ i. record (blamed w faults) {
   locals = sym (append-nil w.locals) i;
 }
 
-judged_next : {A B : Type 0} (w w1 : Walk) (o : Outcome A) (q : Judged B) → w1 ≡ passed_by w o →
+pub judged_next : {A B : Type 0} (w w1 : Walk) (o : Outcome A) (q : Judged B) → w1 ≡ passed_by w o →
     q (env_of w1) ≡ q (behind o (env_of w))
 judged_next w w1 o q is = ap (λ x. q (env_of x)) is ∙ ap q (sym (env_behind w o))
 
-after_two : {A B C : Type 0} (w w1 w2 : Walk) (o : Outcome A) (q : Judged B) (k : Option C) → w1 ≡ passed_by w o →
+pub after_two : {A B C : Type 0} (w w1 w2 : Walk) (o : Outcome A) (q : Judged B) (k : Option C) → w1 ≡ passed_by w o →
     w2 ≡ passed_by w1 (q (env_of w1)) → w2 ≡ passed_by w (joined o (q (behind o (env_of w))) k)
 after_two w w1 w2 o q k is next =
     next ∙ ap (λ x. passed_by x (q (env_of w1))) is

@@ -1,5 +1,5 @@
 -- What is said of initialisers and statements, one equation a construct.
-use Rattle.std.proofs.Common.{◌≡◌, ℕ, List, map, Option, Some, None, ap, ◌∙◌}
+use Rattle.std.proofs.Common.{◌≡◌, List, map, Option, Some, None}
 use Rattle.c_ast.specs.Laws.Opened.{given_trees}
 use Rattle.c_ast.specs.declared.token.Span.{Span}
 use Rattle.c_ast.specs.declared.expr.Expr.{Expr}
