@@ -1,5 +1,5 @@
 -- Frames of given parts.
-use Rattle.std.proofs.Common.{◌≡◌, refl, ℕ, List, [], ◌∷◌, false}
+use Rattle.std.proofs.Common.{◌≡◌, refl, ℕ, List, [], ◌∷◌, false, lit≤}
 use Rattle.slot_safety.specs.declared.kind.Kind.{Kind}
 use Rattle.slot_safety.specs.declared.kind.Kind.TheVariants.{Safe, Tagged}
 use Rattle.mt_base.specs.Tags.{slot_tag}
@@ -7,7 +7,7 @@ use Rattle.frame_layout.specs.declared.placed.Part.{Part}
 use Rattle.frame_layout.specs.declared.frame.Slot.{Slot}
 use Rattle.frame_layout.specs.Needs.{arguments}
 use Rattle.frame_layout.specs.Frames.{frame_by}
-use Rattle.frame_layout.specs.Neighbours.{place, memory_tag}
+use Rattle.frame_layout.specs.Neighbours.{Access, Neighbour, tag_there}
 
 abbrev part : ℕ → ℕ → Kind → Part
 part bytes align kind = record { bytes = bytes; align = align; kind = kind; inner = false }
@@ -44,9 +44,45 @@ nothing = refl
 arguments_wait : arguments (0 ∷ 1 ∷ 2 ∷ []) ≡ 4
 arguments_wait = refl
 
--- behind the last byte of a stands b, which is live or not
-behind_a : memory_tag (frame_by 2 three) 5 (0 ∷ 1 ∷ 2 ∷ []) (place (slot 48 16 Tagged 0) 16) ≡ slot_tag 5 1
-behind_a = refl
+-- a[16] is b[0], where all locals are live, or b is not
+abbrev behind_a : List ℕ → Access
+behind_a live = record { live = live; number = 0; offset = 16; size = 1 }
 
-behind_a_dead : memory_tag (frame_by 2 three) 5 (0 ∷ 2 ∷ []) (place (slot 48 16 Tagged 0) 16) ≡ 0
-behind_a_dead = refl
+abbrev all_live : List ℕ
+all_live = 0 ∷ 1 ∷ 2 ∷ []
+
+abbrev b_dead : List ℕ
+b_dead = 0 ∷ 2 ∷ []
+
+abbrev b_is_neighbour : (live : List ℕ) → Neighbour (frame_by 2 three) (behind_a live)
+b_is_neighbour live = record {
+  slot = slot 48 16 Tagged 0;
+  is = refl;
+  tagged = refl;
+  aligned = refl;
+  within = lit≤ tt;
+  other_index = refl;
+}
+
+tag_of_b : tag_there 5 (b_is_neighbour all_live) ≡ slot_tag 5 1
+tag_of_b = refl
+
+tag_of_b_dead : tag_there 5 (b_is_neighbour b_dead) ≡ 0
+tag_of_b_dead = refl
+
+-- i, below a, is safe: its memory has the tag 0
+abbrev below_a : Access
+below_a = record { live = all_live; number = 0; offset = 18446744073709551608; size = 4 }
+
+abbrev i_is_neighbour : Neighbour (frame_by 2 three) below_a
+i_is_neighbour = record {
+  slot = slot 48 16 Tagged 0;
+  is = refl;
+  tagged = refl;
+  aligned = refl;
+  within = lit≤ tt;
+  other_index = refl;
+}
+
+tag_of_i : tag_there 5 i_is_neighbour ≡ 0
+tag_of_i = refl

@@ -31,10 +31,28 @@ call_needs_one = rw (need-expression, need-call, need-expression, need-constant)
 sum_needs_two : need (texpr nowhere (ty.Int int.Int) (node.Binary binary.Add (number 1) call)) ≡ 2
 unfolding given_typed
 sum_needs_two =
-    rw (need-expression, need-binary, need-expression (number 1), need-constant, need-expression, need-call, need-expression, need-constant) refl
+    rw (
+      need-expression,
+      need-binary,
+      need-expression (number 1),
+      need-constant,
+      need-expression,
+      need-call,
+      need-expression,
+      need-constant,
+    ) refl
 
 -- 1 && f(2): nothing waits
 logical_needs_one : need (texpr nowhere (ty.Int int.Int) (node.Binary binary.And (number 1) call)) ≡ 1
 unfolding given_typed
 logical_needs_one =
-    rw (need-expression, need-binary, need-expression (number 1), need-constant, need-expression, need-call, need-expression, need-constant) refl
+    rw (
+      need-expression,
+      need-binary,
+      need-expression (number 1),
+      need-constant,
+      need-expression,
+      need-call,
+      need-expression,
+      need-constant,
+    ) refl

@@ -46,7 +46,6 @@ abbrev pub memory_tag : Frame → ℕ → List ℕ → ℕ → ℕ
 memory_tag f choice live p = tag_among choice live p 0 f.slots
 
 -- The access leaves a tagged slot, for a place of the frame that is in no granule of a tagged slot with the same index: so not in its own.
--- The memory tag there is `memory_tag` of the choice that the frame drew.
 pub record Neighbour (f : Frame) (access : Access) : Type 0 where
   pub slot : Slot
   pub is : slice_get f.slots access.number ≡ Some slot
@@ -54,3 +53,7 @@ pub record Neighbour (f : Frame) (access : Access) : Type 0 where
   pub aligned : access.offset % access.size ≡ 0
   pub within : place slot access.offset < f.bytes
   pub other_index : apart slot.index (place slot access.offset) f.slots ≡ true
+
+-- the tag of memory there, where the frame drew a choice
+abbrev pub tag_there : {f : Frame} {access : Access} → ℕ → Neighbour f access → ℕ
+tag_there {f} {access} choice n = memory_tag f choice access.live (place n.slot access.offset)

@@ -9,6 +9,7 @@ use Rattle.frame_layout.specs.declared.frame.Slot.{Slot}
 use Rattle.frame_layout.specs.declared.frame.Frame.{Frame}
 use Rattle.frame_layout.specs.Frames.{largest_frame}
 
+-- whether it is the kind of tagged slots
 abbrev pub of_kind : Kind → Bool
 of_kind Safe = false
 of_kind Tagged = true

@@ -65,12 +65,14 @@ variable_index_is_tagged =
 -- a[3] does not
 constant_index_is_safe : harmed_in [] (value_of (element (number 3))) ≡ []
 unfolding given_types given_typed
-constant_index_is_safe = rw (said, said-read, said, said-index, said [] first_element, said-decay, said [] a, said-local, said, said-constant) refl
+constant_index_is_safe =
+    rw (said, said-read, said, said-index, said [] first_element, said-decay, said [] a, said-local, said, said-constant) refl
 
 -- a[4] does
 index_out_of_range_is_tagged : harmed_in [] (value_of (element (number 4))) ≡ 0 ∷ []
 unfolding given_types given_typed
-index_out_of_range_is_tagged = rw (said, said-read, said, said-index, said [] first_element, said-decay, said [] a, said-local, said, said-constant) refl
+index_out_of_range_is_tagged =
+    rw (said, said-read, said, said-index, said [] first_element, said-decay, said [] a, said-local, said, said-constant) refl
 
 -- &i
 address_is_tagged : harmed_in [] (texpr nowhere (ty.Pointer int_ty) (node.Unary unary.AddressOf (texpr nowhere int_ty (node.Local 1))))

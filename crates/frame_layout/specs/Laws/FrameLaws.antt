@@ -57,7 +57,7 @@ safe-before safe tagged p ps before = le_trans before (tagged_goes_on tagged p p
 fill_step : (safe tagged count to : ℕ) (p : Part) (kind : Kind) (rest : List Slot) →
     Fill (tagged_step tagged p kind) (tagged_slots rest) to → Fill tagged (tagged_slots (slot_of safe tagged count p kind ∷ rest)) to
 fill_step safe tagged count to p Safe rest filled = filled
-fill_step safe tagged count to p Tagged rest filled = (refl , filled)
+fill_step safe tagged count to p Tagged rest filled = (refl, filled)
 
 -- they stand without gaps
 pub slots-fill : (safe tagged count : ℕ) (ps : List Part) →
