@@ -12,11 +12,10 @@ use Rattle.c_type_base.specs.declared.ty.Ty.{Ty, out-Ty}
 use Rattle.c_type_base.specs.declared.ty.Ty.TheVariants as ty
 use Rattle.c_type_base.specs.declared.typed.InitValue.TheVariants as initial_value
 use Rattle.c_type_expr.specs.declared.walk.Walk.{Walk}
-use Rattle.c_type_expr.specs.Outcomes.{option_map}
+use Rattle.c_type_expr.specs.Outcomes.{option_map, sure, each, on}
 use Rattle.c_type_expr.specs.Expressions.{expression}
 use Rattle.c_types.specs.Initials.{InitSaid, initialiser, expression_for, piece, tree_of, in_braces, is_zero_list, is_aggregate_slot, zero_list}
 use Rattle.c_type_base.specs.Layout.{first_scalar}
-use Rattle.c_type_expr.specs.Outcomes.{sure, each, on}
 use Rattle.c_types.specs.Slots.{fitted_to, slots_at, fits_all, list_in, zero_in}
 use Rattle.c_type_expr.specs.Sorted.{listed_items}
 use Rattle.c_type_expr.specs.Walked.{Walked}

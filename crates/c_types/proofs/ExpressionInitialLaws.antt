@@ -53,7 +53,8 @@ no_text_known e w w1 w2 k v is first next =
     (walked_asked {A = Fitted} e.span (rule 12 (is_value v) ∷ rule 16 false ∷ []) w1 w2 next))
 
 pub scalar_unfit : (e : Expr) (from_start : Bool) (t : Ty) (w w1 w2 : Walk) (k : Option Known) → k ≡ None →
-    Walked (expression e).judged w w1 k → w2 ≡ blamed w1 (broken e.span (rule 16 (may_fit from_start (expression e).computes (out-Ty t)) ∷ [])) →
+    Walked (expression e).judged w w1 k →
+    w2 ≡ blamed w1 (broken e.span (rule 16 (may_fit from_start (expression e).computes (out-Ty t)) ∷ [])) →
     Walked (scalar_row (expression e) from_start t) w w2 None
 scalar_unfit e from_start t w w1 w2 k is first next =
     let s = expression e in
@@ -73,7 +74,8 @@ scalar_fit e from_start t w w1 w2 k v u f is first valued next =
     (subst (λ (x : Known). Walked (assigned e.span from_start t x) w1 w2 (Some f)) valued next))
 
 -- all is the same for an array of others, whether or not it is a text
-array_of_others : (span : Span) (p : Judged Known) (text : Option (List ℕ)) (n : ℕ) → array_by span p text false n ≡ array_by span p None false 0
+array_of_others : (span : Span) (p : Judged Known) (text : Option (List ℕ)) (n : ℕ) →
+    array_by span p text false n ≡ array_by span p None false 0
 array_of_others span p None n = refl
 array_of_others span p (Some bytes) n = refl
 

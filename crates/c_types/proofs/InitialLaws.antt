@@ -9,13 +9,12 @@ use Rattle.c_types.specs.declared.fitted.Fitted.{Fitted}
 use Rattle.c_types.specs.declared.initial.Slot.{Slot}
 use Rattle.c_type_base.specs.declared.known.Known.{Known}
 use Rattle.c_type_expr.specs.declared.walk.Walk.{Walk}
-use Rattle.c_type_expr.specs.Outcomes.{option_map}
+use Rattle.c_type_expr.specs.Outcomes.{option_map, Judged, sure, not_known, pair, both, listed, each, on, ruled}
 use Rattle.c_type_expr.specs.Expressions.{expression}
 use Rattle.c_type_expr.specs.Faults.{rule, fault, broken}
 use Rattle.c_types.specs.Initials.{InitSaid, initialiser, loose_all, too_many, fit_all, moved_fitted}
 use Rattle.c_type_base.specs.Known.{is_value}
 use Rattle.c_types.specs.Laws.SaidLaws.{said-one, said-list}
-use Rattle.c_type_expr.specs.Outcomes.{Judged, sure, not_known, pair, both, listed, each, on, ruled}
 use Rattle.c_types.specs.Slots.{Passes, loose_in, Spare}
 use Rattle.c_type_expr.specs.Sorted.{with_known}
 use Rattle.c_type_base.specs.Types.{is_there}

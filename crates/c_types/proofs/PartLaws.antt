@@ -1,8 +1,7 @@
 -- A walk that passes the parts of a construct passes the construct, where its parts are handed on whether they are known or not.
 use Rattle.std.proofs.Common.{◌≡◌, ◌∙◌, ap, subst, Option, Some, None}
 use Rattle.c_type_expr.specs.declared.walk.Walk.{Walk}
-use Rattle.c_type_expr.specs.Outcomes.{option_map}
-use Rattle.c_type_expr.specs.Outcomes.{Judged, behind, joined, sure, on}
+use Rattle.c_type_expr.specs.Outcomes.{option_map, Judged, behind, joined, sure, on}
 use Rattle.c_type_expr.specs.Scoping.{opened_names, closed_names}
 use Rattle.c_types.specs.Statements.{scoped}
 use Rattle.c_type_expr.specs.Walked.{env_of, passed_by, Walked}

@@ -153,13 +153,15 @@ text_in n = program (starts_with 5 15 (codes "a") (ctype.Array (ctype.Int int.Ch
 long_text_is : (judged (text_in 2)).faults ≡ fault 16 (span 10 15) ∷ []
 unfolding given_types given_trees
 long_text_is =
-    rw (written-array, said-constant, written-int, said-one, said-text, complete-int, complete-array, complete-int, size-array, size-int) refl
+    rw (written-array, said-constant, written-int, said-one, said-text, complete-int, complete-array, complete-int, size-array, size-int)
+    refl
 
 -- char a[3]="abc"; they do
 text_kept : (judged (text_in 3)).faults ≡ []
 unfolding given_types given_trees
 text_kept =
-    rw (written-array, said-constant, written-int, said-one, said-text, complete-int, complete-array, complete-int, size-array, size-int) refl
+    rw (written-array, said-constant, written-int, said-one, said-text, complete-int, complete-array, complete-int, size-array, size-int)
+    refl
 
 -- ---- the order of faults
 

@@ -16,13 +16,12 @@ use Rattle.c_type_base.specs.declared.statement.TItem.TheVariants as titem
 use Rattle.c_type_base.specs.declared.statement.TStmt.{TStmt}
 use Rattle.c_type_base.specs.declared.statement.TStmt.TheVariants as tstmt
 use Rattle.c_type_expr.specs.declared.walk.Walk.{Walk}
-use Rattle.c_type_expr.specs.Outcomes.{option_map}
+use Rattle.c_type_expr.specs.Outcomes.{option_map, Judged, sure, pair, present, each, perhaps, on, ruled}
 use Rattle.c_types.specs.Declarations.{local}
 use Rattle.c_type_expr.specs.Expressions.{judged_value}
 use Rattle.c_type_expr.specs.Faults.{rule, broken}
 use Rattle.c_types.specs.Laws.SaidLaws.{item_judged, said-block, said-expression, said-empty, said-if, said-if_else, said-while, said-do, said-for, said-return, said-break, said-continue, judged-local, judged-statement}
 use Rattle.c_types.specs.Made.{block_made, if_made, while_made, do_made, for_made, expression_row, for_inside}
-use Rattle.c_type_expr.specs.Outcomes.{Judged, sure, pair, present, each, perhaps, on, ruled}
 use Rattle.c_type_expr.specs.Scoping.{opened_names, closed_names}
 use Rattle.c_types.specs.Statements.{StmtSaid, effect, condition, return_row, block, statement}
 use Rattle.c_type_base.specs.Types.{is_scalar}

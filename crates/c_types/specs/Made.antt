@@ -7,8 +7,7 @@ use Rattle.c_type_base.specs.declared.statement.TDecl.{TDecl}
 use Rattle.c_type_base.specs.declared.statement.TItem.{TItem}
 use Rattle.c_type_base.specs.declared.statement.TStmt.{TStmt}
 use Rattle.c_type_base.specs.declared.statement.TStmt.TheVariants as tstmt
-use Rattle.c_type_expr.specs.Outcomes.{Judged, sure, pair, both, each, perhaps, on}
-use Rattle.c_type_expr.specs.Outcomes.{option_map}
+use Rattle.c_type_expr.specs.Outcomes.{Judged, sure, pair, both, each, perhaps, on, option_map}
 use Rattle.c_types.specs.Declarations.{local}
 use Rattle.c_types.specs.Statements.{effect, condition}
 

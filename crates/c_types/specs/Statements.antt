@@ -15,11 +15,10 @@ use Rattle.c_type_base.specs.declared.statement.TStmt.TheVariants as tstmt
 use Rattle.c_type_base.specs.Types.{is_scalar, is_void}
 use Rattle.c_type_expr.specs.Faults.{rule}
 use Rattle.c_type_expr.specs.Environment.{opened}
-use Rattle.c_type_expr.specs.Outcomes.{Judged, sure, not_known, both, each, perhaps, on, ruled, enclosed}
+use Rattle.c_type_expr.specs.Outcomes.{Judged, sure, not_known, both, each, perhaps, on, ruled, enclosed, option_map}
 use Rattle.c_type_base.specs.declared.known.Known.{Known}
 use Rattle.c_type_base.specs.Known.{converted, assignable}
 use Rattle.c_type_expr.specs.Expressions.{judged_value}
-use Rattle.c_type_expr.specs.Outcomes.{option_map}
 use Rattle.c_types.specs.Declarations.{no, local}
 
 -- what is said of a statement: as it stands, and as the body of a function, whose names share a scope with the parameters (6.2.1
