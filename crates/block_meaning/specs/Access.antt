@@ -1,6 +1,6 @@
 -- When an access to memory is undefined, and by which reason (after ISO C11 6.2.4, 6.3.2.3 and 6.5; reasons and their order are this
 -- project's own).
-use Rattle.std.specs.Prelude.{ℕ, ◌+◌, ◌-◌, ◌%◌, Bool, true, false, ◌&&◌, ltb, nat_eq, List, [], ◌∷◌, Option, Some, None, if◌then◌else◌}
+use Rattle.std.specs.Prelude.{ℕ, ◌+◌, ◌-◌, ◌%◌, Bool, true, false, ◌&&◌, ltb, nat_eq, List, [], ◌∷◌, Option, Some, None, if◌then◌else◌, not}
 use Rattle.std.specs.List.{list_any}
 use Rattle.c_type_base.specs.declared.ty.Ty.{Ty}
 use Rattle.block_meaning.specs.declared.reason.Reason.{Reason}
@@ -18,9 +18,6 @@ pub record Access : Type 0 where
   -- a scalar, and else a struct
   pub scalar : Bool
 
-abbrev pub negation : Bool → Bool
-negation b = (if b then false else true)
-
 abbrev pub is_null_block : Kind → Bool
 is_null_block NullBlock = true
 is_null_block _ = false
@@ -37,9 +34,9 @@ first_reason ((applies, why) ∷ more) = (if applies then Some why else first_re
 -- why an access to a block is undefined, but for what the cells hold
 abbrev pub reason_against : Block → Access → Option Reason
 reason_against b a = first_reason (
-    (negation (nat_eq (a.at.offset % a.align) 0), Misaligned) ∷
+    (not (nat_eq (a.at.offset % a.align) 0), Misaligned) ∷
     (is_null_block b.kind, Null) ∷
-    (negation b.live, Dead) ∷
+    (not b.live, Dead) ∷
     (ltb b.size (a.at.offset + a.size), Outside) ∷
     (a.writes && is_text b.kind, ReadOnly) ∷ [])
 
@@ -67,4 +64,4 @@ read_in b t a = unless_reason (reason_against b a) (scalar_in t (cells_in b a.at
 -- two places of so many bytes share some and are not one
 abbrev pub overlap : Pointer → Pointer → ℕ → Bool
 overlap p q bytes =
-    nat_eq p.block q.block && negation (nat_eq p.offset q.offset) && ltb (p.offset - q.offset) bytes && ltb (q.offset - p.offset) bytes
+    nat_eq p.block q.block && not (nat_eq p.offset q.offset) && ltb (p.offset - q.offset) bytes && ltb (q.offset - p.offset) bytes

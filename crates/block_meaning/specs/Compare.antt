@@ -1,12 +1,12 @@
 -- Pointers: what adding to one gives, how two compare, and what lies between them (after ISO C11 6.5.6, 6.5.8 and 6.5.9; by differences
 -- within a block, which is this project's own). None is a comparison that is undefined.
 use Rattle.std.specs.Prelude.{ℕ, ◌+◌, ◌-◌, ◌%◌, ◌^◌, Bool, true, false, ◌&&◌, ◌||◌, leb, ltb, nat_eq, List, slice_get, Option, Some, None}
+use Rattle.std.specs.Prelude.{not}
 use Rattle.std.specs.Prelude.{if◌then◌else◌}
 use Rattle.c_ast.specs.declared.operator.BinaryOperator.{BinaryOperator}
 use Rattle.c_ast.specs.declared.operator.BinaryOperator.TheVariants as binary
 use Rattle.c_ast.specs.declared.int_type.IntType.TheVariants as int
 use Rattle.c_type_base.specs.Arithmetic.{is_negative, quotient}
-use Rattle.block_meaning.specs.Access.{negation}
 use Rattle.block_meaning.specs.Blocks.{Block, Pointer, null}
 
 -- the difference of two offsets, modulo 2^64: a number of type long
@@ -26,7 +26,7 @@ within_block binary.LessEqual p q = Some (is_before p q || is_same p q)
 within_block binary.Greater p q = Some (is_before q p)
 within_block binary.GreaterEqual p q = Some (is_before q p || is_same q p)
 within_block binary.Equal p q = Some (is_same p q)
-within_block binary.NotEqual p q = Some (negation (is_same p q))
+within_block binary.NotEqual p q = Some (not (is_same p q))
 within_block _ p q = None
 
 abbrev pub is_null : Pointer → Bool

@@ -2,6 +2,7 @@
 -- operands and before its own effect; `&&`, `||` and `?:` do after the first. Parentheses, what the compiler adds (`Read`, `Decay`,
 -- `Convert`), and what stands below `sizeof` spend none.
 use Rattle.std.specs.Prelude.{ℕ, zero, suc, ◌-◌, ◌*◌, ◌%◌, ◌^◌, Bool, true, false, List, [], ◌∷◌, ◌++◌, map, slice_get, Option, Some, None}
+use Rattle.std.specs.Prelude.{not}
 use Rattle.std.specs.Prelude.{if◌then◌else◌}
 use Rattle.c_ast.specs.declared.token.Span.{Span}
 use Rattle.c_ast.specs.declared.operator.UnaryOperator.{UnaryOperator}
@@ -22,7 +23,6 @@ use Rattle.c_type_base.specs.Layout.{members_of}
 use Rattle.c_type_base.specs.Types.{target_of, struct_of}
 use Rattle.c_type_base.specs.Arithmetic.{unary_value}
 use Rattle.block_meaning.specs.declared.reason.Reason.TheVariants.{Signature}
-use Rattle.block_meaning.specs.Access.{negation}
 use Rattle.block_meaning.specs.Blocks.{Pointer, pointer, moved}
 use Rattle.block_meaning.specs.Linkage.{function_of, object_block, text_block, extern_block, extern_at, definition_of, called_as}
 use Rattle.block_meaning.specs.Memory.{Object, object, structs_at, bytes_of, read, read_scalar, write, copy_struct}
@@ -68,11 +68,11 @@ abbrev pub unary_node : Site → UnaryOperator → TExpr → Run Value
 unary_node at unary.AddressOf e = and_then (at.parts.place e) (λ p. unit_gives (Address p))
 unary_node at unary.Dereference e = stuck
 unary_node at unary.Not e =
-    and_then (value_of at.parts e) (λ v. unit_then (and_then (is_true at.here e.span v) (λ b. gives (number_of_truth (negation b)))))
+    and_then (value_of at.parts e) (λ v. unit_then (and_then (is_true at.here e.span v) (λ b. gives (number_of_truth (not b)))))
 unary_node at o e = and_then (value_of at.parts e) (λ v. unit_then (number_known (unary_value o (int_in e.ty) (number_in v))))
 
 abbrev pub same_truth : Bool → Bool → Bool
-same_truth a b = (if a then b else negation b)
+same_truth a b = (if a then b else not b)
 
 -- `a && b` is 0 where a is, `a || b` is 1 where a is not: the first decides where it has the truth that decides, and else the second
 abbrev pub logical_node : Site → Bool → TExpr → TExpr → Run Value

@@ -1,5 +1,5 @@
 -- What the names of several files stand for together (ISO C11 6.2.2), and the blocks of what lives for the whole run.
-use Rattle.std.specs.Prelude.{ℕ, ◌+◌, Bool, true, false, ◌&&◌, nat_eq, List, [], ◌∷◌, length, map, take, slice_get, Option, Some, None}
+use Rattle.std.specs.Prelude.{ℕ, ◌+◌, Bool, true, false, ◌&&◌, nat_eq, List, [], ◌∷◌, length, map, take, slice_get, Option, Some, None, not}
 use Rattle.std.specs.Prelude.{if◌then◌else◌}
 use Rattle.std.specs.List.{position_from}
 use Rattle.std.specs.Str.{bytes_eq}
@@ -13,7 +13,6 @@ use Rattle.c_type_base.specs.declared.typed.TFunction.{TFunction}
 use Rattle.c_type_base.specs.declared.typed.LocalInfo.{LocalInfo}
 use Rattle.c_type_base.specs.declared.typed.ExternInfo.{ExternInfo}
 use Rattle.c_type_base.specs.Types.{TyLayer, same_int}
-use Rattle.block_meaning.specs.Access.{negation}
 use Rattle.block_meaning.specs.Running.{Function}
 
 abbrev pub function_of : ℕ → ℕ → Function
@@ -56,10 +55,10 @@ pub data Definition : Type 0 where
   AFunction : Function → Definition
 
 abbrev pub is_object_named : List ℕ → GlobalInfo → Bool
-is_object_named name g = bytes_eq g.name name && negation g.local
+is_object_named name g = bytes_eq g.name name && not g.local
 
 abbrev pub is_function_named : List ℕ → TFunction → Bool
-is_function_named name f = bytes_eq f.name name && negation f.local
+is_function_named name f = bytes_eq f.name name && not f.local
 
 abbrev pub or_definition : Option Definition → Option Definition → Option Definition
 or_definition None later = later

@@ -1,5 +1,5 @@
 -- Reading and writing scalars and structs (ISO C11 6.3.2.1 paragraph 2, 6.5.16.1).
-use Rattle.std.specs.Prelude.{ℕ, Bool, true, false, List, slice_get, Option, Some, None, if◌then◌else◌}
+use Rattle.std.specs.Prelude.{ℕ, Bool, true, false, List, slice_get, Option, Some, None, if◌then◌else◌, not}
 use Rattle.c_ast.specs.declared.token.Span.{Span}
 use Rattle.c_type_base.specs.declared.ty.Ty.{Ty}
 use Rattle.c_type_base.specs.declared.typed.StructInfo.{StructInfo}
@@ -7,7 +7,7 @@ use Rattle.c_type_base.specs.Sizes.{size, align}
 use Rattle.c_type_base.specs.Types.{is_struct}
 use Rattle.block_meaning.specs.declared.reason.Reason.{Reason}
 use Rattle.block_meaning.specs.declared.reason.Reason.TheVariants.{Overlap}
-use Rattle.block_meaning.specs.Access.{Access, reason_against, ReadResult, ReadsAs, UndefinedBy, read_in, overlap, negation}
+use Rattle.block_meaning.specs.Access.{Access, reason_against, ReadResult, ReadsAs, UndefinedBy, read_in, overlap}
 use Rattle.block_meaning.specs.Blocks.{Block, Pointer, cells_at, stored}
 use Rattle.block_meaning.specs.Linkage.{structs_of}
 use Rattle.block_meaning.specs.Running.{Run, gives, and_then, by_blocks, with_blocks, with_some, Context, undefined}
@@ -33,7 +33,7 @@ access here writes o = record {
   size = bytes_of here o.ty;
   align = align (structs_at here) o.ty;
   writes = writes;
-  scalar = negation (is_struct o.ty);
+  scalar = not (is_struct o.ty);
 }
 
 -- something with the block that is accessed

@@ -1,5 +1,5 @@
 -- What operators give on values (ISO C11 6.5.2.4, 6.5.3 to 6.5.14): numbers of one type, and pointers.
-use Rattle.std.specs.Prelude.{ℕ, ◌+◌, ◌-◌, ◌*◌, ◌^◌, Bool, true, false, nat_eq, Option, Some, None, if◌then◌else◌}
+use Rattle.std.specs.Prelude.{ℕ, ◌+◌, ◌-◌, ◌*◌, ◌^◌, Bool, true, false, nat_eq, Option, Some, None, if◌then◌else◌, not}
 use Rattle.c_ast.specs.declared.token.Span.{Span}
 use Rattle.c_ast.specs.declared.int_type.IntType.{IntType}
 use Rattle.c_ast.specs.declared.int_type.IntType.TheVariants as int
@@ -14,7 +14,6 @@ use Rattle.c_type_base.specs.Types.{int_of, target_of}
 use Rattle.c_type_base.specs.Conversions.{promoted, wrap}
 use Rattle.c_type_base.specs.Arithmetic.{negated, truth, binary_value}
 use Rattle.block_meaning.specs.declared.reason.Reason.TheVariants.{Compare}
-use Rattle.block_meaning.specs.Access.{negation}
 use Rattle.block_meaning.specs.Blocks.{Pointer, moved}
 use Rattle.block_meaning.specs.Compare.{compared, pointer_truth, objects_between}
 use Rattle.block_meaning.specs.Memory.{bytes_of}
@@ -52,7 +51,7 @@ comparison here span (Some b) = gives b
 -- a value as a condition (6.8.4.1 paragraph 2); a pointer is compared with the null pointer
 abbrev pub is_true : Context → Span → Value → Run Bool
 is_true here span (Address p) = by_blocks (λ blocks. comparison here span (pointer_truth blocks p))
-is_true here span v = gives (negation (nat_eq (number_in v) 0))
+is_true here span v = gives (not (nat_eq (number_in v) 0))
 
 abbrev pub number_of_truth : Bool → Value
 number_of_truth b = Number (truth b)

@@ -1,8 +1,7 @@
 -- Runs that are not stuck stay as they are where their parts do: what more turns and levels leave.
-use Rattle.std.proofs.Common.{◌≡◌, refl, sym, subst, ap, ◌∙◌, ℕ, zero, suc, Bool, true, false, List, [], ◌∷◌, map, Option, Some, None}
-use Rattle.block_meaning.specs.Blocks.{Block}
+use Rattle.std.proofs.Common.{◌≡◌, refl, ap, ◌∙◌, ℕ, zero, suc, Bool, true, false, List, [], ◌∷◌, map, Option, Some, None}
 use Rattle.block_meaning.specs.Running.{Stop, Stuck, State, Result, Goes, Stops, Run, gives, goes_on, and_then, one_of, unit_then, choice}
-use Rattle.block_meaning.specs.Running.{stuck, with_some, by_blocks, all_of}
+use Rattle.block_meaning.specs.Running.{stuck, with_some, all_of}
 
 abbrev pub IsStop : Stop → Type 0
 IsStop Stuck = ⊥
@@ -51,10 +50,6 @@ pub settles-choice : {A : Type 0} {m m' n n' : Run A} (b : Bool) → Settles m m
 settles-choice true holds fails = record { same = λ now whole. holds.same now whole }
 settles-choice false holds fails = record { same = λ now whole. fails.same now whole }
 
-pub settles-blocks : {A : Type 0} {f f' : List Block → Run A} → ((blocks : List Block) → Settles (f blocks) (f' blocks)) →
-    Settles (by_blocks f) (by_blocks f')
-settles-blocks each = record { same = λ now whole. (each now.blocks).same now whole }
-
 pub settles-all : {A B : Type 0} {f f' : B → Run A} → ((b : B) → Settles (f b) (f' b)) → (bs : List B) →
     Settles (all_of (map f bs)) (all_of (map f' bs))
 settles-all each [] = settles-itself (gives [])
@@ -64,11 +59,3 @@ pub settles-some : {A B : Type 0} (a : Option A) {f f' : A → Run B} → ((a : 
     Settles (with_some a f) (with_some a f')
 settles-some None each = settles-itself stuck
 settles-some (Some a) each = each a
-
--- through a run between
-pub settles-through : {A : Type 0} {m n o : Run A} → Settles m n → Settles n o → Settles m o
-settles-through {m = m} {n = n} first second = record {
-  same = λ now whole. let known = first.same now whole in second.same now (moved known whole) ∙ known;
-} where
-  moved : {A : Type 0} {r s : Result A} → s ≡ r → IsWhole r → IsWhole s
-  moved is whole = subst IsWhole (sym is) whole
