@@ -142,7 +142,7 @@ pub arm_binary : (span : Span) (o : BinaryOperator) (x y : Expr) (w w1 w2 w3 : W
     Walked (expression (expr span (node.Binary o x y))).judged w w3 k
 arm_binary span o x y w w1 w2 w3 a b k first second next =
     by_two _ (expression x).judged (expression y).judged (binary_values o span) w w1 w2 w3 a b k (judged-binary span o x y) first second
-        next
+    next
 
 pub arm_assign : (span : Span) (o : Option AssignOperator) (x y : Expr) (w w1 w2 w3 : Walk) (a b k : Option Known) →
     Walked (expression x).judged w w1 a → Walked (expression y).judged w1 w2 b →
@@ -199,7 +199,7 @@ arm_not_called span f es fs w w1 w2 w3 a ks k c same is none first second next =
     walked_as _ _ w w3 k (judged-call span f es)
     (call_other (expression f) (map expression es) span w w3 k (sym is ∙ none)
     (by_two _ (expression f).judged (each (map argument (map expression es))) (not_called_by span) w w1 w2 w3 a ks k refl first listed
-        next))
+    next))
 
 -- ---- values
 
@@ -269,7 +269,7 @@ pub arm_next_argument : (es : List Expr) (i : ℕ) (d : Expr) (w w1 w2 : Walk) (
 arm_next_argument es i d w w1 w2 ks more k below first second is =
     as_known _ w w2 (with_known ks (option_map value k)) more (sym is)
     (walked_next argument_of es i d w w1 w2 ks (option_map value k) below first
-        (argument_walked (expression (get_or es i d)) w1 w2 k second))
+    (argument_walked (expression (get_or es i d)) w1 w2 k second))
 
 pub arm_arguments : (es : List Expr) (n : ℕ) (w w' : Walk) (ks : Option (List Known)) → length es ≤ n →
     Walked (each (map argument_of (take n es))) w w' ks → Walked (each (map argument (map expression es))) w w' ks

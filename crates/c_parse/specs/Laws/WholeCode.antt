@@ -179,7 +179,7 @@ parsed_stop d ts us (stop.Fault Unexpected) some h =
 parsed_stop d ts us (stop.Fault TooDeep) some h =
     subst (λ place. FirstTooDeep (d + 2) ts place) (same_place ts us)
     (first_too_deep d ts (place_in (all_seen ts) us) (gives_stop unit UnitWord levels_below unit_good unit_grows d (all_seen ts) us
-        TooDeep h))
+    TooDeep h))
 parsed_stop d ts us stop.NoMemory some h = tt
 
 -- a program within the limit is read, if memory is not wanting

@@ -194,7 +194,7 @@ unfolding arrays
 unbracketed_into a w m =
     subst (λ s. Parameter a.height (parameter_of a.name a.ty s) w) (sym m.span)
     (subst (λ w. Parameter a.height (parameter_of a.name a.ty (span_of w)) w) (append-nil w)
-        (brackets_into a a.height [] w [] m no_bracket))
+    (brackets_into a a.height [] w [] m no_bracket))
 
 bracketed_into : (a b : Declared) (w u : List Token) → Unbracketed a w → StartsIn begins_type w → StartsIn bracket u →
     BracketedWord a b u → ParameterWord b (w ++ u)

@@ -138,7 +138,7 @@ unfolding inside
 inside_good d = either_good begins_type true inside_first (λ r. listed_good d) (nothing_good d)
     listed_begins (λ r w m fits. refl) (listed_good 0).starts (λ x e. is_at type_word (punctuator mark.RightParen) x e ∙ close_no_type)
     (λ x e. or_left (begins_type x) (is (punctuator mark.RightParen) x) e)
-        (λ x e. or_right (begins_type x) (is (punctuator mark.RightParen) x) e)
+    (λ x e. or_right (begins_type x) (is (punctuator mark.RightParen) x) e)
 
 inside_begins : Begins InsideWord []
 inside_begins = let r = punct_begins mark.RightParen in record {

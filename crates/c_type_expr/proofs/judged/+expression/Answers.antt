@@ -40,17 +40,17 @@ written-returns-in_ok-t-in-Pointer t c =
 pub node-returns-in_ok-b-in-Binary : goal.node-returns-in_ok-b-in-Binary
 node-returns-in_ok-b-in-Binary t c =
     node_ok c.args.span _ (node.Binary c.in-Binary.operator c.in-Binary.a c.in-Binary.b) _ _ c.binary_on.result c.in-Binary.is
-        c.binary_on.ensures (λ k next.
+    c.binary_on.ensures (λ k next.
     arm_binary c.args.span c.in-Binary.operator c.in-Binary.a c.in-Binary.b _ _ _ _ c.in_ok-a-in-Binary.a c.in_ok-b-in-Binary.b k
-        c.in_ok-a-in-Binary.ensures
+    c.in_ok-a-in-Binary.ensures
     c.in_ok-b-in-Binary.ensures next)
 
 pub node-returns-in_ok-b-in-Assign : goal.node-returns-in_ok-b-in-Assign
 node-returns-in_ok-b-in-Assign t c =
     node_ok c.args.span _ (node.Assign c.in-Assign.operator c.in-Assign.a c.in-Assign.b) _ _ c.assign_on.result c.in-Assign.is
-        c.assign_on.ensures (λ k next.
+    c.assign_on.ensures (λ k next.
     arm_assign c.args.span c.in-Assign.operator c.in-Assign.a c.in-Assign.b _ _ _ _ c.in_ok-a-in-Assign.a c.in_ok-b-in-Assign.b k
-        c.in_ok-a-in-Assign.ensures
+    c.in_ok-a-in-Assign.ensures
     c.in_ok-b-in-Assign.ensures next)
 
 pub node-returns-in_ok-i-in-Index : goal.node-returns-in_ok-i-in-Index

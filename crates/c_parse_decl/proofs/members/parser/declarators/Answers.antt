@@ -28,7 +28,7 @@ returns-in_err-next-clause-answers c =
     let seen = sym c.sees.ensures ∙ c.loop-alloc-test.true in
     answers_on _ c.from_residual-in_err-next.ensures.1
     (answers_by c.loop-alloc.invariant.reads (loop_stops (further_declarator c.args.depth c.args.of.now) c.loop-alloc.read
-        c.loop-alloc.cursor
+    c.loop-alloc.cursor
     seen refl (answers_by (further_is c.args.depth c.args.of.now c.loop-alloc.read c.loop-alloc.cursor seen)
     (answers_stop _ (passed (declarator c.args.depth c.args.of.now) c.skip.ensures c.in_err-next.ensures.answers)))))
 
@@ -54,7 +54,7 @@ loop-alloc-preserved c =
           (further_read c.args.depth c.args.of.now c.loop-alloc.read c.in_ok-next.next c.loop-alloc.cursor
           c.declarator-in-loop-alloc.new.cursor seen read.is) seen
           ∙ ap (λ a. left (further_declarator c.args.depth c.args.of.now) a c.declarator-in-loop-alloc.new.cursor)
-              (sym c.in_ok-read-2.ensures);
+          (sym c.in_ok-read-2.ensures);
       low = omega (arith, ap (λ (a : MemberList). a.height) c.in_ok-read-2.ensures, c.in_ok-next.ensures.low, c.loop-alloc.invariant.low);
     }
 
