@@ -1,0 +1,2 @@
+-- Laws of the text, for later proofs.
+pub mod OneText
