@@ -19,7 +19,13 @@ use std::fmt::Write;
 /// The greatest number of functions that a program may define.
 const MOST_FUNCTIONS: usize = 512;
 
-/// The lines that tell the frames of a program's functions. docs/COMMANDS.md has their forms.
+/// The lines that tell the frames of a program's functions. For each function in order there is `function NAME BYTES`, and
+/// behind it for each parameter and local, in order of declaration, `safe START BYTES NAME` or `tagged START BYTES INDEX NAME`.
+/// The bytes of a tagged one are its rounded bytes, and START is in bytes from the frame's lowest address.
+///
+/// # Errors
+/// `TooManyFunctions` exactly over 512 functions, and else `FrameTooLarge` exactly for the first function whose frame has more
+/// than 262,144 bytes.
 pub fn plan(alloc: Global, typed: &Typed) -> Result<Vec<u8>, PlanRefusal>
     requires laid_out { LaidOut typed.now.structs }
     requires objects { HaveObjects typed.now.structs typed.now.functions }
