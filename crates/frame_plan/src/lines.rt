@@ -113,6 +113,7 @@ fn put_function(
 }
 
 // Appends a line for each parameter and local.
+#[tactic(auto, using(crate::proofs::Turns::slots_turn))]
 fn put_slots(
     alloc: Global,
     text: &mut Vec<u8>,

@@ -44,7 +44,7 @@ pub one_text : (typed : Typed) (text other : List ℕ) → HasText typed text �
 one_text typed text other a b = a.is ∙ sym b.is
 
 too_much : (n m : ℕ) → n ≤ m → m < n → ⊥
-too_much n m small large = omega (arith, small, large)
+too_much n m within beyond = omega (arith, within, beyond)
 
 -- a function that is there among those that all fit fits
 fits_there : (structs : List StructInfo) (functions : List TFunction) (k : ℕ) (f : TFunction) → All (Fits structs) functions →

@@ -1,0 +1,25 @@
+use Rattle.frame_plan.proofs.Turns.{slots_there, fit_turn, text_turn, first_refused}
+use Rattle.frame_plan.proofs.lines.lines_of.Goals as goal
+
+pub returns-in-Err-clause-refused : goal.returns-in-Err-clause-refused
+returns-in-Err-clause-refused c =
+    first_refused c.args.structs.now c.args.functions.now c.loop-function.function-index c.function-item.result
+    c.loop-function-test.true c.function-item.is c.in-Err.refusal c.loop-function.invariant.fit c.in-Err.ensures.refused
+
+pub put_function-requires : goal.put_function-requires
+put_function-requires c =
+    slots_there c.args.structs.now c.args.functions.now c.loop-function.function-index c.function-item.result
+    c.loop-function-test.true c.function-item.is c.in-Ok.frame c.in-Ok.ensures.found
+
+pub loop-function-preserved : goal.loop-function-preserved
+loop-function-preserved c =
+    let s = c.args.structs.now in
+    let fs = c.args.functions.now in
+    let i = c.loop-function.function-index in
+    let f = c.function-item.result in
+    record {
+      fit = fit_turn s fs i f c.loop-function-test.true c.function-item.is c.in-Ok.frame c.in-Ok.ensures.found
+          c.loop-function.invariant.fit;
+      text = text_turn s fs i f c.loop-function-test.true c.function-item.is c.in-Ok.frame c.loop-function.text.items
+          c.put_function.new.text.items c.in-Ok.ensures.found c.loop-function.invariant.text c.in_ok-put_function.ensures;
+    }
