@@ -1,5 +1,6 @@
 -- The lines of given functions and frames.
 use Rattle.std.proofs.Common.{◌≡◌, refl, ℕ, List, [], ◌∷◌, ◌++◌, true, false}
+use Rattle.std.specs.Fmt.{digits}
 use Rattle.std.specs.Prelude.{codes}
 use Rattle.c_ast.specs.declared.token.Span.{Span}
 use Rattle.c_ast.specs.declared.int_type.IntType.TheVariants as int
@@ -39,10 +40,12 @@ part bytes align kind = record { bytes = bytes; align = align; kind = kind; inne
 three_lines : function_lines (function (codes "main") (local (codes "a") ∷ local (codes "b") ∷ local (codes "i") ∷ []))
     (frame_by 2 (part 16 1 Tagged ∷ part 16 1 Tagged ∷ part 4 4 Safe ∷ []))
     ≡ codes "function main 80\ntagged 48 16 0 a\ntagged 64 16 1 b\nsafe 40 4 i\n"
+unfolding digits
 three_lines = refl
 
 -- a function without parameters and locals
 one_line : function_lines (function (codes "f") []) (frame_by 0 []) ≡ codes "function f 32\n"
+unfolding digits
 one_line = refl
 
 -- a program without functions

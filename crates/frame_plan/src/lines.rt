@@ -109,7 +109,12 @@ fn put_function(
     let bytes = frame.bytes;
     let behind = format!(in alloc; " {bytes}\n")?;
     put_line(text, "function ", function.name.as_slice(), behind.as_str())?;
-    put_slots(alloc, text, function.locals.as_slice(), frame.slots.as_slice())
+    put_slots(
+        alloc,
+        text,
+        function.locals.as_slice(),
+        frame.slots.as_slice(),
+    )
 }
 
 // Appends a line for each parameter and local.

@@ -10,7 +10,9 @@ use thiserror::Error;
 pub enum PlanRefusal {
     /// It defines more than 512 functions, so many.
     #[error("TooManyFunctions")]
-    TooManyFunctions { count: u64 },
+    TooManyFunctions {
+        count: u64,
+    },
     /// The frame of a function would have more than 262,144 bytes: so many, or the greatest number if they are more.
     #[error("FrameTooLarge")]
     FrameTooLarge {

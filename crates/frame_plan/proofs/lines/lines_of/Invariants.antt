@@ -8,5 +8,5 @@ use Rattle.frame_plan.proofs.lines.lines_of.Given as goal
 abbrev pub invariant-loop-function : goal.invariant-loop-function
 invariant-loop-function l = record {
   fit : All (Fits l.structs) (take l.function-index l.functions);
-  text : l.text.items ≡ flat_map (lines_of l.structs) (take l.function-index l.functions)
+  text : l.text.items ≡ flat_map (lines_of l.structs) (take l.function-index l.functions);
 }
