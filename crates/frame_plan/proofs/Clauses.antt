@@ -1,5 +1,5 @@
 -- The clauses of `plan`, from what its text or its refusal is.
-use Rattle.std.proofs.Common.{◌≡◌, ◌⊎◌, ◌<◌, ◌≤◌, ℕ, List, length, flat_map, take, slice_get, Some, Result, Ok, Err}
+use Rattle.std.proofs.Common.{◌≡◌, ◌⊎◌, ◌<◌, ◌≤◌, ℕ, List, length, flat_map, Result, Ok, Err}
 use Rattle.std.proofs.Common.{sym, ap, ◌∙◌, subst, inl, inr}
 use Rattle.std.specs.Global.{Global, Vec}
 use Rattle.std.specs.String.{string_bytes}
@@ -7,7 +7,6 @@ use Rattle.std.specs.Prelude.{IfOk, IfErr, MatchResult, String, All}
 use Rattle.c_type_base.specs.declared.typed.StructInfo.{StructInfo}
 use Rattle.c_type_base.specs.declared.typed.TFunction.{TFunction}
 use Rattle.c_type_base.specs.declared.typed.Typed.{Typed}
-use Rattle.frame_layout.specs.Frames.{frame, largest_frame}
 use Rattle.frame_plan.specs.declared.refusal.PlanRefusal.{PlanRefusal}
 use Rattle.frame_plan.specs.declared.refusal.PlanRefusal.TheVariants.{TooManyFunctions, NoMemory}
 use Rattle.frame_plan.specs.Lines.{lines_of}
@@ -43,7 +42,8 @@ refuses typed (Err e) found (inr first) = λ fault h. inl (one_fault typed e fau
 pub too_many : (typed : Typed) (fs : List TFunction) → fs ≡ typed.functions → most_functions < length fs →
     (TooManyFunctions (length fs) ≡ NoMemory) ⊎ HasNoText typed (TooManyFunctions (length fs))
 too_many typed fs is more =
-    inr (subst (λ n. HasNoText typed (TooManyFunctions n)) (sym (ap length is)) (many (subst (λ n. most_functions < n) (ap length is) more)))
+    inr (subst (λ n. HasNoText typed (TooManyFunctions n)) (sym (ap length is))
+    (many (subst (λ n. most_functions < n) (ap length is) more)))
 
 module _ (typed : Typed) (ss : List StructInfo) (fs : List TFunction) (structs : ss ≡ typed.structs) (functions : fs ≡ typed.functions)
     (few : length fs ≤ most_functions) where

@@ -1,7 +1,8 @@
 -- A program has one text, or one refusal, and not both. Each parameter and local has its line.
-use Rattle.std.proofs.Common.{◌≡◌, ◌⊎◌, ℕ, zero, suc, ◌+◌, ◌<◌, ◌≤◌, List, [], ◌∷◌, length, take, get_or, slice_get, Some, arith}
+use Rattle.std.proofs.Common.{◌≡◌, ◌⊎◌, ℕ, suc, ◌<◌, ◌≤◌, List, [], ◌∷◌, length, take, get_or, slice_get, Some, arith}
 use Rattle.std.proofs.Common.{refl, sym, ap, ◌∙◌, subst, flat_map, min, inl, inr}
-use Rattle.std.proofs.lemmas.Bool.{cases_order}
+use Rattle.std.proofs.lemmas.Bool.{cases_lt, cases_order}
+use Rattle.std.proofs.lemmas.List.Elements.{All-nil, All-cons, All-get_or}
 use Rattle.std.proofs.lemmas.List.{get_or-take, length-take}
 use Rattle.std.proofs.lemmas.Option.{get_or_from_slice_get, slice_get_within}
 use Rattle.std.specs.Prelude.{All}
@@ -9,14 +10,13 @@ use Rattle.c_type_base.specs.declared.typed.StructInfo.{StructInfo}
 use Rattle.c_type_base.specs.declared.typed.LocalInfo.{LocalInfo}
 use Rattle.c_type_base.specs.declared.typed.TFunction.{TFunction}
 use Rattle.c_type_base.specs.declared.typed.Typed.{Typed}
-use Rattle.slot_safety.specs.declared.kind.Kind.{Kind}
-use Rattle.frame_layout.specs.declared.frame.Slot.{Slot}
 use Rattle.frame_layout.specs.declared.placed.Part.{Part}
 use Rattle.frame_layout.specs.Frames.{frame, largest_frame, slots_from, safe_step, tagged_step, count_step}
 use Rattle.frame_layout.specs.Frames.{first_safe, first_tagged}
 use Rattle.frame_layout.specs.Parts.{parts, parts_from}
 use Rattle.frame_layout.specs.StatementNeeds.{stmt_need}
 use Rattle.frame_plan.specs.declared.refusal.PlanRefusal.{PlanRefusal}
+use Rattle.frame_plan.specs.declared.refusal.PlanRefusal.TheVariants.{TooManyFunctions}
 use Rattle.frame_plan.specs.Lines.{lines, lines_of}
 use Rattle.frame_plan.specs.Refusal.{Fits, HasText, IsFirstLarge, too_large, HasNoText, many, large, most_functions}
 
@@ -50,7 +50,8 @@ too_much n m within beyond = omega (arith, within, beyond)
 fits_there : (structs : List StructInfo) (functions : List TFunction) (k : ℕ) (f : TFunction) → All (Fits structs) functions →
     slice_get functions k ≡ Some f → Fits structs f
 fits_there structs functions k f fit there =
-    subst (Fits structs) (get_or_from_slice_get functions k f f there) (fit k f (slice_get_within functions k f there))
+    subst (Fits structs) (get_or_from_slice_get functions k f f there)
+    (All-get_or (Fits structs) functions k f (slice_get_within functions k f there) fit)
 
 -- and so does one that stands before a place before which all fit
 fits_before : (structs : List StructInfo) (functions : List TFunction) (k n : ℕ) (f : TFunction) →
@@ -61,7 +62,7 @@ fits_before structs functions k n f fit before there =
     let inside : k < length (take n functions) = omega (arith, before, within, long) in
     let same : get_or (take n functions) k f ≡ f =
     get_or-take n functions k f before ∙ get_or_from_slice_get functions k f f there in
-    subst (Fits structs) same (fit k f inside)
+    subst (Fits structs) same (All-get_or (Fits structs) (take n functions) k f inside fit)
 
 -- a program that has a text has no refusal
 pub no_fault : (typed : Typed) (text : List ℕ) (fault : PlanRefusal) → HasText typed text → HasNoText typed fault → ⊥
@@ -94,6 +95,44 @@ one_fault typed fault other (many a) (large f few first) = absurd (too_much (len
 one_fault typed fault other (large f few first) (many b) = absurd (too_much (length typed.functions) most_functions few b)
 one_fault typed fault other (large f few a) (large g more b) =
     ap (too_large typed.structs) (one_large typed.structs typed.functions f g a b)
+
+-- ---- some answer
+
+all_or_first : (structs : List StructInfo) (functions : List TFunction) →
+    All (Fits structs) functions ⊎ ((f : TFunction) × IsFirstLarge structs functions f)
+all_or_first structs [] = inl (All-nil (Fits structs))
+all_or_first structs (f ∷ fs) =
+    begins_by (cases_lt largest_frame (frame structs f).bytes) (all_or_first structs fs)
+  where
+    begins_by : (largest_frame < (frame structs f).bytes) ⊎ ((frame structs f).bytes ≤ largest_frame) →
+        All (Fits structs) fs ⊎ ((g : TFunction) × IsFirstLarge structs fs g) →
+        All (Fits structs) (f ∷ fs) ⊎ ((g : TFunction) × IsFirstLarge structs (f ∷ fs) g)
+    begins_by (inl more) rest = inr (f, record { number = 0; there = refl; large = more; before = All-nil (Fits structs) })
+    begins_by (inr fits) (inl all) = inl (All-cons (Fits structs) f fs fits all)
+    begins_by (inr fits) (inr (g, first)) = inr (
+      g,
+      record {
+        number = suc first.number;
+        there = first.there;
+        large = first.large;
+        before = All-cons (Fits structs) f (take first.number fs) fits first.before;
+      },
+    )
+
+few_by : (typed : Typed) → length typed.functions ≤ most_functions →
+    All (Fits typed.structs) typed.functions ⊎ ((f : TFunction) × IsFirstLarge typed.structs typed.functions f) →
+    HasText typed (lines typed) ⊎ ((fault : PlanRefusal) × HasNoText typed fault)
+few_by typed few (inl all) = inl (record { few = few; fit = all; is = refl })
+few_by typed few (inr (f, first)) = inr (too_large typed.structs f, large f few first)
+
+count_by : (typed : Typed) → (most_functions < length typed.functions) ⊎ (length typed.functions ≤ most_functions) →
+    HasText typed (lines typed) ⊎ ((fault : PlanRefusal) × HasNoText typed fault)
+count_by typed (inl more) = inr (TooManyFunctions (length typed.functions), many more)
+count_by typed (inr few) = few_by typed few (all_or_first typed.structs typed.functions)
+
+-- a program has a text or a refusal
+pub one_or_other : (typed : Typed) → HasText typed (lines typed) ⊎ ((fault : PlanRefusal) × HasNoText typed fault)
+one_or_other typed = count_by typed (cases_lt most_functions (length typed.functions))
 
 -- ---- some functions
 

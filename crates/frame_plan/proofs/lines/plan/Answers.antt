@@ -1,6 +1,6 @@
 use Rattle.std.proofs.Common.{sym, subst}
 use Rattle.c_type_base.specs.Layout.{LaidOut}
-use Rattle.frame_plan.proofs.Clauses.{IsFound, IsRefused, only, refuses, too_many, planned, refused}
+use Rattle.frame_plan.proofs.Clauses.{only, refuses, too_many, planned, refused}
 use Rattle.frame_plan.proofs.lines.plan.Goals as goal
 
 pub returns-then-functions-gt-MOST_FUNCTIONS-clause-refused : goal.returns-then-functions-gt-MOST_FUNCTIONS-clause-refused

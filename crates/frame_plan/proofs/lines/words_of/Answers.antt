@@ -1,6 +1,5 @@
 use Rattle.std.proofs.Common.{◌≡◌, ◌++◌, append_assoc, ap, sym, ◌∙◌}
-use Rattle.std.specs.Prelude.{codes, decimal, IfOk}
-use Rattle.std.specs.String.{string_bytes}
+use Rattle.std.specs.Prelude.{codes, decimal}
 use Rattle.slot_safety.specs.declared.kind.Kind.TheVariants.{Safe, Tagged}
 use Rattle.frame_plan.specs.Lines.{slot_words}
 use Rattle.frame_plan.proofs.Clauses.{spelled}
