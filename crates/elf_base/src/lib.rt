@@ -1,4 +1,5 @@
-//! The records of ELF64 files, read and written at their fields' widths, the pieces that a file is laid out in, and the texts that the file crates hold.
+//! The records of ELF64 files, read and written at their fields' widths, the pieces that a file is laid out in, and the texts that
+//! the file crates hold.
 #![tactic(auto)]
 
 mod dynamic;
@@ -10,6 +11,7 @@ mod section;
 mod segment;
 mod symbol;
 mod text;
+mod zeros;
 
 pub use dynamic::{DYN_BYTES, Dyn, read_dyn, write_dyn};
 pub use header::{EHDR_BYTES, Ehdr, read_ehdr, write_ehdr};
@@ -20,3 +22,4 @@ pub use section::{SHDR_BYTES, Shdr, read_shdr, write_shdr};
 pub use segment::{PHDR_BYTES, Phdr, read_phdr, write_phdr};
 pub use symbol::{SYM_BYTES, Sym, read_sym, write_sym};
 pub use text::{Bytes, Name};
+pub use zeros::is_zero_between;

@@ -10,18 +10,13 @@ use Rattle.std.specs.BTreeMap.{insert_entry}
 use Rattle.std.specs.BTreeMap.Range.{entries_between}
 use Rattle.std.specs.declared.ops.Bound.TheVariants.{Included, Unbounded}
 use Rattle.std.proofs.lemmas.Bool.Decides.{nat_tests}
+use Rattle.elf_base.specs.Laws.Tests.{le_is, lt_is}
 use Rattle.elf_obj.specs.Apart.{meets, starts_before}
 
 -- each interval begins behind the one before
 abbrev pub Rising : ℕ → List (ℕ × ℕ) → Type 0
 Rising low [] = Unit {0}
 Rising low (e ∷ es) = (low ≤ e.1) × ((e.1 ≤ e.0) × Rising (e.0 + 1) es)
-
-le_is : (a b : ℕ) → a ≤ b → nat_le a b ≡ true
-le_is a b h = grind (arith, nat_tests)
-
-lt_is : (a b : ℕ) → a < b → nat_lt a b ≡ true
-lt_is a b h = grind (arith, nat_tests)
 
 not_lt : (a b : ℕ) → b ≤ a → nat_lt a b ≡ false
 not_lt a b h = grind (arith, nat_tests)

@@ -4,12 +4,12 @@ use Rattle.std.specs.Prelude.{◌&&◌, ◌||◌, ◌==◌, not, cond, if◌then
 use Rattle.std.specs.List.{list_any, list_all}
 use Rattle.std.specs.Str.{bytes_eq}
 use Rattle.std.proofs.lemmas.Bool.Decides.{nat_tests}
+use Rattle.elf_base.specs.Laws.Tests.{both}
 use Rattle.elf_obj.specs.declared.parts.Symbol.{Symbol}
 use Rattle.elf_obj.specs.declared.sizes.Sizes.{Sizes}
 use Rattle.elf_obj.specs.Rules.{is_new, has_place, symbol_keeps}
 use Rattle.elf_obj.specs.ObjectFault.{is_symbol}
 use Rattle.elf_obj.specs.Repeats.{is_seen_as, first_repeat}
-use Rattle.elf_obj.specs.Laws.Held.{both}
 
 pub new-step : (ss : List Symbol) (i : ℕ) (s : Symbol) → drop i ss ≡ s ∷ drop (i + 1) ss → take (i + 1) ss ≡ take i ss ++ s ∷ []
     → is_new (take i ss) s ≡ true → first_repeat i (take i ss) (drop i ss) ≡ first_repeat (i + 1) (take (i + 1) ss) (drop (i + 1) ss)

@@ -3,6 +3,10 @@ use Rattle.std.proofs.Common.{◌≡◌, ℕ, ◌+◌, ◌<◌, ◌≤◌, ◌^�
 use Rattle.std.specs.Prelude.{◌&&◌, ◌||◌, ◌==◌, ◌%◌, nat_le, nat_lt}
 use Rattle.std.specs.List.{AllByRecursion}
 use Rattle.elf_base.specs.Laws.Lengths.{IsBytes}
+use Rattle.elf_base.specs.Laws.Tests.{both, is_le, is_lt}
+use Rattle.elf_base.specs.Laws.Conditions.{head_holds}
+use Rattle.elf_base.specs.Zeros.{is_zero_between}
+use Rattle.elf_base.specs.Conditions.{first_fault}
 use Rattle.elf_obj.specs.declared.parts.Symbol.{Symbol}
 use Rattle.elf_obj.specs.declared.parts.Home.{Home}
 use Rattle.elf_obj.specs.declared.parts.Home.TheVariants.{Undef, Text, Rodata, Init, Zero}
@@ -14,10 +18,8 @@ use Rattle.elf_obj.specs.Records.{home_number}
 use Rattle.elf_obj.specs.Rules.{is_in_order, is_named, is_new, is_whole, is_within, has_place, symbol_keeps, symbols_keep}
 use Rattle.elf_obj.specs.Apart.{IsSound}
 use Rattle.elf_obj.specs.Claimed.{offset_of, claimed}
-use Rattle.elf_obj.specs.Conditions.{first_fault}
-use Rattle.elf_obj.specs.ObjectFault.{is_zero_between, symbol_conditions, table_conditions}
-use Rattle.elf_obj.specs.Laws.Held.{both}
-use Rattle.elf_obj.specs.Laws.RecordsHold.{head_holds, symbols_hold, is_le, is_lt}
+use Rattle.elf_obj.specs.ObjectFault.{symbol_conditions, table_conditions}
+use Rattle.elf_obj.specs.Laws.RecordsHold.{symbols_hold}
 use Rattle.elf_obj.specs.Laws.ClaimedRanges.{size_fits}
 use Rattle.elf_obj.specs.Laws.AllHold.{content_low}
 

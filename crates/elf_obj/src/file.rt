@@ -1,7 +1,8 @@
 ghost use Rattle.std.specs.Prelude.{◌≡◌, ◌+◌, ◌<◌, ◌≤◌, ◌&&◌, length, take, drop};
 ghost use Rattle.std.specs.Str.{bytes_eq};
+ghost use Rattle.elf_base.specs.Zeros.{are_zero, is_zero_between};
 ghost use Rattle.elf_obj.specs.Claimed.{headers_at, offset_of, size_of, content_of};
-ghost use Rattle.elf_obj.specs.ObjectFault.{is_held, all_held, are_zero, is_zero_between};
+ghost use Rattle.elf_obj.specs.ObjectFault.{is_held, all_held};
 
 use elf_base::u64_at;
 

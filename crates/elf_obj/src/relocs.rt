@@ -1,11 +1,12 @@
 ghost use Rattle.std.specs.Prelude.{◌≡◌, ◌+◌, ◌*◌, ◌<◌, ◌≤◌, ◌^◌, Some, None, [], ◌&&◌, IsTrue, length, slice_get, MatchResult};
 ghost use Rattle.elf_base.specs.Records.{rela_fields};
+ghost use Rattle.elf_base.specs.Conditions.{first_fault};
 ghost use Rattle.elf_obj.specs.ObjectFile.{AllCounted, AllNumbered};
 ghost use Rattle.elf_obj.specs.Records.{reloc_record, tag_record};
 ghost use Rattle.elf_obj.specs.Rules.{is_code_kind, is_got_kind, is_field, reloc_rule, is_variable, tag_keeps};
 ghost use Rattle.elf_obj.specs.declared.parts.Home.TheVariants.{Init, Zero};
 ghost use Rattle.elf_obj.specs.Apart.{is_found_apart, first_shared};
-ghost use Rattle.elf_obj.specs.Conditions.{stands, first_fault};
+ghost use Rattle.elf_obj.specs.Conditions.{stands};
 ghost use Rattle.elf_obj.specs.ObjectFault.{is_reloc, reloc_conditions, is_tag, tag_conditions};
 
 use crate::apart::Shared;

@@ -1,9 +1,10 @@
 ghost use Rattle.std.specs.Prelude.{◌≡◌, ◌+◌, ◌*◌, ◌<◌, ◌≤◌, ◌^◌, Some, None, length, slice_get, MatchResult};
 ghost use Rattle.elf_base.specs.Records.{ehdr_fields, shdr_fields};
+ghost use Rattle.elf_base.specs.Conditions.{first_fault};
 ghost use Rattle.elf_obj.specs.Sections.{sections, names_end, sizes_of};
 ghost use Rattle.elf_obj.specs.Records.{header};
 ghost use Rattle.elf_obj.specs.Claimed.{headers_at, claimed};
-ghost use Rattle.elf_obj.specs.Conditions.{stands, first_fault};
+ghost use Rattle.elf_obj.specs.Conditions.{stands};
 ghost use Rattle.elf_obj.specs.ObjectFault.{is_headed, is_strings, is_names, fixed_parts, sizes_in, is_section, contents_conditions, is_ended, all_section_conditions};
 ghost use Rattle.elf_obj.specs.Laws.Held.{AreHeld};
 

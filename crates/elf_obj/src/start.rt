@@ -1,7 +1,7 @@
 ghost use Rattle.std.specs.Prelude.{◌≡◌, ◌≤◌, true, length, take, Some, None, MatchResult, IfOk};
 ghost use Rattle.std.specs.Str.{bytes_eq};
-ghost use Rattle.elf_obj.specs.Records.{identification};
-ghost use Rattle.elf_obj.specs.Conditions.{first_fault};
+ghost use Rattle.elf_base.specs.Conditions.{first_fault};
+ghost use Rattle.elf_base.specs.Records.{identification};
 ghost use Rattle.elf_obj.specs.ObjectFault.{start_conditions, all_held};
 
 use crate::file::all_held;

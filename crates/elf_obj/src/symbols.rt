@@ -1,12 +1,13 @@
 ghost use Rattle.std.specs.Prelude.{◌≡◌, ◌+◌, ◌*◌, ◌<◌, ◌≤◌, ◌^◌, ◌==◌, Some, None, [], length, take, slice_get, slice_index_or, get_or, MatchResult};
 ghost use Rattle.std.specs.List.{list_any, list_all};
 ghost use Rattle.elf_base.specs.Records.{sym_fields};
+ghost use Rattle.elf_base.specs.Conditions.{first_fault};
 ghost use Rattle.elf_obj.specs.Sections.{names_end};
 ghost use Rattle.elf_obj.specs.Records.{symbol_record};
 ghost use Rattle.elf_obj.specs.Rules.{is_empty, is_named, is_new, is_whole, is_within, has_place, symbol_keeps};
 ghost use Rattle.elf_obj.specs.Repeats.{first_repeat};
 ghost use Rattle.elf_obj.specs.Claimed.{size_of};
-ghost use Rattle.elf_obj.specs.Conditions.{stands, first_fault};
+ghost use Rattle.elf_obj.specs.Conditions.{stands};
 ghost use Rattle.elf_obj.specs.ObjectFault.{is_symbol, symbol_conditions};
 ghost use Rattle.elf_obj.specs.Laws.Held.{AreHeld};
 

@@ -10,6 +10,7 @@ use Rattle.elf_base.specs.Records.{ehdr_fields}
 use Rattle.elf_base.specs.Standing.{ehdr_at}
 use Rattle.elf_base.specs.Laws.Lengths.{length-ehdr}
 use Rattle.elf_base.specs.Laws.RecordsStand.{ehdr_again}
+use Rattle.elf_base.specs.Zeros.{is_zero_between}
 use Rattle.elf_obj.specs.declared.parts.Reloc.{Reloc}
 use Rattle.elf_obj.specs.declared.section.Section.{Section}
 use Rattle.elf_obj.specs.declared.sizes.Sizes.{Sizes}
@@ -19,7 +20,6 @@ use Rattle.elf_obj.specs.Records.{header, symbols_bytes, reloc_bytes, tag_bytes,
 use Rattle.elf_obj.specs.Contents.{contents, content_pieces, header_bytes, pieces}
 use Rattle.elf_obj.specs.ObjectFile.{AllCounted, AllNumbered, RelocFits, IsFileOf}
 use Rattle.elf_obj.specs.Claimed.{headers_at, offset_of, size_of, content_of, names_in, names_of, symbols_at, relocs_at, tags_at, words_at, claimed}
-use Rattle.elf_obj.specs.ObjectFault.{is_zero_between}
 use Rattle.elf_obj.specs.Laws.Lengths.{AreAsLong, contents_are_as_long, length-names}
 use Rattle.elf_obj.specs.Laws.Whole.{first_bytes, last_bytes, pieces_in_order}
 use Rattle.elf_obj.specs.Laws.SectionsHold.{SectionsHold, AllHere}

@@ -7,6 +7,10 @@ use Rattle.mt_base.specs.Granules.{round16}
 use Rattle.elf_base.specs.Field.{StandsAt}
 use Rattle.elf_base.specs.Layout.{Piece, piece, AllStand, IsGap}
 use Rattle.elf_base.specs.Laws.Lengths.{IsBytes, length-ehdr}
+use Rattle.elf_base.specs.Laws.Conditions.{head_holds}
+use Rattle.elf_base.specs.Laws.Zeros.{zero_there}
+use Rattle.elf_base.specs.Zeros.{is_zero_between}
+use Rattle.elf_base.specs.Conditions.{first_fault}
 use Rattle.elf_obj.specs.declared.refusal.ObjectRefusal.TheVariants.{BadSymbol}
 use Rattle.elf_obj.specs.declared.sizes.Sizes.{Sizes}
 use Rattle.elf_obj.specs.Object.{Object}
@@ -16,14 +20,13 @@ use Rattle.elf_obj.specs.Contents.{contents, header_bytes, pieces}
 use Rattle.elf_obj.specs.Rules.{reloc_rule}
 use Rattle.elf_obj.specs.ObjectFile.{ObjectFile, IsFileOf}
 use Rattle.elf_obj.specs.Claimed.{headers_at, offset_of, size_of, names_of, claimed}
-use Rattle.elf_obj.specs.Conditions.{first_fault}
-use Rattle.elf_obj.specs.ObjectFault.{is_zero_between, fixed_parts, sizes_in, symbol_conditions, contents_conditions, conditions}
+use Rattle.elf_obj.specs.ObjectFault.{fixed_parts, sizes_in, symbol_conditions, contents_conditions, conditions}
 use Rattle.elf_obj.specs.Laws.Lengths.{contents_are_as_long}
 use Rattle.elf_obj.specs.Laws.Whole.{first_bytes, last_bytes, length-last}
 use Rattle.elf_obj.specs.Laws.ClaimsFit.{ClaimsFit, claims_fit}
 use Rattle.elf_obj.specs.Laws.ClaimedRanges.{size_fits, claimed_ranges}
-use Rattle.elf_obj.specs.Laws.Together.{stands-both, words_stand, zeros_stand, zero_there}
-use Rattle.elf_obj.specs.Laws.RecordsHold.{head_holds, relocs_hold, tags_hold, SymbolsHold, symbols_hold}
+use Rattle.elf_obj.specs.Laws.Together.{stands-both, words_stand, zeros_stand}
+use Rattle.elf_obj.specs.Laws.RecordsHold.{relocs_hold, tags_hold, SymbolsHold, symbols_hold}
 use Rattle.elf_obj.specs.Laws.SectionsHold.{SectionsHold, AllReach, AllTrue, AllHere, sections_hold, fixed_hold, contents_stand, headers_stand, gap_zero, gap_last}
 use Rattle.elf_obj.specs.Laws.NamesHold.{names_stand}
 use Rattle.elf_obj.specs.Laws.OneFile.{HasFault, all_or_first}

@@ -7,6 +7,7 @@ use Rattle.elf_base.specs.Field.{Field, number, bytes_of}
 use Rattle.elf_base.specs.Place.{number_at}
 use Rattle.elf_base.specs.Records.{shdr_fields}
 use Rattle.elf_base.specs.Laws.Lengths.{length-number}
+use Rattle.elf_base.specs.Laws.Tests.{both, is_le}
 use Rattle.elf_obj.specs.declared.section.Section.{Section}
 use Rattle.elf_obj.specs.declared.sizes.Sizes.{Sizes}
 use Rattle.elf_obj.specs.Sections.{sections, header_of}
@@ -27,17 +28,9 @@ pub record AreHeld (file : List ℕ) : Type 0 where
   pub init_relocs : offset_of file 9 + size_of file 9 ≤ length file
   pub tagged : offset_of file 11 + size_of file 11 ≤ length file
 
-pub both : (a b : Bool) → (a && b) ≡ true → (a ≡ true) × (b ≡ true)
-both true true h = (λ i. true, λ i. true)
-both true false h = cc
-both false b h = cc
-
-le : (a b : ℕ) → nat_le a b ≡ true → a ≤ b
-le a b h = grind (arith, nat_tests)
-
 held : (file : List ℕ) (k : ℕ) → is_held file k ≡ true → offset_of file k + size_of file k ≤ length file
 unfolding is_held
-held file k h = le (offset_of file k + size_of file k) (length file) h
+held file k h = is_le (offset_of file k + size_of file k) (length file) h
 
 pub are_held : (file : List ℕ) → all_held file ≡ true → AreHeld file
 unfolding all_held
@@ -52,7 +45,7 @@ are_held file h =
     let h2 = both _ _ h3.0 in
     let h1 = both _ _ h2.0 in
     record {
-      headers = le (headers_at file + 768) (length file) h1.0;
+      headers = is_le (headers_at file + 768) (length file) h1.0;
       text = held file 1 h1.1;
       rodata = held file 2 h2.1;
       init = held file 3 h3.1;

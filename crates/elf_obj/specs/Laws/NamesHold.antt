@@ -6,11 +6,11 @@ use Rattle.std.proofs.lemmas.List.{take_all, drop-take}
 use Rattle.std.proofs.lemmas.Bool.Decides.{nat_tests}
 use Rattle.elf_base.specs.Field.{StandsAt}
 use Rattle.elf_base.specs.Laws.Standing.{take-add}
+use Rattle.elf_base.specs.Zeros.{is_zero_between}
 use Rattle.elf_obj.specs.declared.parts.Symbol.{Symbol}
 use Rattle.elf_obj.specs.Sections.{names_end}
 use Rattle.elf_obj.specs.Records.{name_bytes}
 use Rattle.elf_obj.specs.Claimed.{offset_of, size_of, content_of, name_first, after_name, names_in, symbols_at}
-use Rattle.elf_obj.specs.ObjectFault.{is_zero_between}
 use Rattle.elf_obj.specs.Laws.Lengths.{length-names}
 use Rattle.elf_obj.specs.Laws.Together.{stands-both, stands-taken, zeros_stand}
 

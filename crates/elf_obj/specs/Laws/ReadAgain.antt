@@ -8,7 +8,9 @@ use Rattle.elf_base.specs.Place.{number_at}
 use Rattle.elf_base.specs.Layout.{word_bytes}
 use Rattle.elf_base.specs.Records.{sym_fields, rela_fields}
 use Rattle.elf_base.specs.Laws.Reads.{fields_like}
-use Rattle.elf_base.specs.Laws.RecordsStand.{begins_there, fields_again}
+use Rattle.elf_base.specs.Laws.RecordsStand.{begins_there, fields_again, again}
+use Rattle.elf_base.specs.Laws.Tests.{both}
+use Rattle.elf_base.specs.Laws.Lengths.{length-word_bytes}
 use Rattle.elf_obj.specs.declared.parts.Symbol.{Symbol}
 use Rattle.elf_obj.specs.declared.parts.Reloc.{Reloc}
 use Rattle.elf_obj.specs.declared.parts.Home.{Home}
@@ -18,8 +20,7 @@ use Rattle.elf_obj.specs.Records.{home_number, binding_of, function_type, type_o
 use Rattle.elf_obj.specs.Rules.{is_in_order, is_named, is_empty, is_new, has_place, symbol_keeps, symbols_keep}
 use Rattle.elf_obj.specs.ObjectFile.{NamesFit, AllCounted, AllNumbered, SymbolFits, RelocFits}
 use Rattle.elf_obj.specs.Claimed.{name_first, after_name, names_in, home_of, symbol_at, symbols_at, reloc_at, relocs_at, tag_at, tags_at, words_at}
-use Rattle.elf_obj.specs.Laws.Lengths.{length-sym, length-reloc_bytes, length-tag_bytes, length-word_bytes}
-use Rattle.elf_obj.specs.Laws.Held.{both}
+use Rattle.elf_obj.specs.Laws.Lengths.{length-sym, length-reloc_bytes, length-tag_bytes}
 
 -- two parts that stand as one stand one behind the other
 pub apart : (file : List ℕ) (at n : ℕ) (a b : List ℕ) → length a ≡ n → StandsAt file at (a ++ b) → StandsAt file at a × StandsAt file (at + n) b
@@ -28,9 +29,6 @@ apart file at n a b len h =
     let here : drop at file ≡ a ++ (b ++ rest) = begins_there file at (a ++ b) h ∙ append_assoc a b rest in
     let behind : drop (at + n) file ≡ b ++ rest = sym (drop-drop n at file) ∙ ap (drop n) here ∙ drop_at a (b ++ rest) n len in
     (ap (take (length a)) here ∙ take_at a (b ++ rest) (length a) refl, ap (take (length b)) behind ∙ take_at b rest (length b) refl)
-
-again : (fs : List Field) (at : ℕ) (file : List ℕ) → FieldsFit fs → StandsAt file at (bytes_of fs) → fields_like fs at file ≡ fs
-again fs at file fits h = fields_again fs at file _ fits (begins_there file at (bytes_of fs) h)
 
 -- ---- words
 

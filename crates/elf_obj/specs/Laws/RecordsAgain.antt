@@ -5,6 +5,8 @@ use Rattle.std.specs.List.{flat_map}
 use Rattle.std.proofs.lemmas.Bool.Decides.{nat_tests}
 use Rattle.elf_base.specs.Field.{bytes_of, StandsAt}
 use Rattle.elf_base.specs.Records.{sym_fields, rela_fields}
+use Rattle.elf_base.specs.Laws.Tests.{both, both_hold, le_is, lt_is}
+use Rattle.elf_base.specs.Laws.Conditions.{EachHolds}
 use Rattle.elf_obj.specs.declared.parts.Symbol.{Symbol}
 use Rattle.elf_obj.specs.declared.parts.Reloc.{Reloc}
 use Rattle.elf_obj.specs.declared.sizes.Sizes.{Sizes}
@@ -12,35 +14,15 @@ use Rattle.elf_obj.specs.Sections.{names_end}
 use Rattle.elf_obj.specs.Records.{symbol_record, symbols_bytes, reloc_record, reloc_bytes, tag_record, tag_bytes}
 use Rattle.elf_obj.specs.Rules.{symbol_keeps, symbols_keep, relocs_keep, tag_keeps, tags_keep}
 use Rattle.elf_obj.specs.Claimed.{size_of}
-use Rattle.elf_obj.specs.Conditions.{Condition, first_fault, stands}
+use Rattle.elf_obj.specs.Conditions.{stands}
 use Rattle.elf_obj.specs.ObjectFile.{NamesFit}
 use Rattle.elf_obj.specs.ObjectFault.{is_symbol, symbol_conditions, is_reloc, reloc_conditions, is_tag, tag_conditions}
 use Rattle.elf_obj.specs.Laws.Lengths.{length-sym, length-reloc_bytes, length-tag_bytes}
 use Rattle.elf_obj.specs.Laws.Fields.{is-stands}
-use Rattle.elf_obj.specs.Laws.Held.{both}
-use Rattle.elf_obj.specs.Laws.RecordsHold.{both_hold}
 use Rattle.elf_obj.specs.Laws.ReadAgain.{apart}
 use Rattle.elf_obj.specs.Laws.Ends.{names_grow}
 
-pub le_is : (a b : ℕ) → a ≤ b → nat_le a b ≡ true
-le_is a b h = grind (arith, nat_tests)
-
-pub lt_is : (a b : ℕ) → a < b → nat_lt a b ≡ true
-lt_is a b h = grind (arith, nat_tests)
-
 -- ---- conditions that hold
-
-abbrev pub EachHolds : List Condition → Type 0
-EachHolds [] = Unit {0}
-EachHolds (c ∷ cs) = (c.holds ≡ true) × EachHolds cs
-
-pub none_fails : (cs : List Condition) → EachHolds cs → first_fault cs ≡ None
-none_fails [] h = refl
-none_fails (c ∷ cs) h = ap (λ (b : Bool). if b then first_fault cs else Some c.fault) h.0 ∙ none_fails cs h.1
-
-pub both_hold_each : (xs ys : List Condition) → EachHolds xs → EachHolds ys → EachHolds (xs ++ ys)
-both_hold_each [] ys h g = g
-both_hold_each (x ∷ xs) ys h g = (h.0, both_hold_each xs ys h.1 g)
 
 -- ---- relocations
 

@@ -6,6 +6,9 @@ use Rattle.std.proofs.lemmas.Bool.Decides.{nat_tests}
 use Rattle.elf_base.specs.Field.{bytes_of, StandsAt}
 use Rattle.elf_base.specs.Records.{sym_fields, rela_fields}
 use Rattle.elf_base.specs.Index.{told_index}
+use Rattle.elf_base.specs.Laws.Tests.{both, both_hold, is_le, is_lt}
+use Rattle.elf_base.specs.Laws.Conditions.{head_holds}
+use Rattle.elf_base.specs.Conditions.{first_fault}
 use Rattle.elf_obj.specs.declared.parts.Symbol.{Symbol}
 use Rattle.elf_obj.specs.declared.parts.Reloc.{Reloc}
 use Rattle.elf_obj.specs.declared.refusal.ObjectRefusal.{ObjectRefusal}
@@ -15,37 +18,11 @@ use Rattle.elf_obj.specs.Sections.{names_end}
 use Rattle.elf_obj.specs.Records.{symbol_record, symbols_bytes, reloc_record, reloc_bytes, tag_record, tag_bytes}
 use Rattle.elf_obj.specs.Rules.{symbol_keeps, symbols_keep, relocs_keep, tag_keeps, tags_keep}
 use Rattle.elf_obj.specs.Claimed.{size_of}
-use Rattle.elf_obj.specs.Conditions.{Condition, first_fault}
 use Rattle.elf_obj.specs.ObjectFile.{NamesFit}
 use Rattle.elf_obj.specs.ObjectFault.{is_symbol, symbol_conditions, is_reloc, reloc_conditions, is_tag, tag_conditions}
 use Rattle.elf_obj.specs.Laws.Lengths.{length-sym, length-reloc_bytes, length-tag_bytes}
 use Rattle.elf_obj.specs.Laws.Fields.{stands-is}
-use Rattle.elf_obj.specs.Laws.Held.{both}
 use Rattle.elf_obj.specs.Laws.Together.{stands-both}
-
-pub both_hold : (a b : Bool) → a ≡ true → b ≡ true → (a && b) ≡ true
-both_hold a b ha hb = rw (ha, hb) refl
-
-pub is_le : (a b : ℕ) → nat_le a b ≡ true → a ≤ b
-is_le a b h = grind (arith, nat_tests)
-
-pub is_lt : (a b : ℕ) → nat_lt a b ≡ true → a < b
-is_lt a b h = grind (arith, nat_tests)
-
--- the first condition holds, and none behind it fails
-pub head_holds : (b : Bool) (e : ObjectRefusal) (rest : Option ObjectRefusal) → (if b then rest else Some e) ≡ None → (b ≡ true) × (rest ≡ None)
-head_holds true e rest h = (refl, h)
-head_holds false e rest h = cc
-
-both_none : (b : Bool) (e : ObjectRefusal) (first rest all : Option ObjectRefusal) → (all ≡ None → (first ≡ None) × (rest ≡ None)) → (if b then all else Some e) ≡ None
-    → ((if b then first else Some e) ≡ None) × (rest ≡ None)
-both_none true e first rest all f h = f h
-both_none false e first rest all f h = cc
-
--- no condition fails in either list
-pub split_none : (xs ys : List Condition) → first_fault (xs ++ ys) ≡ None → (first_fault xs ≡ None) × (first_fault ys ≡ None)
-split_none [] ys h = (refl, h)
-split_none (x ∷ xs) ys h = both_none x.holds x.fault (first_fault xs) (first_fault ys) (first_fault (xs ++ ys)) (split_none xs ys) h
 
 -- ---- relocations
 

@@ -5,18 +5,19 @@ use Rattle.mt_base.specs.Granules.{round16}
 use Rattle.elf_base.specs.Field.{StandsAt}
 use Rattle.elf_base.specs.Layout.{Piece}
 use Rattle.elf_base.specs.Records.{shdr_fields}
+use Rattle.elf_base.specs.Laws.Tests.{both_hold, lt_is}
+use Rattle.elf_base.specs.Laws.Conditions.{EachHolds}
+use Rattle.elf_base.specs.Zeros.{is_zero_between}
 use Rattle.elf_obj.specs.declared.section.Section.{Section}
 use Rattle.elf_obj.specs.Sections.{contents_end, header_of, headers_of}
 use Rattle.elf_obj.specs.Contents.{content_pieces, header_bytes}
 use Rattle.elf_obj.specs.Claimed.{headers_at, offset_of, size_of}
-use Rattle.elf_obj.specs.ObjectFault.{is_zero_between, is_section, section_conditions}
+use Rattle.elf_obj.specs.ObjectFault.{is_section, section_conditions}
 use Rattle.elf_obj.specs.Laws.Lengths.{AreAsLong, length-header}
 use Rattle.elf_obj.specs.Laws.Fields.{is-stands}
-use Rattle.elf_obj.specs.Laws.RecordsHold.{both_hold}
 use Rattle.elf_obj.specs.Laws.SectionsHold.{SectionsHold, AllTrue, section_holds}
 use Rattle.elf_obj.specs.Laws.ZerosBetween.{ZerosBetween}
 use Rattle.elf_obj.specs.Laws.ReadAgain.{apart}
-use Rattle.elf_obj.specs.Laws.RecordsAgain.{EachHolds, lt_is}
 use Rattle.elf_obj.specs.Laws.Ends.{contents_grow}
 
 -- the sizes of sections fit their fields

@@ -6,18 +6,21 @@ use Rattle.mt_base.specs.Granules.{round16}
 use Rattle.elf_base.specs.Field.{StandsAt}
 use Rattle.elf_base.specs.Layout.{Piece, AllStand, IsGap}
 use Rattle.elf_base.specs.Records.{shdr_fields}
+use Rattle.elf_base.specs.Laws.Tests.{both, is_lt}
+use Rattle.elf_base.specs.Laws.Conditions.{head_holds}
+use Rattle.elf_base.specs.Laws.Zeros.{zero_there}
+use Rattle.elf_base.specs.Zeros.{is_zero_between}
+use Rattle.elf_base.specs.Conditions.{first_fault}
 use Rattle.elf_obj.specs.declared.refusal.ObjectRefusal.TheVariants.{BadSection}
 use Rattle.elf_obj.specs.declared.section.Section.{Section}
 use Rattle.elf_obj.specs.Sections.{contents_end, header_of, headers_of}
 use Rattle.elf_obj.specs.Contents.{content_pieces, header_bytes}
 use Rattle.elf_obj.specs.Claimed.{headers_at, offset_of, size_of}
-use Rattle.elf_obj.specs.Conditions.{first_fault}
-use Rattle.elf_obj.specs.ObjectFault.{is_zero_between, is_section, section_conditions}
+use Rattle.elf_obj.specs.ObjectFault.{is_section, section_conditions}
 use Rattle.elf_obj.specs.Laws.Lengths.{AreAsLong, length-header}
 use Rattle.elf_obj.specs.Laws.Fields.{stands-is}
-use Rattle.elf_obj.specs.Laws.Held.{both, Reaches, Named, named, section_ends}
-use Rattle.elf_obj.specs.Laws.Together.{stands-both, zero_there}
-use Rattle.elf_obj.specs.Laws.RecordsHold.{is_lt, head_holds}
+use Rattle.elf_obj.specs.Laws.Held.{Reaches, Named, named, section_ends}
+use Rattle.elf_obj.specs.Laws.Together.{stands-both}
 
 -- what the conditions on a section say
 pub record SectionHolds (file : List ℕ) (at k : ℕ) (s : Section) : Type 0 where

@@ -7,13 +7,13 @@ use Rattle.std.proofs.lemmas.Bool.Decides.{nat_tests}
 use Rattle.elf_base.specs.Field.{number, field_bytes, StandsAt}
 use Rattle.elf_base.specs.Place.{number_at}
 use Rattle.elf_base.specs.Layout.{word_bytes}
-use Rattle.elf_base.specs.Laws.Lengths.{IsBytes}
+use Rattle.elf_base.specs.Laws.Lengths.{IsBytes, length-word_bytes}
 use Rattle.elf_base.specs.Laws.Reads.{field_bytes-read_like}
 use Rattle.elf_base.specs.Laws.Standing.{take-add}
+use Rattle.elf_base.specs.Laws.Tests.{both}
+use Rattle.elf_base.specs.Laws.Zeros.{zeros}
+use Rattle.elf_base.specs.Zeros.{are_zero, is_zero_between}
 use Rattle.elf_obj.specs.Claimed.{words_at}
-use Rattle.elf_obj.specs.ObjectFault.{are_zero, is_zero_between}
-use Rattle.elf_obj.specs.Laws.Lengths.{length-word_bytes}
-use Rattle.elf_obj.specs.Laws.Held.{both}
 
 -- two parts that stand one behind the other stand as one
 pub stands-append : (file : List ℕ) (at : ℕ) (a b : List ℕ) → StandsAt file at a → StandsAt file (at + length a) b → StandsAt file at (a ++ b)
@@ -45,20 +45,6 @@ words_stand (suc n) at file fits h =
 
 -- ---- zeros
 
-pub zeros : (xs : List ℕ) → are_zero xs ≡ true → xs ≡ replicate (length xs) 0
-zeros [] h = refl
-zeros (x ∷ xs) h =
-    let parts = both (x == 0) (are_zero xs) h in
-    let none : x ≡ 0 = grind (arith, nat_tests) in
-    ap (λ (n : ℕ). n ∷ xs) none ∙ ap (λ (l : List ℕ). 0 ∷ l) (zeros xs parts.1)
-
-pub zeros_at : (xs : List ℕ) (i : ℕ) → are_zero xs ≡ true → i < length xs → get_or xs i 0 ≡ 0
-zeros_at [] i h lt = refl
-zeros_at (x ∷ xs) zero h lt =
-    let parts = both (x == 0) (are_zero xs) h in
-    grind (arith, nat_tests)
-zeros_at (x ∷ xs) (suc i) h lt = zeros_at xs i (both (x == 0) (are_zero xs) h).1 (omega (arith, lt))
-
 -- zeros that stand between two places
 pub zeros_stand : (file : List ℕ) (at n : ℕ) → is_zero_between file at (at + n) ≡ true → at + n ≤ length file → StandsAt file at (replicate n 0)
 unfolding is_zero_between
@@ -69,14 +55,3 @@ zeros_stand file at n h within =
     let len : length part ≡ n = omega (arith, length-take n (drop at file), length-drop at file, within) in
     let is : part ≡ replicate n 0 = zeros part zero_part ∙ ap (λ (k : ℕ). replicate k 0) len in
     stands-taken file at n (replicate n 0) (sym is) within
-
--- a byte between them
-pub zero_there : (file : List ℕ) (from to i : ℕ) → is_zero_between file from to ≡ true → from ≤ i → i < to → i < length file → get_or file i 0 ≡ 0
-unfolding is_zero_between
-zero_there file from to i h low high within =
-    let part : List ℕ = take (to - from) (drop from file) in
-    let len = length-take (to - from) (drop from file) in
-    let zero_byte = zeros_at part (i - from) h (omega (arith, len, length-drop from file, low, high, within)) in
-    let same : from + (i - from) ≡ i = omega arith in
-    ap (λ (k : ℕ). get_or file k 0) (sym same) ∙ sym (get_or-drop from file (i - from) 0)
-    ∙ sym (get_or-take (to - from) (drop from file) (i - from) 0 (omega arith)) ∙ zero_byte

@@ -8,7 +8,7 @@ use Rattle.elf_base.specs.Layout.{Piece, piece, IsLaidOut}
 use Rattle.elf_base.specs.Laying.{pad, put, put_all}
 use Rattle.elf_base.specs.Records.{ehdr_fields}
 use Rattle.elf_base.specs.Laws.Lengths.{length-ehdr}
-use Rattle.elf_base.specs.Laws.LaidOut.{AreInOrder, end_of, length-put_all, laid_out}
+use Rattle.elf_base.specs.Laws.LaidOut.{AreInOrder, end_of, length-put_all, laid_out, length-put}
 use Rattle.elf_obj.specs.declared.section.Section.{Section}
 use Rattle.elf_obj.specs.Object.{Object}
 use Rattle.elf_obj.specs.Sections.{sections, sizes_of, contents_end, headers_place, file_size, headers_of}
@@ -37,10 +37,6 @@ first_put : (bytes : List ℕ) → put (piece 0 bytes) [] ≡ bytes
 unfolding put pad
 first_put bytes = refl
 
--- how long what was put is
-length-one : (p : Piece) (out : List ℕ) → length out ≤ p.place → length (put p out) ≡ p.place + length p.bytes
-length-one p out h = length-put_all (p ∷ []) out (h, tt)
-
 -- ---- contents
 
 pub after_round : (at : ℕ) → at ≤ round16 at
@@ -68,7 +64,7 @@ contents_put at out [] (c ∷ cs) h same = absurd h
 contents_put at out (s ∷ ss) [] h same = absurd h
 contents_put at out (s ∷ ss) (c ∷ cs) h same =
     let first : put_next c out ≡ put (piece (round16 at) c) out = ap (λ (n : ℕ). put (piece (round16 n) c) out) (sym same) in
-    let len : length (put (piece (round16 at) c) out) ≡ round16 at + length c = length-one (piece (round16 at) c) out (omega (arith, same)) in
+    let len : length (put (piece (round16 at) c) out) ≡ round16 at + length c = length-put (piece (round16 at) c) out (omega (arith, same)) in
     let next : round16 at + s.bytes ≡ length (put (piece (round16 at) c) out) = omega (arith, len, h.0) in
     ap (put_contents cs) first ∙ contents_put (round16 at + s.bytes) (put (piece (round16 at) c) out) ss cs h.1 next
 

@@ -2,6 +2,7 @@ use Rattle.std.proofs.Common.{◌≡◌, ℕ, ◌+◌, ◌-◌, ◌<◌, ◌≤�
 use Rattle.std.specs.Prelude.{◌==◌, not, slice_get}
 use Rattle.std.specs.List.{list_any, AllByRecursion}
 use Rattle.std.proofs.lemmas.List.{take_more}
+use Rattle.elf_base.specs.Laws.Tests.{same_is}
 use Rattle.elf_obj.specs.declared.parts.Symbol.{Symbol}
 use Rattle.elf_obj.specs.declared.parts.Home.{Home}
 use Rattle.elf_obj.specs.Records.{home_number}
@@ -9,7 +10,7 @@ use Rattle.elf_obj.specs.Rules.{shares_found}
 use Rattle.elf_obj.specs.Apart.{lies_in, is_found_apart, meets, IsSound}
 use Rattle.elf_obj.proofs.Steps.{left}
 use Rattle.elf_obj.proofs.Intervals.{found_first, put_rising, put_any}
-use Rattle.elf_obj.proofs.Sharing.{apart-step, shared-step, not-there, not-object, elsewhere, as-apart, home-is, seen-put, seen-other, is_same, not_same, get-some, get-none}
+use Rattle.elf_obj.proofs.Sharing.{apart-step, shared-step, not-there, not-object, elsewhere, as-apart, home-is, seen-put, seen-other, not_same, get-some, get-none}
 use Rattle.elf_obj.proofs.apart.first_shared.Goals as goal
 use Rattle.elf_obj.proofs.apart.first_shared.Goals.{then-home_number+in-Some-end_of+else-meets+in_ok-insert, else-home_number}
 
@@ -52,7 +53,7 @@ returns-then-meets c = λ sound.
     let front : drop i ts ≡ t ∷ drop (i + 1) ts = left ts i t 0 within refl in
     let s : Symbol = c.in-Some.symbol.now in
     let there : slice_get symbols t ≡ Some s = get-some symbols t s s c.in-Some.ensures.lookup.3.0 (c.in-Some.ensures.lookup.3.1 s) in
-    let here : lies_in home s ≡ true = same_home home s _ _ true c.home_number.ensures c.home_number-in-loop-index.ensures (is_same _ _ c.if-home_number.true) in
+    let here : lies_in home s ≡ true = same_home home s _ _ true c.home_number.ensures c.home_number-in-loop-index.ensures (same_is _ _ c.if-home_number.true) in
     let is : c.meets.result ≡ list_any (λ e. shares_found s (slice_get symbols e)) (take i ts) =
     c.meets.ensures ∙ found_first 0 s.value c.in-Some-end_of.end c.loop-index.taken.entries (c.loop-index.invariant.rising sound)
     ∙ ap (λ (n : ℕ). list_any (meets s.value n) c.loop-index.taken.entries) c.in-Some-end_of.ensures.found.0
@@ -76,7 +77,7 @@ loop-index-preserved c =
     let entries : List (ℕ × ℕ) = c.loop-index.taken.entries in
     elim c.if-home_number.branch [
       | then-home_number+in-Some-end_of+else-meets+in_ok-insert w ↦
-          let here : lies_in home s ≡ true = same_home home s _ _ true c.home_number.ensures c.home_number-in-loop-index.ensures (is_same _ _ w.if-home_number.true) in
+          let here : lies_in home s ≡ true = same_home home s _ _ true c.home_number.ensures c.home_number-in-loop-index.ensures (same_is _ _ w.if-home_number.true) in
           let hs : home_number s.home ≡ home_number home = home-is home s here in
           let ends : w.in-Some-end_of.end ≡ s.value + s.size = w.in-Some-end_of.ensures.found.0 in
           let some : 1 ≤ s.size = w.in-Some-end_of.ensures.found.1 in

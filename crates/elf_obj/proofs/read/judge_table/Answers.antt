@@ -1,11 +1,12 @@
 use Rattle.std.proofs.Common.{◌≡◌, ℕ, ◌+◌, ◌*◌, ◌<◌, ◌≤◌, ◌^◌, true, List, [], length, sym, ap, subst, ◌∙◌, arith}
+use Rattle.elf_base.specs.Zeros.{is_zero_between}
 use Rattle.elf_obj.specs.declared.parts.Symbol.{Symbol}
 use Rattle.elf_obj.specs.declared.refusal.ObjectRefusal.TheVariants.{BadSymbol}
 use Rattle.elf_obj.specs.declared.sizes.Sizes.{Sizes}
 use Rattle.elf_obj.specs.Object.{Object}
 use Rattle.elf_obj.specs.Sections.{names_end, sizes_of}
 use Rattle.elf_obj.specs.Claimed.{offset_of, claimed}
-use Rattle.elf_obj.specs.ObjectFault.{is_zero_between, symbol_conditions}
+use Rattle.elf_obj.specs.ObjectFault.{symbol_conditions}
 use Rattle.elf_obj.specs.Laws.ClaimsFit.{ClaimsFit, claims_fit}
 use Rattle.elf_obj.proofs.Faults.{tells-behind, tells-same}
 use Rattle.elf_obj.proofs.read.judge_table.Goals as goal

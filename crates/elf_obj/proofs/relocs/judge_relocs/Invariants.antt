@@ -1,6 +1,6 @@
 use Rattle.std.proofs.Common.{◌≡◌, ◌+◌, ◌*◌, drop}
+use Rattle.elf_base.specs.Conditions.{first_fault}
 use Rattle.elf_obj.specs.Rules.{reloc_rule}
-use Rattle.elf_obj.specs.Conditions.{first_fault}
 use Rattle.elf_obj.specs.ObjectFault.{reloc_conditions}
 use Rattle.elf_obj.proofs.relocs.judge_relocs.Given as goal
 

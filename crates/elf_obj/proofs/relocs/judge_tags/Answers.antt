@@ -1,13 +1,13 @@
 use Rattle.std.proofs.Common.{◌≡◌, ℕ, ◌+◌, ◌*◌, ◌<◌, Bool, true, nat_eq, List, [], ◌∷◌, ◌++◌, length, take, drop, get_or, refl, sym, ap, ◌∙◌, arith}
 use Rattle.std.specs.Prelude.{◌&&◌, not, slice_get}
 use Rattle.std.proofs.lemmas.List.{take_more}
+use Rattle.elf_base.specs.Laws.Tests.{both}
+use Rattle.elf_base.specs.Conditions.{first_fault}
 use Rattle.elf_obj.specs.declared.parts.Symbol.{Symbol}
 use Rattle.elf_obj.specs.declared.parts.Home.TheVariants.{Init, Zero}
 use Rattle.elf_obj.specs.Rules.{tag_keeps}
 use Rattle.elf_obj.specs.Apart.{is_found_apart}
-use Rattle.elf_obj.specs.Conditions.{first_fault}
 use Rattle.elf_obj.specs.ObjectFault.{is_tag, tag_conditions}
-use Rattle.elf_obj.specs.Laws.Held.{both}
 use Rattle.elf_obj.proofs.Steps.{left, numbered-at}
 use Rattle.elf_obj.proofs.Faults.{tag-holds}
 use Rattle.elf_obj.proofs.Sharing.{apart-step, apart-is, keeps-apart}

@@ -1,7 +1,7 @@
 use Rattle.std.proofs.Common.{◌≡◌, ◌+◌, ◌*◌, [], take, drop}
+use Rattle.elf_base.specs.Conditions.{first_fault}
 use Rattle.elf_obj.specs.declared.parts.Home.TheVariants.{Init, Zero}
 use Rattle.elf_obj.specs.Apart.{first_shared}
-use Rattle.elf_obj.specs.Conditions.{first_fault}
 use Rattle.elf_obj.specs.ObjectFault.{tag_conditions}
 use Rattle.elf_obj.proofs.relocs.judge_tags.Given as goal
 

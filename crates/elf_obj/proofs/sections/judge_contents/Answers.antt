@@ -1,11 +1,12 @@
 use Rattle.std.proofs.Common.{◌≡◌, ℕ, ◌+◌, ◌<◌, ◌≤◌, ◌^◌, Bool, true, false, List, length, drop, sym, ap, subst, ◌∙◌, refl, arith}
 use Rattle.std.specs.Prelude.{◌&&◌}
 use Rattle.mt_base.specs.Granules.{round16}
+use Rattle.elf_base.specs.Laws.Tests.{both}
+use Rattle.elf_base.specs.Conditions.{first_fault}
 use Rattle.elf_obj.specs.declared.section.Section.{Section}
 use Rattle.elf_obj.specs.Sections.{sections}
-use Rattle.elf_obj.specs.Conditions.{first_fault}
 use Rattle.elf_obj.specs.ObjectFault.{fixed_parts, is_section, section_conditions, contents_conditions}
-use Rattle.elf_obj.specs.Laws.Held.{both, reaches, section_ends}
+use Rattle.elf_obj.specs.Laws.Held.{reaches, section_ends}
 use Rattle.elf_obj.proofs.Faults.{section-holds, section-fails}
 use Rattle.elf_obj.proofs.sections.judge_contents.Goals as goal
 

@@ -1,7 +1,7 @@
 use Rattle.std.proofs.Common.{◌≡◌, ℕ, ◌<◌, ◌≤◌, List, length, take, sym, ap, ◌∙◌, arith}
 use Rattle.std.proofs.lemmas.List.{take_all}
 use Rattle.std.specs.Str.{bytes_eq}
-use Rattle.elf_obj.specs.Records.{identification}
+use Rattle.elf_base.specs.Records.{identification}
 use Rattle.elf_obj.proofs.start.is_elf.Goals as goal
 use Rattle.elf_obj.proofs.start.is_elf.Goals.{then-file-lt16, else-file-lt16}
 

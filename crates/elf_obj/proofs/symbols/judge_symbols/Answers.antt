@@ -1,10 +1,10 @@
 use Rattle.std.proofs.Common.{◌≡◌, ℕ, ◌+◌, ◌*◌, ◌<◌, true, List, [], ◌∷◌, ◌++◌, length, take, drop, sym, ap, ◌∙◌, arith}
 use Rattle.std.proofs.lemmas.List.{take_more}
+use Rattle.elf_base.specs.Conditions.{first_fault}
 use Rattle.elf_obj.specs.declared.parts.Symbol.{Symbol}
 use Rattle.elf_obj.specs.declared.sizes.Sizes.{Sizes}
 use Rattle.elf_obj.specs.Sections.{names_end}
 use Rattle.elf_obj.specs.Rules.{is_new}
-use Rattle.elf_obj.specs.Conditions.{first_fault}
 use Rattle.elf_obj.specs.ObjectFault.{is_symbol, symbol_conditions}
 use Rattle.elf_obj.specs.Laws.Ends.{names_grow}
 use Rattle.elf_obj.proofs.Steps.{left, names-step}

@@ -1,8 +1,8 @@
 use Rattle.std.proofs.Common.{◌≡◌, ◌+◌, ◌*◌, [], take, drop}
 use Rattle.std.specs.List.{list_all}
+use Rattle.elf_base.specs.Conditions.{first_fault}
 use Rattle.elf_obj.specs.Sections.{names_end}
 use Rattle.elf_obj.specs.Repeats.{first_repeat}
-use Rattle.elf_obj.specs.Conditions.{first_fault}
 use Rattle.elf_obj.specs.ObjectFault.{symbol_conditions}
 use Rattle.elf_obj.proofs.symbols.judge_symbols.Given as goal
 
