@@ -37,9 +37,9 @@ zero_between file from to h =
     let within : i < to - from = omega (arith, lt, length-take (to - from) (drop from file)) in
     get_or-take (to - from) (drop from file) i 0 within ∙ get_or-drop from file i 0 ∙ h (from + i) (omega arith) (omega (arith, within)))
 
-pub zero_there : (file : List ℕ) (from to i : ℕ) → is_zero_between file from to ≡ true → from ≤ i → i < to → get_or file i 0 ≡ 0
+pub zero_there : (file : List ℕ) (from to : ℕ) → is_zero_between file from to ≡ true → (i : ℕ) → from ≤ i → i < to → get_or file i 0 ≡ 0
 unfolding is_zero_between
-zero_there file from to i h low high =
+zero_there file from to h i low high =
     let zero_byte = zero_at (take (to - from) (drop from file)) (i - from) h in
     let same : from + (i - from) ≡ i = omega arith in
     ap (λ (k : ℕ). get_or file k 0) (sym same) ∙ sym (get_or-drop from file (i - from) 0)

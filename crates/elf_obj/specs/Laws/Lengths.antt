@@ -6,9 +6,8 @@ use Rattle.elf_base.specs.declared.section.Shdr.{Shdr}
 use Rattle.elf_base.specs.declared.symbol.Sym.{Sym}
 use Rattle.elf_base.specs.declared.relocation.Rela.{Rela}
 use Rattle.elf_base.specs.Field.{bytes_of}
-use Rattle.elf_base.specs.Layout.{word_bytes}
 use Rattle.elf_base.specs.Records.{sym_fields, rela_fields}
-use Rattle.elf_base.specs.Laws.Lengths.{length-number, length-signed, length-word_bytes, length-words}
+use Rattle.elf_base.specs.Laws.Lengths.{length-number, length-signed, length-words}
 use Rattle.elf_obj.specs.declared.parts.Symbol.{Symbol}
 use Rattle.elf_obj.specs.declared.parts.Reloc.{Reloc}
 use Rattle.elf_obj.specs.declared.section.Section.{Section}

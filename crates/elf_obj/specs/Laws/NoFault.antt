@@ -1,10 +1,10 @@
 -- No condition on the file of an object fails.
-use Rattle.std.proofs.Common.{◌≡◌, ℕ, ◌+◌, ◌≤◌, true, false, List, [], ◌∷◌, ◌++◌, length, take, replicate, refl, sym, ap, subst, ◌∙◌, arith, None}
+use Rattle.std.proofs.Common.{◌≡◌, ℕ, ◌+◌, ◌≤◌, true, false, List, [], ◌∷◌, ◌++◌, length, take, replicate, refl, sym, ap, subst, ◌∙◌}
+use Rattle.std.proofs.Common.{arith, None}
 use Rattle.std.specs.Prelude.{◌==◌}
 use Rattle.std.specs.List.{flat_map}
 use Rattle.std.specs.Str.{bytes_eq}
 use Rattle.std.proofs.lemmas.List.{length-replicate, take_all}
-use Rattle.std.proofs.lemmas.Bool.Decides.{nat_tests}
 use Rattle.std.proofs.lemmas.Slice.Eq.{bytes_eq-Decides}
 use Rattle.mt_base.specs.Granules.{round16}
 use Rattle.elf_base.specs.declared.header.Ehdr.{Ehdr}
@@ -25,7 +25,9 @@ use Rattle.elf_obj.specs.Rules.{reloc_rule}
 use Rattle.elf_obj.specs.ObjectFile.{IsFileOf}
 use Rattle.elf_obj.specs.Claimed.{headers_at, offset_of, size_of, content_of, claimed}
 use Rattle.elf_obj.specs.Conditions.{stands}
-use Rattle.elf_obj.specs.ObjectFault.{is_held, all_held, is_headed, is_strings, is_names, fixed_parts, sizes_in, is_ended, start_conditions, section_conditions, contents_conditions, all_section_conditions, table_conditions, code_conditions, data_conditions, tagged_conditions, object_conditions, conditions}
+use Rattle.elf_obj.specs.ObjectFault.{is_held, all_held, is_headed, is_strings, is_names, fixed_parts, sizes_in, is_ended}
+use Rattle.elf_obj.specs.ObjectFault.{start_conditions, section_conditions, contents_conditions, all_section_conditions, table_conditions}
+use Rattle.elf_obj.specs.ObjectFault.{code_conditions, data_conditions, tagged_conditions, object_conditions, conditions}
 use Rattle.elf_obj.specs.Laws.Fields.{is-stands}
 use Rattle.elf_obj.specs.Laws.SectionsHold.{AllTrue}
 use Rattle.elf_obj.specs.Laws.ZerosBetween.{zeros_between}
@@ -37,7 +39,8 @@ use Rattle.elf_obj.specs.Laws.Again.{Frame, frame, hold_again, within_again, all
 
 -- ---- the start
 
-ident_is : (file : List ℕ) → take 16 file ≡ identification → 16 ≤ length file → bytes_eq (take 16 file) (take (length file) identification) ≡ true
+ident_is : (file : List ℕ) → take 16 file ≡ identification → 16 ≤ length file
+    → bytes_eq (take 16 file) (take (length file) identification) ≡ true
 ident_is file is long =
     (bytes_eq-Decides (take 16 file) (take (length file) identification)).1 (is ∙ sym (take_all (length file) identification long))
 
@@ -84,10 +87,12 @@ unfolding is_headed
 headed_is file place end there stand empty =
     let header_stands : stands (ehdr_fields (header (round16 (offset_of file 11 + size_of file 11)))) 0 file ≡ true =
     ap (λ (n : ℕ). stands (ehdr_fields (header n)) 0 file) end ∙ is-stands (ehdr_fields (header place)) 0 file stand in
-    let zeros : is_zero_between file (headers_at file) (headers_at file + 64) ≡ true = ap (λ (n : ℕ). is_zero_between file n (n + 64)) there ∙ empty in
+    let zeros : is_zero_between file (headers_at file) (headers_at file + 64) ≡ true =
+    ap (λ (n : ℕ). is_zero_between file n (n + 64)) there ∙ empty in
     both_hold _ _ header_stands zeros
 
-ended_is : (file : List ℕ) (place end : ℕ) → offset_of file 11 + size_of file 11 ≡ end → headers_at file ≡ place → is_zero_between file end place ≡ true
+ended_is : (file : List ℕ) (place end : ℕ) → offset_of file 11 + size_of file 11 ≡ end → headers_at file ≡ place
+    → is_zero_between file end place ≡ true
     → length file ≡ place + 768 → is_ended file ≡ true
 unfolding is_ended
 ended_is file place end ends there gap len =
@@ -151,8 +156,11 @@ all_sections_good p file f =
     let end = tables_end p file f in
     let headed : is_headed file ≡ true =
     headed_is file (headers_place z) (rounded z (offset_of file 11 + size_of file 11) end) q.there q.stand q.empty in
-    let ended : is_ended file ≡ true = ended_is file (headers_place z) (contents_end 64 (sections z)) end q.there q.gap q.len in
-    (headed, holds_append (contents_conditions file (sizes_in file)) (condition (is_ended file) (BadSection 12) ∷ []) (contents_good p file f) (ended, tt))
+    let ended : is_ended file ≡ true = ended_is file (headers_place z) (contents_end 64 (sections z)) end q.there q.gap q.len in (
+      headed,
+      holds_append (contents_conditions file (sizes_in file)) (condition (is_ended file) (BadSection 12) ∷ [])
+          (contents_good p file f) (ended, tt),
+    )
 
 -- ---- the records
 
@@ -163,17 +171,21 @@ records_good p file f =
     let hold = hold_again p file f in
     let here = all_again p file f in
     let size : size_of file 6 ≡ names_end 1 p.symbols = hold.1.1.1.1.1.0.size in
-    let parts = apart file (offset_of file 5) 24 (replicate 24 0) (symbols_bytes 1 p.symbols) (length-replicate {A = ℕ} 24 0) here.1.1.1.1.0 in
+    let parts = apart file (offset_of file 5) 24 (replicate 24 0) (symbols_bytes 1 p.symbols)
+    (length-replicate {A = ℕ} 24 0) here.1.1.1.1.0 in
     let table : EachHolds (table_conditions file p) = (
       zeros_between file (offset_of file 5) 24 parts.0,
       symbols_good file z (offset_of file 5 + 24) 1 1 [] p.symbols valid.numbers.names parts.1 (omega (arith, size)) valid.symbols,
     ) in
     let code : EachHolds (code_conditions file p) =
-    relocs_good file (reloc_rule true z.text (length p.symbols)) (offset_of file 8) 0 0 p.text_relocs here.1.1.1.1.1.1.1.0 valid.text_relocs in
+    relocs_good file (reloc_rule true z.text (length p.symbols))
+    (offset_of file 8) 0 0 p.text_relocs here.1.1.1.1.1.1.1.0 valid.text_relocs in
     let data_relocs : EachHolds (data_conditions file p) =
-    relocs_good file (reloc_rule false z.init (length p.symbols)) (offset_of file 9) 0 (length p.text_relocs) p.init_relocs here.1.1.1.1.1.1.1.1.0 valid.init_relocs in
+    relocs_good file (reloc_rule false z.init (length p.symbols)) (offset_of file 9) 0
+    (length p.text_relocs) p.init_relocs here.1.1.1.1.1.1.1.1.0 valid.init_relocs in
     let tagged : EachHolds (tagged_conditions file p) =
-    tags_good file p.symbols (offset_of file 11) [] 0 (length p.text_relocs + length p.init_relocs) p.tagged here.1.1.1.1.1.1.1.1.1.1.0 valid.tagged in
+    tags_good file p.symbols (offset_of file 11) [] 0
+    (length p.text_relocs + length p.init_relocs) p.tagged here.1.1.1.1.1.1.1.1.1.1.0 valid.tagged in
     holds_append (table_conditions file p ++ code_conditions file p ++ data_conditions file p) (tagged_conditions file p)
     (holds_append (table_conditions file p ++ code_conditions file p) (data_conditions file p)
     (holds_append (table_conditions file p) (code_conditions file p) table code) data_relocs) tagged

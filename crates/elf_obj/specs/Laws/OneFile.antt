@@ -25,7 +25,8 @@ pub record HasFault (file : List ℕ) : Type 0 where
   pub fault : ObjectRefusal
   pub is : ObjectFault file fault
 
-first : (o : Option ObjectRefusal) (file : List ℕ) → first_fault (conditions file) ≡ o → (first_fault (conditions file) ≡ None) ⊎ HasFault file
+first : (o : Option ObjectRefusal) (file : List ℕ) → first_fault (conditions file) ≡ o
+    → (first_fault (conditions file) ≡ None) ⊎ HasFault file
 first None file h = inl h
 first (Some e) file h = inr (record { fault = e; is = h })
 

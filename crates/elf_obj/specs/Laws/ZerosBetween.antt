@@ -1,13 +1,11 @@
 -- Between the pieces of a file, which are in order, stand zeros.
-use Rattle.std.proofs.Common.{◌≡◌, ℕ, suc, ◌+◌, ◌-◌, ◌<◌, ◌≤◌, true, List, [], ◌∷◌, length, take, drop, get_or, replicate, refl, ◌∙◌, inl, inr, arith, length-take, get_or-drop, get_or-take}
+use Rattle.std.proofs.Common.{◌≡◌, ℕ, ◌+◌, ◌-◌, ◌<◌, ◌≤◌, true, List, [], ◌∷◌, length, get_or, replicate, ◌∙◌, inl, inr, arith}
 use Rattle.std.specs.Prelude.{◌==◌}
 use Rattle.std.proofs.lemmas.List.{length-replicate, get_or-replicate}
-use Rattle.std.proofs.lemmas.Bool.Decides.{nat_tests}
 use Rattle.elf_base.specs.Field.{StandsAt}
 use Rattle.elf_base.specs.Layout.{Piece, IsGap}
 use Rattle.elf_base.specs.Laws.LaidOut.{AreInOrder, in_front}
 use Rattle.elf_base.specs.Laws.OneLayout.{byte_of}
-use Rattle.elf_base.specs.Laws.Tests.{both_hold}
 use Rattle.elf_base.specs.Laws.Zeros.{zero_between}
 use Rattle.elf_base.specs.Zeros.{is_zero_between}
 

@@ -6,7 +6,8 @@ use Rattle.elf_image.proofs.judge.rest_fault.Goals as goal
 pub returns-in-Some-segments_fault : goal.returns-in-Some-segments_fault
 returns-in-Some-segments_fault c =
     let contents : Contents c.args.bytes.now c.args.heads.now = record { contents = sym c.contents_fault.ensures ∙ c.in_default.is } in
-    sym (in_segments c.args.bytes.now c.args.heads.now c.in-Some-segments_fault.fault contents (sym c.segments_fault.ensures ∙ c.in-Some-segments_fault.is))
+    sym (in_segments c.args.bytes.now c.args.heads.now c.in-Some-segments_fault.fault contents
+    (sym c.segments_fault.ensures ∙ c.in-Some-segments_fault.is))
 
 pub table_fault-requires : goal.table_fault-requires
 table_fault-requires c =
@@ -20,7 +21,8 @@ returns-in-Some-table_fault c =
     let contents : Contents c.args.bytes.now c.args.heads.now = record { contents = sym c.contents_fault.ensures ∙ c.in_default.is } in
     let segments : Segments c.args.bytes.now c.args.heads.now =
     record { before = contents; segments = sym c.segments_fault.ensures ∙ c.in_default-segments_fault.is } in
-    sym (in_tables c.args.bytes.now c.args.heads.now c.in-Some-table_fault.fault segments (sym c.table_fault.ensures ∙ c.in-Some-table_fault.is))
+    sym (in_tables c.args.bytes.now c.args.heads.now c.in-Some-table_fault.fault segments
+    (sym c.table_fault.ensures ∙ c.in-Some-table_fault.is))
 
 pub mode_fault-requires : goal.mode_fault-requires
 mode_fault-requires c =

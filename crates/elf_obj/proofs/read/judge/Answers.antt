@@ -15,15 +15,18 @@ sizes_of-sizes-requires c =
 pub returns-in_err-judge_sections : goal.returns-in_err-judge_sections
 returns-in_err-judge_sections c =
     let p = err_from_is_err_and c.from_residual.result c.from_residual.ensures.1 in
-    rw (p.1, p.2) (first_stops (all_section_conditions c.args.file.now) (object_conditions c.args.file.now (claimed c.args.file.now)) _ c.in_err-judge_sections.ensures)
+    rw (p.1, p.2) (first_stops (all_section_conditions c.args.file.now)
+    (object_conditions c.args.file.now (claimed c.args.file.now)) _ c.in_err-judge_sections.ensures)
 
 pub returns-in_err-judge_records : goal.returns-in_err-judge_records
 returns-in_err-judge_records c =
     let p = err_from_is_err_and c.from_residual-in_err-judge_records.result c.from_residual-in_err-judge_records.ensures.1 in
-    rw (p.1, p.2) (first_passes (all_section_conditions c.args.file.now) (object_conditions c.args.file.now (claimed c.args.file.now)) c.in_ok-judge_sections.ensures
+    rw (p.1, p.2) (first_passes (all_section_conditions c.args.file.now)
+    (object_conditions c.args.file.now (claimed c.args.file.now)) c.in_ok-judge_sections.ensures
     ∙ c.in_err-judge_records.ensures)
 
 pub returns : goal.returns
 returns c =
-    first_passes (all_section_conditions c.args.file.now) (object_conditions c.args.file.now (claimed c.args.file.now)) c.in_ok-judge_sections.ensures
+    first_passes (all_section_conditions c.args.file.now)
+    (object_conditions c.args.file.now (claimed c.args.file.now)) c.in_ok-judge_sections.ensures
     ∙ c.in_ok-judge_records.ensures

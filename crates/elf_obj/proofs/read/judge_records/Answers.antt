@@ -16,7 +16,8 @@ returns-in_err-judge_table c =
     let file : List ℕ = c.args.file.now in
     let p : Object = claimed file in
     let e = err_from_is_err_and c.from_residual.result c.from_residual.ensures.1 in
-    rw (e.1, e.2) (first_stops (table_conditions file p ++ code_conditions file p ++ data_conditions file p) (tagged_conditions file p) _ (first_stops (table_conditions file p ++ code_conditions file p) (data_conditions file p) _
+    rw (e.1, e.2) (first_stops (table_conditions file p ++ code_conditions file p ++ data_conditions file p) (tagged_conditions file p) _
+    (first_stops (table_conditions file p ++ code_conditions file p) (data_conditions file p) _
     (first_stops (table_conditions file p) (code_conditions file p) _ c.in_err-judge_table.ensures)))
 
 pub returns-in_err-judge_code : goal.returns-in_err-judge_code
@@ -24,7 +25,8 @@ returns-in_err-judge_code c =
     let file : List ℕ = c.args.file.now in
     let p : Object = claimed file in
     let e = err_from_is_err_and c.from_residual-in_err-judge_code.result c.from_residual-in_err-judge_code.ensures.1 in
-    rw (e.1, e.2) (first_stops (table_conditions file p ++ code_conditions file p ++ data_conditions file p) (tagged_conditions file p) _ (first_stops (table_conditions file p ++ code_conditions file p) (data_conditions file p) _
+    rw (e.1, e.2) (first_stops (table_conditions file p ++ code_conditions file p ++ data_conditions file p) (tagged_conditions file p) _
+    (first_stops (table_conditions file p ++ code_conditions file p) (data_conditions file p) _
     (first_passes (table_conditions file p) (code_conditions file p) c.in_ok-judge_table.ensures ∙ c.in_err-judge_code.ensures)))
 
 pub returns-in_err-judge_data : goal.returns-in_err-judge_data
@@ -33,7 +35,9 @@ returns-in_err-judge_data c =
     let p : Object = claimed file in
     let e = err_from_is_err_and c.from_residual-in_err-judge_data.result c.from_residual-in_err-judge_data.ensures.1 in
     rw (e.1, e.2) (first_stops (table_conditions file p ++ code_conditions file p ++ data_conditions file p) (tagged_conditions file p) _
-    (first_passes (table_conditions file p ++ code_conditions file p) (data_conditions file p) (first_passes (table_conditions file p) (code_conditions file p) c.in_ok-judge_table.ensures ∙ c.in_ok-judge_code.ensures) ∙ c.in_err-judge_data.ensures))
+    (first_passes (table_conditions file p ++ code_conditions file p) (data_conditions file p)
+    (first_passes (table_conditions file p) (code_conditions file p) c.in_ok-judge_table.ensures ∙ c.in_ok-judge_code.ensures)
+    ∙ c.in_err-judge_data.ensures))
 
 pub returns-in_err-judge_tagged : goal.returns-in_err-judge_tagged
 returns-in_err-judge_tagged c =
@@ -41,7 +45,9 @@ returns-in_err-judge_tagged c =
     let p : Object = claimed file in
     let e = err_from_is_err_and c.from_residual-in_err-judge_tagged.result c.from_residual-in_err-judge_tagged.ensures.1 in
     rw (e.1, e.2) (first_passes (table_conditions file p ++ code_conditions file p ++ data_conditions file p) (tagged_conditions file p)
-    (first_passes (table_conditions file p ++ code_conditions file p) (data_conditions file p) (first_passes (table_conditions file p) (code_conditions file p) c.in_ok-judge_table.ensures ∙ c.in_ok-judge_code.ensures) ∙ c.in_ok-judge_data.ensures)
+    (first_passes (table_conditions file p ++ code_conditions file p) (data_conditions file p)
+    (first_passes (table_conditions file p) (code_conditions file p) c.in_ok-judge_table.ensures ∙ c.in_ok-judge_code.ensures)
+    ∙ c.in_ok-judge_data.ensures)
     ∙ c.in_err-judge_tagged.ensures)
 
 pub returns : goal.returns
@@ -49,7 +55,9 @@ returns c =
     let file : List ℕ = c.args.file.now in
     let p : Object = claimed file in
     first_passes (table_conditions file p ++ code_conditions file p ++ data_conditions file p) (tagged_conditions file p)
-    (first_passes (table_conditions file p ++ code_conditions file p) (data_conditions file p) (first_passes (table_conditions file p) (code_conditions file p) c.in_ok-judge_table.ensures ∙ c.in_ok-judge_code.ensures) ∙ c.in_ok-judge_data.ensures)
+    (first_passes (table_conditions file p ++ code_conditions file p) (data_conditions file p)
+    (first_passes (table_conditions file p) (code_conditions file p) c.in_ok-judge_table.ensures ∙ c.in_ok-judge_code.ensures)
+    ∙ c.in_ok-judge_data.ensures)
     ∙ c.in_ok-judge_tagged.ensures
 
 pub judge_tagged-requires-clause-init : goal.judge_tagged-requires-clause-init

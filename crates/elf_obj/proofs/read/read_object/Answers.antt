@@ -70,7 +70,8 @@ returns-in_err-judge-clause-only c = λ p is.
 pub returns-in_err-judge-clause-refuses : goal.returns-in_err-judge-clause-refuses
 returns-in_err-judge-clause-refuses c = λ fault has.
     let e = err_from_is_err_and c.from_residual-in_err-judge.result c.from_residual-in_err-judge.ensures.1 in
-    rw (e.1, e.2) (inr (one_fault c.args.file.now _ fault (behind c.args.file.now _ c.in_ok-judge_start.ensures.is c.in_err-judge.ensures) has))
+    rw (e.1, e.2) (inr (one_fault c.args.file.now _ fault
+    (behind c.args.file.now _ c.in_ok-judge_start.ensures.is c.in_err-judge.ensures) has))
 
 pub returns-clause-found : goal.returns-clause-found
 returns-clause-found c =

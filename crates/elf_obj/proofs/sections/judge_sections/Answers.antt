@@ -19,7 +19,8 @@ returns-in_err-judge_contents c =
     let contents : List (Condition ObjectRefusal) = contents_conditions file (sizes_in file) in
     let p = err_from_is_err_and c.from_residual.result c.from_residual.ensures.1 in
     rw (p.1, p.2) (holds_is (is_headed file) (BadSection 0) (first_fault (contents ++ end file)) headed
-    ∙ first_stops contents (end file) _ (ap (λ (z : Sizes). first_fault (contents_conditions file z)) (sym c.sizes_in.ensures) ∙ c.in_err-judge_contents.ensures))
+    ∙ first_stops contents (end file) _ (ap (λ (z : Sizes). first_fault (contents_conditions file z)) (sym c.sizes_in.ensures)
+    ∙ c.in_err-judge_contents.ensures))
 
 pub returns-then-not-is_ended : goal.returns-then-not-is_ended
 unfolding end
@@ -28,7 +29,8 @@ returns-then-not-is_ended c =
     let headed : is_headed file ≡ true = sym c.is_headed.ensures ∙ c.if-not-is_headed.false in
     let contents : List (Condition ObjectRefusal) = contents_conditions file (sizes_in file) in
     holds_is (is_headed file) (BadSection 0) (first_fault (contents ++ end file)) headed
-    ∙ first_passes contents (end file) (ap (λ (z : Sizes). first_fault (contents_conditions file z)) (sym c.sizes_in.ensures) ∙ c.in_ok-judge_contents.ensures)
+    ∙ first_passes contents (end file) (ap (λ (z : Sizes). first_fault (contents_conditions file z)) (sym c.sizes_in.ensures)
+    ∙ c.in_ok-judge_contents.ensures)
     ∙ fails_is (is_ended file) (BadSection 12) None (sym c.is_ended.ensures ∙ c.if-not-is_ended.true)
 
 pub returns : goal.returns
@@ -38,5 +40,6 @@ returns c =
     let headed : is_headed file ≡ true = sym c.is_headed.ensures ∙ c.if-not-is_headed.false in
     let contents : List (Condition ObjectRefusal) = contents_conditions file (sizes_in file) in
     holds_is (is_headed file) (BadSection 0) (first_fault (contents ++ end file)) headed
-    ∙ first_passes contents (end file) (ap (λ (z : Sizes). first_fault (contents_conditions file z)) (sym c.sizes_in.ensures) ∙ c.in_ok-judge_contents.ensures)
+    ∙ first_passes contents (end file) (ap (λ (z : Sizes). first_fault (contents_conditions file z)) (sym c.sizes_in.ensures)
+    ∙ c.in_ok-judge_contents.ensures)
     ∙ holds_is (is_ended file) (BadSection 12) None (sym c.is_ended.ensures ∙ c.if-not-is_ended.false)
