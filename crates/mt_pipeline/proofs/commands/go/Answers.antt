@@ -1,6 +1,6 @@
 use Rattle.std.proofs.Common.{[], ◌∷◌, refl, sym, subst}
 use Rattle.elf_image.specs.Image.{image_of}
-use Rattle.tag_startup.specs.Machine.{RunsImage}
+use Rattle.tag_startup.specs.Machine.{RunsImage, launch}
 use Rattle.mt_pipeline.specs.declared.answer.Answer.{Answer}
 use Rattle.mt_pipeline.specs.Answer.{ended_of}
 use Rattle.mt_pipeline.specs.Go.{GoAnswers, ran, no_memory}
@@ -52,7 +52,7 @@ returns-in-Ok-run_parts g c =
     let before = seen g.F.Files g.S.Source g.K.Sink c.args.files.now c.args.input.now c.args.out.now in
     let after = seen g.F.Files g.S.Source g.K.Sink c.read_file.new.files c.run_parts.new.source c.run_parts.new.sink in
     let runs = subst
-    (λ choices. RunsImage image choices default_stack c.args.steps before.streams after.streams c.in-Ok-run_parts.end)
+    (λ choices. RunsImage (launch image choices default_stack c.args.steps) before.streams after.streams c.in-Ok-run_parts.end)
     c.default_choices.ensures c.in-Ok-run_parts.ensures.runs in
     let built = whole texts image c.in-Ok-parts_of.ensures.parts in
     let quiet = exits_quiet image _ _ default_stack c.args.steps before.streams after.streams c.in-Ok-run_parts.end built.exits runs in

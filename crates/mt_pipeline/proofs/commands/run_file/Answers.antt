@@ -2,7 +2,7 @@ use Rattle.std.proofs.Common.{◌≡◌, ◌⊎◌, refl, sym, subst}
 use Rattle.elf_image.specs.Constant.{constant_image}
 use Rattle.elf_image.specs.ImageFile.{ImageFile}
 use Rattle.elf_image.specs.Ranges.{IsFileOf}
-use Rattle.tag_startup.specs.Machine.{RunsImage}
+use Rattle.tag_startup.specs.Machine.{RunsImage, launch}
 use Rattle.mt_pipeline.specs.declared.answer.Answer.{Answer}
 use Rattle.mt_pipeline.specs.declared.refusal.RunRefusal.TheVariants.{NoMemory}
 use Rattle.mt_pipeline.specs.Answer.{ended_of}
@@ -38,7 +38,8 @@ returns-in-Ok-run_image g c =
     let read = c.in-Ok.bytes.items in
     let image = c.in-Ok-run_image.ensures.image.0 in
     let is : IsFileOf image read = subst (λ b. IsFileOf image b) c.deref.ensures.value c.in-Ok-run_image.ensures.image.1 in
-    let runs = subst (λ choices. RunsImage image choices default_stack c.args.steps before.streams after.streams c.in-Ok-run_image.end)
+    let runs = subst (λ choices. RunsImage (launch image choices default_stack c.args.steps) before.streams after.streams
+    c.in-Ok-run_image.end)
     c.default_choices.ensures
     (c.in-Ok-run_image.ensures.runs image c.in-Ok-run_image.ensures.image.1) in
     run_answers c.args.file.now c.args.steps before after (ended_by c.in-Ok-run_image.end)
