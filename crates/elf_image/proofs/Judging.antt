@@ -1,5 +1,5 @@
 -- The first fault behind the headers, by the group of conditions in which it is.
-use Rattle.std.proofs.Common.{◌≡◌, ◌⊎◌, ◌↔◌, ℕ, ◌+◌, ◌≤◌, ◌<◌, List, ◌++◌, ◌∙◌, Result, Ok, Err, length, ap, sym, inl, inr, arith}
+use Rattle.std.proofs.Common.{◌≡◌, ◌⊎◌, ◌↔◌, ℕ, ◌+◌, ◌≤◌, ◌<◌, List, ◌++◌, ◌∙◌, Result, Ok, Err, length, ap, sym, inl, inr, arith, Option}
 use Rattle.std.specs.Prelude.{Bool, true, false, ◌&&◌, ◌==◌, nat_le, IsErr}
 use Rattle.std.proofs.lemmas.Bool.{and_from, and_left, and_right, cases_lt, eq-eqb, ne_eqb, le-leb, false≢true}
 use Rattle.elf_base.specs.declared.header.Ehdr.{Ehdr}
@@ -48,6 +48,29 @@ pub record Modes (file : List ℕ) (h : Heads) : Type 0 where
 pub record Lasts (file : List ℕ) (h : Heads) : Type 0 where
   pub before : Modes file h
   pub lasts : first_fault (last_asks file h) ≡ no_fault
+
+-- the groups that the answers of their judges say to hold
+pub contents_hold : {file : List ℕ} {h : Heads} {o : Option ImageRefusal} → o ≡ first_fault (contents file h) → o ≡ no_fault
+    → Contents file h
+contents_hold judged none = record { contents = sym judged ∙ none }
+
+pub segments_hold : {file : List ℕ} {h : Heads} {o : Option ImageRefusal} → Contents file h → o ≡ first_fault (segments file h)
+    → o ≡ no_fault
+    → Segments file h
+segments_hold before judged none = record { before = before; segments = sym judged ∙ none }
+
+pub tables_hold : {file : List ℕ} {h : Heads} {o : Option ImageRefusal} → Segments file h → o ≡ first_fault (table_asks file h)
+    → o ≡ no_fault
+    → Tables file h
+tables_hold before judged none = record { before = before; tables = sym judged ∙ none }
+
+pub modes_hold : {file : List ℕ} {h : Heads} {o : Option ImageRefusal} → Tables file h → o ≡ first_fault (mode_asks file h) → o ≡ no_fault
+    → Modes file h
+modes_hold before judged none = record { before = before; modes = sym judged ∙ none }
+
+pub lasts_hold : {file : List ℕ} {h : Heads} {o : Option ImageRefusal} → Modes file h → o ≡ first_fault (last_asks file h) → o ≡ no_fault
+    → Lasts file h
+lasts_hold before judged none = record { before = before; lasts = sym judged ∙ none }
 
 pub to_segments : (file : List ℕ) (h : Heads) → Contents file h → first_fault (after_opening file h) ≡ first_fault (behind_contents file h)
 to_segments file h c = first_passes (contents file h) (behind_contents file h) c.contents
