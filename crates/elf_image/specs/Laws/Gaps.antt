@@ -1,5 +1,5 @@
 -- Places between pieces that are in order.
-use Rattle.std.proofs.Common.{◌≡◌, ℕ, ◌+◌, ◌≤◌, ◌<◌, List, [], ◌∷◌, ◌++◌, length, inl, inr, arith}
+use Rattle.std.proofs.Common.{ℕ, ◌+◌, ◌≤◌, ◌<◌, List, [], ◌∷◌, ◌++◌, length, inl, inr, arith}
 use Rattle.elf_base.specs.Layout.{Piece, IsGap}
 use Rattle.elf_base.specs.Laws.LaidOut.{AreInOrder, end_of, in_front}
 

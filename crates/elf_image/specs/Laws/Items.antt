@@ -1,14 +1,13 @@
 -- The words, relocations and dynamic entries that stand in a file.
-use Rattle.std.proofs.Common.{◌≡◌, ℕ, ℤ, zero, suc, ◌+◌, ◌*◌, ◌^◌, ◌≤◌, ◌<◌, List, [], ◌∷◌, ◌++◌, length, take, drop, refl, sym, ap, ◌∙◌}
+use Rattle.std.proofs.Common.{◌≡◌, ℕ, zero, suc, ◌+◌, ◌*◌, ◌^◌, ◌≤◌, ◌<◌, List, [], ◌∷◌, ◌++◌, length, take, drop, refl, sym, ap, ◌∙◌}
 use Rattle.std.proofs.Common.{arith, drop-drop, drop_at, take_at}
-use Rattle.std.specs.Prelude.{true, ◌==◌, ◌&&◌, FitsSigned}
+use Rattle.std.specs.Prelude.{true, ◌==◌}
 use Rattle.std.specs.List.{flat_map, AllByRecursion}
 use Rattle.std.specs.Int.{w64, cast_signed}
 use Rattle.std.proofs.Math.Facts.{sfits_to_z}
 use Rattle.std.proofs.Common.{Fits, append_assoc, add_assoc}
 use Rattle.std.proofs.lemmas.Bool.{eq-eqb, eqb-true}
 use Rattle.std.proofs.lemmas.List.{append-nil}
-use Rattle.byteorder.specs.Numbers.{little_from-lt}
 use Rattle.elf_base.specs.declared.dynamic.Dyn.{Dyn}
 use Rattle.elf_base.specs.Field.{Field, number, signed, bytes_of, field_bytes, StandsAt}
 use Rattle.elf_base.specs.Layout.{word_bytes}
@@ -16,7 +15,7 @@ use Rattle.elf_base.specs.Place.{number_at}
 use Rattle.elf_base.specs.Records.{dyn_fields}
 use Rattle.elf_base.specs.Standing.{dyn_at}
 use Rattle.elf_base.specs.Laws.Lengths.{IsBytes, length-dyn}
-use Rattle.elf_base.specs.Laws.Reads.{IsBytes-drop, field_bytes-read_like, fields_like}
+use Rattle.elf_base.specs.Laws.Reads.{field_bytes-read_like, fields_like}
 use Rattle.elf_base.specs.Laws.Standing.{stands, take-add, number_fits}
 use Rattle.elf_base.specs.Laws.RecordsStand.{fields_again, dyn_again}
 use Rattle.elf_base.specs.Laws.Tests.{both, both_hold}

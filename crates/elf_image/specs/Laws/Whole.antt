@@ -1,11 +1,11 @@
 -- The pieces of an image follow one another up to the end of its file.
 use Rattle.std.proofs.Common.{◌≡◌, ℕ, ◌*◌, List, [], ◌∷◌, length, refl, sym, subst, arith, length-append}
 use Rattle.std.specs.List.{flat_map}
-use Rattle.elf_base.specs.Laws.Lengths.{length-ehdr, length-phdr, length-number, length-signed, length-word_bytes, length-words}
+use Rattle.elf_base.specs.Laws.Lengths.{length-ehdr, length-phdr, length-number, length-signed, length-words}
 use Rattle.elf_image.specs.declared.parts.RelativeReloc.{RelativeReloc}
 use Rattle.elf_image.specs.Image.{Image}
 use Rattle.elf_image.specs.Places.{IsValid, file_end}
-use Rattle.elf_base.specs.Layout.{word_bytes, IsLaidOut}
+use Rattle.elf_base.specs.Layout.{IsLaidOut}
 use Rattle.elf_image.specs.Pieces.{header, read_only_part, code_part, writable_part, dynamic_part, reloc_bytes, pieces, header_pieces}
 use Rattle.elf_image.specs.Pieces.{table_pieces, loaded_pieces}
 use Rattle.elf_base.specs.Laying.{put_all}

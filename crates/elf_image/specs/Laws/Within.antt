@@ -1,7 +1,7 @@
 -- What is within a file whose headers have been judged so far, and the first condition that fails by its number.
-use Rattle.std.proofs.Common.{◌≡◌, ℕ, zero, suc, ◌+◌, ◌*◌, ◌/◌, ◌%◌, ◌≤◌, ◌⊎◌, List, [], ◌∷◌, ◌++◌, length, take, get_or, refl, sym, ap}
-use Rattle.std.proofs.Common.{◌∙◌, inl, inr, arith, Option, Some, None}
-use Rattle.std.specs.Prelude.{Bool, true, false, ◌&&◌, ◌||◌, ◌==◌, nat_le, if◌then◌else◌}
+use Rattle.std.proofs.Common.{◌≡◌, ℕ, zero, suc, ◌+◌, ◌*◌, ◌/◌, ◌%◌, ◌≤◌, ◌⊎◌, List, [], ◌∷◌, length, take, get_or, sym, ap}
+use Rattle.std.proofs.Common.{◌∙◌, inl, inr, arith}
+use Rattle.std.specs.Prelude.{true, false, ◌||◌, ◌==◌, nat_le}
 use Rattle.std.proofs.lemmas.Bool.{leb-true, eqb-true, cases_Bool, false≢true}
 use Rattle.mt_base.specs.Granules.{round16}
 use Rattle.mt_base.specs.Laws.Granules.{round16-covers}
@@ -19,7 +19,7 @@ use Rattle.elf_image.specs.Pieces.{load, dynamic_at, entry}
 use Rattle.elf_image.specs.Faults.{same_segment, same_entry, is_reloc_size, contents, segments, table_asks, mode_asks, last_asks}
 use Rattle.elf_image.specs.Faults.{fault_of, no_fault, fault_is}
 use Rattle.elf_image.specs.Laws.Tests.{segment_is}
-use Rattle.elf_image.specs.Laws.Right.{Right, RightEntries, described, plain, right, right_sizes, RightLast, right_last, rodata_at, that}
+use Rattle.elf_image.specs.Laws.Right.{Right, RightEntries, described, plain, right, right_sizes, right_last, rodata_at, that}
 use Rattle.elf_image.specs.Laws.Right.{other, either}
 use Rattle.elf_image.specs.Laws.Order.{le-round_page}
 
