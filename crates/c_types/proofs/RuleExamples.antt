@@ -22,7 +22,7 @@ use Rattle.c_type_base.specs.Known.{texpr}
 use Rattle.c_types.specs.Files.{file_names}
 use Rattle.c_types.specs.Units.{judged, typed_by}
 use Rattle.c_type_expr.specs.Laws.SaidLaws.{written-void, written-int, written-struct, written-pointer, written-array, written-open, said-constant, said-text, said-variable, said-assign}
-use Rattle.c_types.specs.Laws.SaidLaws.{said-one, said-block, said-expression, said-return, judged-statement}
+use Rattle.c_type_stmt.specs.Laws.SaidLaws.{said-one, said-block, said-expression, said-return, judged-statement}
 use Rattle.c_type_base.specs.Laws.SizeLaws.{size-int, size-pointer, size-array, size-struct, complete-int, complete-pointer, complete-array, complete-struct}
 use Rattle.c_type_base.specs.Laws.TypeLaws.{same-int}
 use Rattle.c_type_base.specs.Laws.Opened.{given_types}

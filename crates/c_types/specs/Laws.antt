@@ -1,4 +1,3 @@
 pub mod WellTypedLaws
-pub mod SaidLaws
 pub mod TableLaws
 pub mod PromiseLaws

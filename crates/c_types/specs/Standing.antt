@@ -1,0 +1,13 @@
+-- The walk over a file: what it has found so far is what is said of the parts that it has passed.
+use Rattle.std.specs.Prelude.{◌≡◌, [], None}
+use Rattle.c_type_expr.specs.declared.walk.Walk.{Walk}
+use Rattle.c_type_expr.specs.Least.{first_with}
+use Rattle.c_type_expr.specs.Walked.{env_of}
+use Rattle.c_types.specs.Units.{Judgement}
+
+-- between two parts of a file the walk stands where the parts so far lead: it is in no function, and of the faults it keeps the first
+pub record Stands (w : Walk) (j : Judgement) : Type 0 where
+  pub env_is : env_of w ≡ j.env
+  pub texts_are : w.texts ≡ j.texts
+  pub locals_are : w.locals ≡ []
+  pub first_is : w.first ≡ first_with None j.faults
