@@ -14,7 +14,8 @@ use Rattle.c_type_base.specs.declared.typed.InitValue.TheVariants as initial_val
 use Rattle.c_type_expr.specs.declared.walk.Walk.{Walk}
 use Rattle.c_type_expr.specs.Outcomes.{option_map, sure, each, on}
 use Rattle.c_type_expr.specs.Expressions.{expression}
-use Rattle.c_type_stmt.specs.Initials.{InitSaid, initialiser, expression_for, piece, tree_of, in_braces, is_zero_list, is_aggregate_slot, zero_list}
+use Rattle.c_type_stmt.specs.Initials.{InitSaid, initialiser, expression_for, piece, tree_of, in_braces, is_zero_list, is_aggregate_slot}
+use Rattle.c_type_stmt.specs.Initials.{zero_list}
 use Rattle.c_type_base.specs.Layout.{first_scalar}
 use Rattle.c_type_stmt.specs.Slots.{fitted_to, slots_at, fits_all, list_in, zero_in}
 use Rattle.c_type_expr.specs.Sorted.{listed_items}

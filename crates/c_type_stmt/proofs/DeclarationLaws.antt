@@ -1,5 +1,5 @@
 -- Declarations of locals are walked part by part.
-use Rattle.std.proofs.Common.{◌≡◌, refl, sym, ◌∙◌, ap, ℕ, Bool, false, List, [], ◌∷◌, ◌++◌, length, Option, Some, None, append-nil}
+use Rattle.std.proofs.Common.{◌≡◌, refl, sym, ◌∙◌, ap, ℕ, Bool, false, List, [], ◌∷◌, ◌++◌, length, Option, Some, None}
 use Rattle.std.specs.Prelude.{leb, if◌then◌else◌}
 use Rattle.c_ast.specs.declared.declaration.Decl.{Decl}
 use Rattle.c_ast.specs.declared.token.Span.{Span}
@@ -20,7 +20,8 @@ use Rattle.c_type_expr.specs.Scoping.{with_binding}
 use Rattle.c_type_base.specs.Sizes.{is_complete, size, largest}
 use Rattle.c_type_expr.specs.Walked.{env_of, blamed, Walked}
 use Rattle.c_type_expr.specs.Laws.EachLaws.{as_known}
-use Rattle.c_type_stmt.proofs.PartLaws.{walked_made, walked_given}
+use Rattle.c_type_stmt.specs.Laws.LocalLaws.{local_declared}
+use Rattle.c_type_stmt.specs.Laws.PartLaws.{walked_made, walked_given}
 use Rattle.c_type_expr.specs.Laws.WalkedLaws.{judged_next, after_two}
 use Rattle.c_type_expr.specs.Laws.WalkedLaws as walked
 
@@ -64,19 +65,9 @@ pub object_walked : (d : Decl) (t : Option Ty) (number : ℕ) (kept : Bool) (w w
       locals = w1.locals ++ local_info d.name d.span t;
     } →
     Walked (declares_object d t) w w2 (if kept then t else None)
-object_walked d t number kept w w1 w2 count kept_is asked bound = record {
-  after_is = bound
-      ∙ ap (λ (x : Walk). record x {
-        scopes = with_binding x.scopes (binds d.name (means.Object (place.Local number) t));
-        locals = x.locals ++ local_info d.name d.span t;
-      }) asked
-      ∙ (λ i. record (blamed w (broken d.span (rules_at w d t))) {
-        scopes = with_binding w.scopes (binds d.name (means.Object (place.Local (count i)) t));
-        locals = w.locals ++ local_info d.name d.span t;
-        texts = sym (append-nil w.texts) i;
-      });
-  known_is = ap (λ (b : Bool). if b then t else None) kept_is;
-}
+object_walked d t number kept w w1 w2 count kept_is asked bound =
+    local_declared d.name d.span (λ env. rule 10 (is_new env d.name) ∷ object_rules env.structs t) t number kept w w1 w2 count kept_is
+    asked bound
 
 -- a local of a type, with its initialiser
 abbrev initialised_local : Decl → Option Ty → Judged TDecl

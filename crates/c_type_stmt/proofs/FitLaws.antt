@@ -1,5 +1,6 @@
 -- The loop over the initialisers of a list.
-use Rattle.std.proofs.Common.{◌≡◌, sym, ◌∙◌, ap, subst, ℕ, ◌+◌, ◌<◌, ◌≤◌, Bool, List, [], ◌∷◌, map, drop, get_or, length, Option, Some, None, drop-cons, add-one, arith, take, ◌-◌, length-drop}
+use Rattle.std.proofs.Common.{◌≡◌, sym, ◌∙◌, ap, subst, ℕ, ◌+◌, ◌<◌, ◌≤◌, Bool, List, [], ◌∷◌, map, drop, get_or, length, Option, Some}
+use Rattle.std.proofs.Common.{None, drop-cons, add-one, arith, take, ◌-◌, length-drop}
 use Rattle.std.proofs.lemmas.List.{drop_all, take_all}
 use Rattle.c_ast.specs.declared.declaration.Init.{Init}
 use Rattle.c_type_stmt.specs.declared.fitted.Fitted.{Fitted}

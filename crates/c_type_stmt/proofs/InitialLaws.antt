@@ -1,5 +1,6 @@
 -- Initialisers are walked part by part.
-use Rattle.std.proofs.Common.{◌≡◌, refl, sym, ◌∙◌, ap, subst, ℕ, ◌+◌, ◌<◌, ◌≤◌, ◌-◌, arith, drop, drop-cons, length-drop, Bool, true, false, ◌&&◌, List, [], ◌∷◌, ◌++◌, map, take, get_or, length, Option, Some, None, append_assoc, append-nil}
+use Rattle.std.proofs.Common.{◌≡◌, refl, sym, ◌∙◌, ap, subst, ℕ, ◌+◌, ◌<◌, ◌≤◌, ◌-◌, arith, drop, drop-cons, length-drop, Bool, true}
+use Rattle.std.proofs.Common.{false, ◌&&◌, List, [], ◌∷◌, ◌++◌, map, take, get_or, length, Option, Some, None, append_assoc, append-nil}
 use Rattle.std.proofs.lemmas.List.{take_all}
 use Rattle.c_ast.specs.declared.declaration.Init.{Init}
 use Rattle.c_ast.specs.declared.declaration.Init.TheVariants as init
@@ -21,8 +22,9 @@ use Rattle.c_type_base.specs.Types.{is_there}
 use Rattle.c_type_expr.specs.Walked.{env_of, blamed, passed_by, Walked}
 use Rattle.c_type_expr.specs.Laws.EachLaws.{as_known, walked_next}
 use Rattle.c_type_expr.specs.Laws.NodeLaws.{walked_as, on_none, on_some}
-use Rattle.c_type_stmt.proofs.PartLaws.{walked_made}
-use Rattle.c_type_expr.specs.Laws.WalkedLaws.{walked_sure, walked_both, walked_each, walked_on, walked_on_none, walked_ruled, first_with-append}
+use Rattle.c_type_stmt.specs.Laws.PartLaws.{walked_made}
+use Rattle.c_type_expr.specs.Laws.WalkedLaws.{walked_sure, walked_both, walked_each, walked_on, walked_on_none, walked_ruled}
+use Rattle.c_type_expr.specs.Laws.WalkedLaws.{first_with-append}
 
 -- ---- whether a construct is known
 

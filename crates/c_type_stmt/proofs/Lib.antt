@@ -1,4 +1,3 @@
-pub mod PartLaws
 pub mod DeclarationLaws
 pub mod StatementLaws
 pub mod InitialLaws

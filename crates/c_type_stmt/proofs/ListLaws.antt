@@ -14,7 +14,8 @@ use Rattle.c_type_expr.specs.declared.walk.Walk.{Walk}
 use Rattle.c_type_stmt.specs.Declarations.{fits_object, initialised}
 use Rattle.c_type_expr.specs.Expressions.{expression}
 use Rattle.c_type_expr.specs.Faults.{rule, broken}
-use Rattle.c_type_stmt.specs.Initials.{InitSaid, initialiser, loose_all, slots, fit_all, in_braces, is_zero_list, is_aggregate_slot, zero_list, list_by, list_for, expression_for}
+use Rattle.c_type_stmt.specs.Initials.{InitSaid, initialiser, loose_all, slots, fit_all, in_braces, is_zero_list, is_aggregate_slot}
+use Rattle.c_type_stmt.specs.Initials.{zero_list, list_by, list_for, expression_for}
 use Rattle.c_type_stmt.specs.Laws.SaidLaws.{said-one, said-list}
 use Rattle.c_type_base.specs.Layout.{first_scalar}
 use Rattle.c_type_expr.specs.Operators.{breaks}

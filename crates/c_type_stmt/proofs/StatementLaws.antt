@@ -20,7 +20,8 @@ use Rattle.c_type_expr.specs.Outcomes.{option_map, Judged, sure, pair, present, 
 use Rattle.c_type_stmt.specs.Declarations.{local}
 use Rattle.c_type_expr.specs.Expressions.{judged_value}
 use Rattle.c_type_expr.specs.Faults.{rule, broken}
-use Rattle.c_type_stmt.specs.Laws.SaidLaws.{item_judged, said-block, said-expression, said-empty, said-if, said-if_else, said-while, said-do, said-for, said-return, said-break, said-continue, judged-local, judged-statement}
+use Rattle.c_type_stmt.specs.Laws.SaidLaws.{item_judged, said-block, said-expression, said-empty, said-if, said-if_else, said-while}
+use Rattle.c_type_stmt.specs.Laws.SaidLaws.{said-do, said-for, said-return, said-break, said-continue, judged-local, judged-statement}
 use Rattle.c_type_stmt.specs.Made.{block_made, if_made, while_made, do_made, for_made, expression_row, for_inside}
 use Rattle.c_type_expr.specs.Scoping.{opened_names, closed_names}
 use Rattle.c_type_stmt.specs.Statements.{StmtSaid, effect, condition, return_row, block, statement}
@@ -28,7 +29,7 @@ use Rattle.c_type_base.specs.Types.{is_scalar}
 use Rattle.c_type_expr.specs.Walked.{blamed, Walked}
 use Rattle.c_type_expr.specs.Laws.EachLaws.{as_known}
 use Rattle.c_type_expr.specs.Laws.NodeLaws.{walked_as, on_none, on_some}
-use Rattle.c_type_stmt.proofs.PartLaws.{walked_made, walked_scoped}
+use Rattle.c_type_stmt.specs.Laws.PartLaws.{walked_made, walked_scoped}
 use Rattle.c_type_expr.specs.Laws.WalkedLaws.{walked_sure, walked_both, walked_on, walked_on_none, walked_ruled}
 use Rattle.c_type_expr.specs.Laws.WalkedLaws as walked
 

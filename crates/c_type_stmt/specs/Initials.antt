@@ -1,5 +1,6 @@
 -- Initialisers and the objects that they fit (ISO C11 6.7.9).
-use Rattle.std.specs.Prelude.{ℕ, ℤ, pos, negsuc, ◌+◌, ◌-◌, ◌*◌, ◌%◌, ◌^◌, ◌++◌, Bool, true, false, ◌&&◌, ◌||◌, leb, ltb, nat_eq, List, [], ◌∷◌, length, map, flat_map, take, slice_get, Option, Some, None, if◌then◌else◌}
+use Rattle.std.specs.Prelude.{ℕ, ℤ, pos, negsuc, ◌+◌, ◌-◌, ◌*◌, ◌%◌, ◌^◌, ◌++◌, Bool, true, false, ◌&&◌, ◌||◌, leb, ltb, nat_eq, List, []}
+use Rattle.std.specs.Prelude.{◌∷◌, length, map, flat_map, take, slice_get, Option, Some, None, if◌then◌else◌}
 use Rattle.c_ast.specs.Tree.{NodeLayer}
 use Rattle.c_ast.specs.declared.token.Span.{Span}
 use Rattle.c_ast.specs.declared.int_type.IntType.{IntType}

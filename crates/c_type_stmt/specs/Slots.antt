@@ -13,7 +13,8 @@ use Rattle.c_type_base.specs.declared.typed.StructInfo.{StructInfo}
 use Rattle.c_type_expr.specs.declared.walk.Walk.{Walk}
 use Rattle.c_type_expr.specs.Expressions.{expression}
 use Rattle.c_type_expr.specs.Faults.{rule}
-use Rattle.c_type_stmt.specs.Initials.{InitSaid, initialiser, piece, spelled, may_fit, assigned, slots, loose_all, too_many, fit_all, in_braces, is_zero_list, is_aggregate_slot, zero_list}
+use Rattle.c_type_stmt.specs.Initials.{InitSaid, initialiser, piece, spelled, may_fit, assigned, slots, loose_all, too_many, fit_all}
+use Rattle.c_type_stmt.specs.Initials.{in_braces, is_zero_list, is_aggregate_slot, zero_list}
 use Rattle.c_type_base.specs.Known.{value, is_value}
 use Rattle.c_type_base.specs.Layout.{members_of, first_scalar}
 use Rattle.c_type_expr.specs.Operators.{breaks}

@@ -6,7 +6,9 @@ use Rattle.c_type_stmt.specs.Initials.{initialiser}
 use Rattle.c_type_base.specs.Sizes.{is_complete}
 use Rattle.c_type_base.specs.Types.{is_array, is_struct}
 use Rattle.c_type_stmt.proofs.ListLaws.{list_with_places}
-use Rattle.c_type_stmt.proofs.initial.+fitted.Goals.{list_for-else-is_struct-via-then-is_struct+else-not-is_complete, list_for-else-is_struct-via-else-is_struct, list_for-then-is_array-via-then-is_array, list_for-then-is_array-via-else-is_array+then-is_struct-2}
+use Rattle.c_type_stmt.proofs.initial.+fitted.Goals.{list_for-else-is_struct-via-then-is_struct+else-not-is_complete}
+use Rattle.c_type_stmt.proofs.initial.+fitted.Goals.{list_for-else-is_struct-via-else-is_struct, list_for-then-is_array-via-then-is_array}
+use Rattle.c_type_stmt.proofs.initial.+fitted.Goals.{list_for-then-is_array-via-else-is_array+then-is_struct-2}
 use Rattle.c_type_stmt.proofs.InitialLaws.{walked_structs}
 use Rattle.c_type_stmt.proofs.initial.+fitted.Goals as goal
 
