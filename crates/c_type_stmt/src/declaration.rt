@@ -128,7 +128,8 @@ fn ask_typed(walk: &mut Walk, span: Span, new: bool, t: &Ty) -> bool
     new && complete && small
 }
 
-fn copy_known(alloc: Global, t: Option<&Ty>) -> Result<Option<Ty>, AllocError>
+/// An equal type, where it is known.
+pub fn copy_known(alloc: Global, t: Option<&Ty>) -> Result<Option<Ty>, AllocError>
     ensures { IfOk result (λ copied. copied ≡ option_copied t.entry) }
 {
     match t {

@@ -134,7 +134,8 @@ fn place_of(
     }
 }
 
-fn span_of(init: &Init) -> Span
+/// Where an initialiser stands.
+pub fn span_of(init: &Init) -> Span
     ensures { result ≡ (initialiser init.now).span }
 {
     match init {

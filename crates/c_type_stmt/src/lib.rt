@@ -9,7 +9,7 @@ mod initial_expression;
 mod layout;
 mod statements;
 
-pub use declaration::{ask_object, bind_local, declared_type, is_new, is_small};
+pub use declaration::{ask_object, bind_local, copy_known, declared_type, is_new, is_small};
 pub use fitted::Fitted;
-pub use initial::initialised;
+pub use initial::{initialised, span_of};
 pub use statements::statement_body;

@@ -1,3 +1,4 @@
 pub mod WellTypedLaws
 pub mod TableLaws
 pub mod PromiseLaws
+pub mod StandingLaws
