@@ -1,13 +1,10 @@
 //! The types of the C profile: which programs keep the rules, and the typed program.
 #![tactic(auto)]
 
-mod declaration;
-mod first_bytes;
-mod fitted;
-mod initial;
-mod initial_expression;
-mod layout;
-mod statements;
+mod file_walk;
+mod names;
+mod ordered;
+mod redeclared;
 
 pub use c_type_base::{
     Callee, ExternInfo, GlobalInfo, InitPiece, InitValue, LocalInfo, MemberInfo, StructInfo, TDecl,
