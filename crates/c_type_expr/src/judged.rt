@@ -141,9 +141,9 @@ fn values(
     Ok(values)
 }
 
-/// The type in a cast or behind `sizeof`.
+/// A type without a length left out, as in a cast or behind `sizeof`. The error is want of memory.
 #[cycle(expression)]
-fn type_name(
+pub fn type_name(
     walk: &mut Walk,
     alloc: Global,
     t: &CType,

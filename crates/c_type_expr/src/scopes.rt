@@ -2,7 +2,7 @@
 
 ghost use Rattle.std.specs.Prelude.{◌≡◌, ◌∷◌, OnOk, option_copied, reverse};
 ghost use Rattle.c_type_expr.specs.Environment.{in_scope, in_scopes};
-ghost use Rattle.c_type_expr.specs.Scoping.{no_names, with_binding, opened_names, closed_names};
+ghost use Rattle.c_type_expr.specs.Scoping.{no_names, with_binding, with_binding_around, opened_names, closed_names};
 
 use c_ast::Name;
 use c_type_base::{Callee, Ty};
@@ -116,6 +116,18 @@ impl Scopes {
     {
         self.inner.push(binding)?;
         Ok(())
+    }
+
+    /// Declares a name in the scope around the innermost.
+    pub fn add_around(&mut self, alloc: Global, binding: Binding) -> Result<(), AllocError>
+        ensures { OnOk result (self.new ≡ with_binding_around self.old binding) }
+    {
+        let mut scope = match self.outer.pop() {
+            Some(scope) => scope,
+            None => Items::new(alloc),
+        };
+        scope.push(binding)?;
+        self.outer.push(scope)
     }
 
     /// Opens a scope of its own inside.
