@@ -13,7 +13,7 @@ use Rattle.c_type_base.specs.declared.expr.Callee.TheVariants as callee
 use Rattle.c_type_expr.specs.declared.scopes.Place.{Place}
 use Rattle.c_type_expr.specs.declared.scopes.Place.TheVariants as place
 use Rattle.c_type_base.specs.Types.{is_there}
-use Rattle.c_types.specs.Declarations.{no}
+use Rattle.c_type_stmt.specs.Declarations.{no}
 
 -- a declaration at file scope: of a function or of an object, and whether it defines it
 pub record Mention : Type 0 where

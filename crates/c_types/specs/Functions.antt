@@ -18,7 +18,7 @@ use Rattle.c_type_base.specs.declared.known.Written.{Written}
 use Rattle.c_type_base.specs.declared.known.Written.TheVariants.{Whole, Open}
 use Rattle.c_type_expr.specs.Said.{whole}
 use Rattle.c_type_expr.specs.Expressions.{written}
-use Rattle.c_types.specs.Declarations.{no, is_new, declares_local}
+use Rattle.c_type_stmt.specs.Declarations.{no, is_new, declares_local}
 use Rattle.c_types.specs.Files.{is_static}
 
 -- ---- parameters

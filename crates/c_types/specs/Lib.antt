@@ -1,13 +1,8 @@
-pub mod Initials
-pub mod Declarations
-pub mod Statements
 pub mod Files
 pub mod Redeclarations
 pub mod Functions
 pub mod Structs
 pub mod Units
 pub mod WellTyped
-pub mod Locals
-pub mod Made
-pub mod Slots
+pub mod Standing
 pub mod Laws

@@ -8,7 +8,7 @@ use Rattle.c_type_base.specs.declared.ty.Ty.{Ty}
 use Rattle.c_type_base.specs.declared.ty.Ty.TheVariants as ty
 use Rattle.c_type_base.specs.Types.{same_type}
 use Rattle.c_type_expr.specs.declared.scopes.Signature.{Signature}
-use Rattle.c_types.specs.Declarations.{no, eof_name}
+use Rattle.c_type_stmt.specs.Declarations.{no, eof_name}
 use Rattle.c_types.specs.Files.{FileNames, putchar_name, getchar_name}
 
 -- what a declaration at file scope declares, and its type where that is known

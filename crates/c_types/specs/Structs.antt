@@ -12,7 +12,7 @@ use Rattle.c_type_expr.specs.Faults.{Rule, rule, broken}
 use Rattle.c_type_expr.specs.Outcomes.{Judged, sure, on, behind, joined}
 use Rattle.c_type_expr.specs.Said.{whole}
 use Rattle.c_type_expr.specs.Expressions.{written}
-use Rattle.c_types.specs.Declarations.{no, object_rules}
+use Rattle.c_type_stmt.specs.Declarations.{no, object_rules}
 
 -- a member by its name and its type, before it has a place
 pub record Member : Type 0 where

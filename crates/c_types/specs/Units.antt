@@ -29,10 +29,10 @@ use Rattle.c_type_expr.specs.declared.scopes.Signature.{Signature}
 use Rattle.c_type_expr.specs.declared.scopes.Meaning.TheVariants as means
 use Rattle.c_type_expr.specs.Environment.{Env, binds, tag_number}
 use Rattle.c_type_expr.specs.Outcomes.{Outcome, behind}
-use Rattle.c_types.specs.declared.fitted.Fitted.{Fitted}
-use Rattle.c_types.specs.Initials.{InitSaid}
-use Rattle.c_types.specs.Declarations.{no, init_of, declared_type, object_rules, initialised, eof_name}
-use Rattle.c_types.specs.Statements.{statement}
+use Rattle.c_type_stmt.specs.declared.fitted.Fitted.{Fitted}
+use Rattle.c_type_stmt.specs.Initials.{InitSaid}
+use Rattle.c_type_stmt.specs.Declarations.{no, init_of, declared_type, object_rules, initialised, eof_name}
+use Rattle.c_type_stmt.specs.Statements.{statement}
 use Rattle.c_types.specs.Files.{FileNames, file_names, is_extern, is_static, object_place, function_callee, putchar_name, getchar_name}
 use Rattle.c_types.specs.Redeclarations.{AnObject, AFunction, Declared, may_stand, putchar_type, getchar_type}
 use Rattle.c_types.specs.Functions.{parameters, signature_of, head_rules, main_name, result_type}

@@ -1,14 +1,6 @@
 //! The types of the C profile: which programs keep the rules, and the typed program.
 #![tactic(auto)]
 
-mod declaration;
-mod first_bytes;
-mod fitted;
-mod initial;
-mod initial_expression;
-mod layout;
-mod statements;
-
 pub use c_type_base::{
     Callee, ExternInfo, GlobalInfo, InitPiece, InitValue, LocalInfo, MemberInfo, StructInfo, TDecl,
     TExpr, TFunction, TInit, TItem, TNode, TStmt, Target, Ty, Typed, align_of, member_offset,
