@@ -119,15 +119,21 @@ impl Scopes {
     }
 
     /// Declares a name in the scope around the innermost.
+    #[tactic(auto, using(crate::proofs::ScopeLaws::declared_around, crate::proofs::ScopeLaws::declared_alone))]
     pub fn add_around(&mut self, alloc: Global, binding: Binding) -> Result<(), AllocError>
         ensures { OnOk result (self.new ≡ with_binding_around self.old binding) }
     {
-        let mut scope = match self.outer.pop() {
-            Some(scope) => scope,
-            None => Items::new(alloc),
-        };
-        scope.push(binding)?;
-        self.outer.push(scope)
+        match self.outer.pop() {
+            Some(mut scope) => {
+                scope.push(binding)?;
+                self.outer.push(scope)
+            }
+            None => {
+                let mut scope = Items::new(alloc);
+                scope.push(binding)?;
+                self.outer.push(scope)
+            }
+        }
     }
 
     /// Opens a scope of its own inside.

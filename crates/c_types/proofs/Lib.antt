@@ -1,2 +1,5 @@
 pub mod RuleExamples
 pub mod SameSpanExamples
+pub mod BodyLaws
+pub mod MemberLaws
+pub mod TagLaws

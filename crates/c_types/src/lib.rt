@@ -1,6 +1,9 @@
 //! The types of the C profile: which programs keep the rules, and the typed program.
 #![tactic(auto)]
 
+mod body;
+mod structs;
+
 pub use c_type_base::{
     Callee, ExternInfo, GlobalInfo, InitPiece, InitValue, LocalInfo, MemberInfo, StructInfo, TDecl,
     TExpr, TFunction, TInit, TItem, TNode, TStmt, Target, Ty, Typed, align_of, member_offset,

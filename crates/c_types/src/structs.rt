@@ -1,12 +1,14 @@
 //! Struct declarations (C11 6.7.2.1, 6.7.2.3).
 
-ghost use Rattle.std.specs.Prelude.{◌≡◌, ◌∷◌, ◌<◌, length, IfOk, OnOk, Some};
+ghost use Rattle.std.specs.Prelude.{◌≡◌, ◌<◌, [], length, map, IfOk, OnOk, Some};
 ghost use Rattle.std.specs.List.{list_any};
 ghost use Rattle.std.specs.Str.{bytes_eq};
 ghost use Rattle.c_type_expr.specs.Environment.{tag_number};
 ghost use Rattle.c_type_expr.specs.Walked.{Walked};
+ghost use Rattle.c_type_stmt.specs.Declarations.{no};
 ghost use Rattle.c_types.specs.Standing.{Stands};
 ghost use Rattle.c_types.specs.Structs as spec;
+ghost use Rattle.c_types.specs.Structs.{name_of};
 ghost use Rattle.c_types.specs.Units as said;
 ghost use Rattle.c_types.specs.Units.{Judgement};
 
@@ -88,8 +90,11 @@ fn members(walk: &mut Walk, alloc: Global, decls: &[Decl]) -> Result<Vec<Member>
 
 /// Whether no earlier member has the name.
 fn is_new_member(earlier: &[Decl], name: &Name) -> bool
+    ensures { result ≡ no (list_any (bytes_eq name.now) (map name_of earlier.now)) }
 {
-    !earlier.iter().any(|d| d.name.as_slice() == name.as_slice())
+    !earlier
+        .iter()
+        .any(|d| name.as_slice() == d.name.as_slice())
 }
 
 /// A member: its type, and then its rules.
