@@ -1,7 +1,6 @@
 -- How scopes open and close, and how they are held: all declarations in one list, and where each scope but the outermost starts.
 use Rattle.std.specs.Prelude.{List, [], ◌∷◌}
 use Rattle.c_type_expr.specs.declared.scopes.Binding.{Binding}
-use Rattle.c_type_expr.specs.Environment.{with_innermost}
 use Rattle.c_type_expr.specs.Names.{Names}
 
 abbrev pub no_names : Names
@@ -9,10 +8,6 @@ no_names = record { inner = []; outer = [] }
 
 abbrev pub with_binding : Names → Binding → Names
 with_binding n b = record n { inner = b ∷ n.inner }
-
--- in the scope around the innermost
-abbrev pub with_binding_around : Names → Binding → Names
-with_binding_around n b = record n { outer = with_innermost (b ∷ []) n.outer }
 
 abbrev pub opened_names : Names → Names
 opened_names n = record { inner = []; outer = n.inner ∷ n.outer }

@@ -141,9 +141,9 @@ fn values(
     Ok(values)
 }
 
-/// A type without a length left out, as in a cast or behind `sizeof`. The error is want of memory.
+/// The type in a cast or behind `sizeof`.
 #[cycle(expression)]
-pub fn type_name(
+fn type_name(
     walk: &mut Walk,
     alloc: Global,
     t: &CType,

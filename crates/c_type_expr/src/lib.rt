@@ -12,7 +12,7 @@ mod type_rows;
 mod walk;
 
 pub use fault::Fault;
-pub use judged::{array_length, expression, judged_value, type_name, written};
+pub use judged::{array_length, expression, judged_value, written};
 pub use length::{computes, length_known};
 pub use parts::whole_on;
 pub use rows::call::{copy_signature, copy_types};

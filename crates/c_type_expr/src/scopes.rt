@@ -1,8 +1,8 @@
 //! What names stand for, by scopes (C11 6.2.1).
 
-ghost use Rattle.std.specs.Prelude.{◌≡◌, ◌∷◌, OnOk, option_copied, reverse};
-ghost use Rattle.c_type_expr.specs.Environment.{in_scope, in_scopes};
-ghost use Rattle.c_type_expr.specs.Scoping.{no_names, with_binding, with_binding_around, opened_names, closed_names};
+ghost use Rattle.std.specs.Prelude.{◌≡◌, [], ◌∷◌, OnOk, option_copied, reverse};
+ghost use Rattle.c_type_expr.specs.Environment.{in_scope, in_scopes, with_innermost};
+ghost use Rattle.c_type_expr.specs.Scoping.{no_names, with_binding, opened_names, closed_names};
 
 use c_ast::Name;
 use c_type_base::{Callee, Ty};
@@ -121,7 +121,7 @@ impl Scopes {
     /// Declares a name in the scope around the innermost.
     #[tactic(auto, using(crate::proofs::ScopeLaws::declared_around, crate::proofs::ScopeLaws::declared_alone))]
     pub fn add_around(&mut self, alloc: Global, binding: Binding) -> Result<(), AllocError>
-        ensures { OnOk result (self.new ≡ with_binding_around self.old binding) }
+        ensures { OnOk result (self.new ≡ record self.old { outer = with_innermost (binding ∷ []) self.old.outer }) }
     {
         match self.outer.pop() {
             Some(mut scope) => {

@@ -1,15 +1,18 @@
 -- How the walk enters a function, and leaves it.
 use Rattle.std.proofs.Common.{◌≡◌, refl, sym, ◌∙◌, ap, subst, List, [], ◌∷◌, ◌++◌, length, Option, append-nil}
+use Rattle.c_ast.specs.declared.statement.Stmt.{Stmt}
 use Rattle.c_type_base.specs.declared.ty.Ty.{Ty}
 use Rattle.c_type_expr.specs.declared.fault.Fault.{Fault}
 use Rattle.c_type_expr.specs.declared.scopes.Binding.{Binding}
 use Rattle.c_type_expr.specs.declared.walk.Walk.{Walk}
-use Rattle.c_type_expr.specs.Environment.{Env, opened, with_innermost}
+use Rattle.c_type_expr.specs.Environment.{opened, with_innermost}
 use Rattle.c_type_expr.specs.Names.{Names}
 use Rattle.c_type_expr.specs.Outcomes.{Outcome, Judged}
-use Rattle.c_type_expr.specs.Scoping.{closed_by, closed_names, opened_names, with_binding_around}
+use Rattle.c_type_expr.specs.Scoping.{closed_by, closed_names, opened_names}
 use Rattle.c_type_expr.specs.Walked.{env_of, blamed, passed_by, Walked}
-use Rattle.c_types.specs.Inside.{outside_of, Inside, Entered}
+use Rattle.c_type_stmt.specs.Statements.{statement}
+use Rattle.c_types.specs.declared.functions.Body.{Body}
+use Rattle.c_types.specs.Inside.{outside_of, named_around, Inside, Entered, env_inside, Bodied}
 use Rattle.c_types.specs.Redeclarations.{Declared}
 use Rattle.c_types.specs.Standing.{Stands}
 use Rattle.c_types.specs.Units.{Judgement, with_outcome, with_faults, with_names}
@@ -20,7 +23,7 @@ use Rattle.c_types.specs.Laws.StandingLaws.{stands_passed, stands_faults, stands
 abbrev opened_walk : Walk → Walk
 opened_walk w = record w { scopes = opened_names w.scopes }
 
-entered_by : {A : Type 0} (o : Outcome A) (w w2 : Walk) (j : Judgement) → Stands w j → w2 ≡ passed_by (opened_walk w) o →
+entered_by : (o : Outcome (List Ty)) (w w2 : Walk) (j : Judgement) → Stands w j → w2 ≡ passed_by (opened_walk w) o →
     Inside w2 (with_outcome j (record o { names = [] })) o
 entered_by o w w2 j stands is =
     let all = passed_by (opened_walk w) o in
@@ -35,7 +38,7 @@ entered_by o w w2 j stands is =
     }
 
 -- a scope opens, and the walk passes what stands at its begin
-pub entered : {A : Type 0} (p : Judged A) (w w1 w2 : Walk) (k : Option A) → w1 ≡ record w { scopes = opened_names w.scopes } →
+pub entered : (p : Judged (List Ty)) (w w1 w2 : Walk) (k : Option (List Ty)) → w1 ≡ record w { scopes = opened_names w.scopes } →
     Walked p w1 w2 k → (j : Judgement) → Stands w j → Entered (λ env. p (opened env)) j w2 k
 entered p w w1 w2 k opens walked j stands =
     let at : env_of w1 ≡ opened j.env = ap env_of opens ∙ ap opened stands.env_is in
@@ -47,7 +50,7 @@ entered p w w1 w2 k opens walked j stands =
 
 -- ---- the head
 
-pub inside_faults : {A : Type 0} (faults : List Fault) (w w1 : Walk) (j : Judgement) (o : Outcome A) → Inside w j o → w1 ≡ blamed w faults →
+pub inside_faults : (faults : List Fault) (w w1 : Walk) (j : Judgement) (o : Outcome (List Ty)) → Inside w j o → w1 ≡ blamed w faults →
     Inside w1 (with_faults j faults) o
 inside_faults faults w w1 j o inside is = record {
   outside = stands_faults faults (outside_of w) (outside_of w1) j inside.outside (ap outside_of is);
@@ -61,8 +64,8 @@ around_closed b [] = refl
 around_closed b (scope ∷ scopes) = refl
 
 -- a name is declared in the scope around
-pub inside_named : {A : Type 0} (b : Binding) (w w1 : Walk) (j : Judgement) (o : Outcome A) → Inside w j o →
-    w1 ≡ record w { scopes = with_binding_around w.scopes b } → Inside w1 (with_names j (b ∷ [])) o
+pub inside_named : (b : Binding) (w w1 : Walk) (j : Judgement) (o : Outcome (List Ty)) → Inside w j o →
+    w1 ≡ record w { scopes = named_around w.scopes b } → Inside w1 (with_names j (b ∷ [])) o
 inside_named b w w1 j o inside is = record {
   outside = stands_names (b ∷ []) (outside_of w) (outside_of w1) j inside.outside
       (ap outside_of is ∙ ap (λ (s : Names). record w { scopes = s; locals = [] }) (around_closed b w.scopes.outer));
@@ -72,7 +75,7 @@ inside_named b w w1 j o inside is = record {
 }
 
 -- what is declared does not tell where the walk stands
-pub inside_declared : {A : Type 0} (w : Walk) (j : Judgement) (ds : List Declared) (o : Outcome A) → Inside w j o →
+pub inside_declared : (w : Walk) (j : Judgement) (ds : List Declared) (o : Outcome (List Ty)) → Inside w j o →
     Inside w (record j { declared = ds }) o
 inside_declared w j ds o inside = record {
   outside = record {
@@ -87,31 +90,23 @@ inside_declared w j ds o inside = record {
 
 -- ---- the body
 
-abbrev pub env_inside : {A : Type 0} → Judgement → Outcome A → Option Ty → Env
-env_inside j o result = record j.env { scopes = o.names ∷ j.env.scopes; locals = length o.locals; result = result }
-
--- what the body leaves
-pub record Bodied {A B : Type 0} (p : Judged B) (j : Judgement) (o : Outcome A) (result : Option Ty) (w2 w3 : Walk) (k : Option B) : Type 0 where
-  pub stands : Stands w3 (with_outcome j (record (p (env_inside j o result)) { names = [] }))
-  pub locals_are : w2.locals ≡ o.locals ++ (p (env_inside j o result)).locals
-  pub known_is : k ≡ (p (env_inside j o result)).known
-
-pub bodied : {A B : Type 0} (p : Judged B) (w w1 w2 w3 : Walk) (j : Judgement) (o : Outcome A) (result : Option Ty) (k : Option B) →
-    Inside w j o → w1 ≡ record w { result = result } → Walked p w1 w2 k →
-    w3 ≡ record w2 { scopes = closed_names w2.scopes; locals = []; result = w.result } → Bodied p j o result w2 w3 k
-bodied p w w1 w2 w3 j o result k inside gives walked leaves =
-    let at : env_of w1 ≡ env_inside j o result =
+pub bodied : (s : Stmt) (w w1 w2 w3 : Walk) (b : Body) → w1 ≡ record w { result = b.result } → Walked (statement s).body w1 w2 b.tree →
+    b.locals ≡ w2.locals → w3 ≡ record w2 { scopes = closed_names w2.scopes; locals = []; result = w.result } →
+    (j : Judgement) (o : Outcome (List Ty)) → Inside w j o → Bodied s j o w3 b
+bodied s w w1 w2 w3 b gives walked taken leaves j o inside =
+    let p = (statement s).body in
+    let at : env_of w1 ≡ env_inside j o b.result =
     ap env_of gives
     ∙ (λ i. record (inside.outside.env_is i) {
       scopes = (inside.scopes_are i).inner ∷ (inside.scopes_are i).outer;
       locals = length (inside.locals_are i);
-      result = result;
+      result = b.result;
     }) in
-    let q = p (env_inside j o result) in
-    let after : w2 ≡ passed_by (record w { result = result }) q = walked.after_is ∙ (λ i. passed_by (gives i) (p (at i))) in
+    let q = p (env_inside j o b.result) in
+    let after : w2 ≡ passed_by (record w { result = b.result }) q = walked.after_is ∙ (λ i. passed_by (gives i) (p (at i))) in
     record {
       stands = stands_passed (record q { names = [] }) (outside_of w) (passed_by (outside_of w) (record q { names = [] })) w3 j inside.outside refl
           (leaves ∙ ap (λ (x : Walk). record x { scopes = closed_names x.scopes; locals = []; result = w.result }) after);
-      locals_are = ap (λ (x : Walk). x.locals) after ∙ ap (λ l. l ++ q.locals) inside.locals_are;
-      known_is = walked.known_is ∙ ap (λ e. (p e).known) at;
+      locals_are = taken ∙ ap (λ (x : Walk). x.locals) after ∙ ap (λ l. l ++ q.locals) inside.locals_are;
+      tree_is = walked.known_is ∙ ap (λ e. (p e).known) at;
     }

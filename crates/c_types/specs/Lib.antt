@@ -5,4 +5,5 @@ pub mod Structs
 pub mod Units
 pub mod WellTyped
 pub mod Standing
+pub mod Inside
 pub mod Laws

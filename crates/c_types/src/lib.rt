@@ -3,6 +3,7 @@
 
 mod body;
 mod structs;
+mod types;
 
 pub use c_type_base::{
     Callee, ExternInfo, GlobalInfo, InitPiece, InitValue, LocalInfo, MemberInfo, StructInfo, TDecl,

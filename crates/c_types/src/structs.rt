@@ -13,9 +13,10 @@ ghost use Rattle.c_types.specs.Units as said;
 ghost use Rattle.c_types.specs.Units.{Judgement};
 
 use crate::body::{Member, struct_with};
+use crate::types::whole_type;
 use c_ast::{Decl, Name, StructDecl};
 use c_type_base::{StructInfo, Ty, has_body};
-use c_type_expr::{Walk, tag_number, type_name};
+use c_type_expr::{Walk, tag_number};
 use c_type_stmt::ask_object;
 use sqlite_items::{Items, at};
 use std::alloc::{AllocError, Global};
@@ -101,7 +102,7 @@ fn is_new_member(earlier: &[Decl], name: &Name) -> bool
 fn member(walk: &mut Walk, alloc: Global, new: bool, d: &Decl) -> Result<Option<Ty>, AllocError>
     ensures { IfOk result (λ t. Walked (spec.member new d.now) walk.old walk.new t) }
 {
-    let t = type_name(walk, alloc, &d.ty, d.span)?;
+    let t = whole_type(walk, alloc, &d.ty, d.span)?;
     ask_object(walk, d.span, new, t.as_ref());
     Ok(t)
 }

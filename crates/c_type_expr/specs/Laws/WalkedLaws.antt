@@ -24,7 +24,7 @@ blamed_twice w span number false rs = refl
 
 -- ---- one outcome, and another
 
-pub env_behind : {A : Type 0} (w : Walk) (o : Outcome A) → behind o (env_of w) ≡ env_of (passed_by w o)
+env_behind : {A : Type 0} (w : Walk) (o : Outcome A) → behind o (env_of w) ≡ env_of (passed_by w o)
 env_behind w o = λ i. record (env_of (passed_by w o)) {
   texts = sym (length-append w.texts o.texts) i;
   locals = sym (length-append w.locals o.locals) i;
