@@ -1,5 +1,5 @@
 -- Members are placed one by one, and the numbers of a struct that is too large stop at the greatest one.
-use Rattle.std.proofs.Common.{◌≡◌, refl, sym, ◌∙◌, ap, ℕ, zero, suc, ◌+◌, ◌*◌, ◌-◌, ◌/◌, ◌%◌, ◌<◌, ◌≤◌, max, List, [], ◌∷◌, ◌++◌, map, length, append-nil, append_assoc, inl, inr, arith, lit≤}
+use Rattle.std.proofs.Common.{◌≡◌, refl, sym, ◌∙◌, ap, subst, ℕ, zero, suc, ◌+◌, ◌*◌, ◌-◌, ◌/◌, ◌%◌, ◌<◌, ◌≤◌, max, List, [], ◌∷◌, ◌++◌, map, length, append-nil, append_assoc, inl, inr, arith, lit≤}
 use Rattle.std.specs.Prelude.{min}
 use Rattle.std.proofs.Math.Nat.{le_trans, div-eq_of_lt-le, mul-zero}
 use Rattle.std.proofs.lemmas.Bool.{cases_lt}
@@ -38,6 +38,16 @@ rounded-odd p u positive over below =
 pub rounded-none : (p : ℕ) → round_up p 0 ≡ 0
 rounded-none p = mul-zero ((p + (0 - 1)) / 0)
 
+within : (g n : ℕ) → n ≤ g → n ≡ min n g
+within g n below = omega arith
+
+-- what the code gives for a multiple, and for anything else
+pub rounded_whole : (p u : ℕ) → p ≤ greatest → 1 ≤ u → p % u ≡ 0 → p ≡ capped (round_up p u)
+rounded_whole p u below positive none = within greatest p below ∙ ap capped (sym (rounded-even p u positive none))
+
+pub rounded_rest : (p u r : ℕ) → 1 ≤ u → 1 ≤ p % u → p % u < u → r ≡ min (p + (u - p % u)) greatest → r ≡ capped (round_up p u)
+rounded_rest p u r positive over below is = is ∙ ap capped (sym (rounded-odd p u positive over below))
+
 -- ---- the greatest number, as a variable
 
 both_above : (g x y : ℕ) → g ≤ x → g ≤ y → min x g ≡ min y g
@@ -49,13 +59,16 @@ above_too g p q same above = omega arith
 below_same : (g p q : ℕ) → min p g ≡ min q g → p < g → p ≡ q
 below_same g p q same below = omega arith
 
+one_more : (u : ℕ) → 1 ≤ suc u
+one_more u = omega arith
+
 round_same : (g p q u : ℕ) → min p g ≡ min q g → min (round_up p u) g ≡ min (round_up q u) g
 round_same g p q zero same = ap (λ n. min n g) (rounded-none p ∙ sym (rounded-none q))
 round_same g p q (suc u) same =
     elim (cases_lt p g) [
       | inl below ↦ ap (λ n. min (round_up n (suc u)) g) (below_same g p q same below)
       | inr above ↦ both_above g (round_up p (suc u)) (round_up q (suc u))
-        (le_trans above (round_up-reaches p (suc u) (lit≤ tt))) (le_trans (above_too g p q same above) (round_up-reaches q (suc u) (lit≤ tt)))
+        (le_trans above (round_up-reaches p (suc u) (one_more u))) (le_trans (above_too g p q same above) (round_up-reaches q (suc u) (one_more u)))
     ]
 
 add_same : (g p q s : ℕ) → min p g ≡ min q g → min (p + s) g ≡ min (q + s) g
@@ -107,7 +120,7 @@ max_step a u r = omega arith
 max_positive : (a u : ℕ) → 1 ≤ a → 1 ≤ max u a
 max_positive a u positive = omega arith
 
-pub placing_none : (structs : List StructInfo) (all : List Member) → Placing structs all all [] 0 1
+placing_none : (structs : List StructInfo) (all : List Member) → Placing structs all all [] 0 1
 placing_none structs all = record {
   members_are = refl;
   end_is = refl;
@@ -115,7 +128,13 @@ placing_none structs all = record {
   positive = lit≤ tt;
 }
 
-pub placing_more : (structs : List StructInfo) (all rest : List Member) (m : Member) (placed : List MemberInfo) (end al offset next : ℕ) →
+pub placing_start : (structs : List StructInfo) (all rest : List Member) (placed : List MemberInfo) → rest ≡ all → placed ≡ [] →
+    Placing structs all rest placed 0 1
+placing_start structs all rest placed same none =
+    subst (λ (l : List Member). Placing structs all l placed 0 1) (sym same)
+    (subst (λ (l : List MemberInfo). Placing structs all all l 0 1) (sym none) (placing_none structs all))
+
+placing_more : (structs : List StructInfo) (all rest : List Member) (m : Member) (placed : List MemberInfo) (end al offset next : ℕ) →
     Placing structs all (m ∷ rest) placed end al → offset ≡ capped (round_up end (align structs m.ty)) →
     next ≡ min (offset + capped (size structs m.ty)) greatest →
     Placing structs all rest (placed ++ record { name = m.name; ty = m.ty; offset = offset } ∷ []) next (max (align structs m.ty) al)
@@ -133,6 +152,19 @@ placing_more structs all rest m placed end al offset next before place_is next_i
       align_is = before.align_is ∙ max_step al (align structs m.ty) (struct_align structs (map ty_in rest));
       positive = max_positive al (align structs m.ty) before.positive;
     }
+
+-- one more member, as the code places it
+pub placing_turn : (structs : List StructInfo) (all rest more : List Member) (m : Member) (placed placed_now : List MemberInfo)
+    (end al offset next unit bytes greater : ℕ) → Placing structs all rest placed end al → rest ≡ m ∷ more → unit ≡ align structs m.ty →
+    offset ≡ capped (round_up end unit) → bytes ≡ capped (size structs m.ty) → next ≡ min (offset + bytes) greatest → greater ≡ max unit al →
+    placed_now ≡ placed ++ record { name = m.name; ty = m.ty; offset = offset } ∷ [] → Placing structs all more placed_now next greater
+placing_turn structs all rest more m placed placed_now end al offset next unit bytes greater before is unit_is place_is bytes_is next_is greater_is
+    with_is =
+    let here = placing_more structs all more m placed end al offset next (subst (λ (l : List Member). Placing structs all l placed end al) is before)
+    (place_is ∙ ap (λ u. capped (round_up end u)) unit_is) (next_is ∙ ap (λ b. min (offset + b) greatest) bytes_is) in
+    subst (λ (l : List MemberInfo). Placing structs all more l next greater) (sym with_is)
+    (subst (λ (a : ℕ). Placing structs all more (placed ++ record { name = m.name; ty = m.ty; offset = offset } ∷ []) next a)
+    (sym (greater_is ∙ ap (λ u. max u al) unit_is)) here)
 
 nothing_in : {A : Type 0} (xs : List A) → length xs ≡ 0 → xs ≡ []
 nothing_in [] none = refl

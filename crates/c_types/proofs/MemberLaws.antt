@@ -1,17 +1,18 @@
 -- The members of a body are walked one by one.
-use Rattle.std.proofs.Common.{◌≡◌, refl, sym, ◌∙◌, ap, subst, ℕ, ◌+◌, ◌<◌, Bool, true, false, ◌||◌, List, [], ◌∷◌, ◌++◌, map, take, get_or, length, Option, Some, None, append-nil, append_assoc}
+use Rattle.std.proofs.Common.{◌≡◌, refl, sym, ◌∙◌, ap, subst, ℕ, ◌+◌, ◌<◌, Bool, true, false, ◌||◌, List, [], ◌∷◌, ◌++◌, take, get_or, length, Option, Some, None, append-nil, append_assoc}
 use Rattle.std.specs.List.{list_any}
 use Rattle.std.specs.Str.{bytes_eq}
 use Rattle.std.proofs.lemmas.List.{take_more}
 use Rattle.c_ast.specs.declared.declaration.Decl.{Decl}
 use Rattle.c_type_base.specs.declared.ty.Ty.{Ty}
 use Rattle.c_type_expr.specs.declared.walk.Walk.{Walk}
+use Rattle.c_type_expr.specs.Faults.{rule, broken}
 use Rattle.c_type_expr.specs.Outcomes.{Judged, sure, behind}
-use Rattle.c_type_expr.specs.Walked.{env_of, passed_by, Walked}
+use Rattle.c_type_expr.specs.Walked.{env_of, blamed, passed_by, Walked}
 use Rattle.c_type_expr.specs.Laws.EachLaws.{from}
-use Rattle.c_type_expr.specs.Laws.WalkedLaws.{walked_sure, after_sure, after_two, judged_next, split_after}
-use Rattle.c_type_stmt.specs.Declarations.{no}
-use Rattle.c_types.specs.Structs.{Member, name_of, found_member, with_member, member, members}
+use Rattle.c_type_expr.specs.Laws.WalkedLaws.{first_with-append, walked_sure, after_sure, after_two, judged_next, split_after}
+use Rattle.c_type_stmt.specs.Declarations.{no, object_rules}
+use Rattle.c_types.specs.Structs.{Member, found_member, with_member, member_type, member, members}
 
 -- ---- the names so far
 
@@ -25,16 +26,34 @@ or_moved true false c = refl
 or_moved false true c = refl
 or_moved false false c = refl
 
+or_none : (b : Bool) → b ≡ (b || false)
+or_none true = refl
+or_none false = refl
+
 any_onto : (test : List ℕ → Bool) (seen : List (List ℕ)) (ds : List Decl) →
-    list_any test (names_onto seen ds) ≡ (list_any test seen || list_any test (map name_of ds))
-any_onto test seen [] = elim list_any test seen as (λ (b : Bool). b ≡ (b || false)) [ true ↦ refl | false ↦ refl ]
+    list_any test (names_onto seen ds) ≡ (list_any test seen || list_any (λ d. test d.name) ds)
+any_onto test seen [] = or_none (list_any test seen)
 any_onto test seen (d ∷ ds) =
-    any_onto test (d.name ∷ seen) ds ∙ or_moved (test d.name) (list_any test seen) (list_any test (map name_of ds))
+    any_onto test (d.name ∷ seen) ds ∙ or_moved (test d.name) (list_any test seen) (list_any (λ d. test d.name) ds)
 
 -- a name is new where no declaration so far has it
-pub new_among : (name : List ℕ) (ds : List Decl) → no (list_any (bytes_eq name) (map name_of ds)) ≡
+pub new_among : (name : List ℕ) (ds : List Decl) → no (list_any (λ d. bytes_eq name d.name) ds) ≡
     no (list_any (bytes_eq name) (names_onto [] ds))
 new_among name ds = ap no (sym (any_onto (bytes_eq name) [] ds))
+
+-- ---- a member
+
+pub member_walked : (new : Bool) (d : Decl) (w w1 w2 : Walk) (t : Option Ty) → Walked (member_type d) w w1 t →
+    w2 ≡ blamed w1 (broken d.span (rule 10 new ∷ object_rules w1.structs t)) → Walked (member new d) w w2 t
+member_walked new d w w1 w2 t first asked =
+    let o = member_type d (env_of w) in
+    let faults = broken d.span (rule 10 new ∷ object_rules w.structs o.known) in
+    record {
+      after_is = asked
+          ∙ (λ i. blamed (first.after_is i) (broken d.span (rule 10 new ∷ object_rules (first.after_is i).structs (first.known_is i))))
+          ∙ (λ i. record (passed_by w o) { first = sym (first_with-append w.first o.faults faults) i });
+      known_is = first.known_is;
+    }
 
 -- ---- one more member
 
@@ -87,7 +106,7 @@ members_more seen (e ∷ ds) d w w1 w2 k t first second =
 
 -- the next member of a body
 pub members_next : (ds : List Decl) (i : ℕ) (d e : Decl) (w w1 w2 : Walk) (new : Bool) (ms : List Member) (t : Option Ty) →
-    i < length ds → e ≡ get_or ds i d → new ≡ no (list_any (bytes_eq e.name) (map name_of (take i ds))) →
+    i < length ds → e ≡ get_or ds i d → new ≡ no (list_any (λ d. bytes_eq e.name d.name) (take i ds)) →
     Walked (members [] (take i ds)) w w1 (Some ms) → Walked (member new e) w1 w2 t →
     Walked (members [] (take (i + 1) ds)) w w2 (Some (ms ++ found_member e.name t))
 members_next ds i d e w w1 w2 new ms t below is first_one before here =

@@ -1,5 +1,5 @@
 -- Where the walk stands behind a tag, and behind the body of one.
-use Rattle.std.proofs.Common.{◌≡◌, refl, sym, ◌∙◌, ap, subst, ℕ, ◌+◌, ◌≤◌, Bool, true, cond, List, [], ◌∷◌, ◌++◌, map, length, slice_get, slice_set, Option, Some, None, arith}
+use Rattle.std.proofs.Common.{◌≡◌, refl, sym, ◌∙◌, ap, subst, ℕ, suc, ◌+◌, ◌<◌, ◌≤◌, Bool, true, false, cond, List, [], ◌∷◌, ◌++◌, map, length, slice_get, slice_set, Option, Some, None, arith}
 use Rattle.std.specs.Prelude.{leb, min}
 use Rattle.std.specs.List.{position_from}
 use Rattle.std.specs.Str.{bytes_eq}
@@ -43,7 +43,25 @@ found_last test from (y ∷ ys) x none is =
 pub tag_is : (structs : List StructInfo) (tag : List ℕ) → tag_number structs tag ≡ None →
     Some (length structs) ≡ tag_number (structs ++ tag_alone tag ∷ []) tag
 tag_is structs tag none =
-    sym (found_last (λ info. bytes_eq info.name tag) 0 structs (tag_alone tag) none ((bytes_eq-Decides tag tag).1 refl))
+    let same : 0 + length structs ≡ length structs = omega arith in
+    sym (found_last (λ info. bytes_eq info.name tag) 0 structs (tag_alone tag) none ((bytes_eq-Decides tag tag).1 refl)
+    ∙ ap (λ (n : ℕ). Some n) same)
+
+within_one : (b : Bool) (from n left : ℕ) (o : Option ℕ) → cond b (Some from) o ≡ Some n → (o ≡ Some n → n < from + 1 + left) →
+    n < from + suc left
+within_one true from n left o is next = let same : from ≡ n = cc in omega arith
+within_one false from n left o is next = let below : n < from + 1 + left = next is in omega arith
+
+found_within : (test : StructInfo → Bool) (from n : ℕ) (xs : List StructInfo) → position_from test from xs ≡ Some n → n < from + length xs
+found_within test from n [] is = absurd (cc)
+found_within test from n (x ∷ xs) is =
+    within_one (test x) from n (length xs) (position_from test (from + 1) xs) is (λ o. found_within test (from + 1) n xs o)
+
+-- and each is within the table
+pub tag_within : (structs : List StructInfo) (tag : List ℕ) (n : ℕ) → Some n ≡ tag_number structs tag → n < length structs
+tag_within structs tag n is =
+    let below : n < 0 + length structs = found_within (λ info. bytes_eq info.name tag) 0 n structs (sym is) in
+    omega arith
 
 pub tag_there : (w : Walk) (j : Judgement) (tag : List ℕ) (n : ℕ) → Stands w j → Some n ≡ tag_number w.structs tag →
     Stands w (with_tag j tag (tag_number j.env.structs tag))
@@ -59,7 +77,7 @@ tag_new w w1 j tag stands none is =
 
 -- ---- bodies
 
-small_by : (g l n : ℕ) → l ≤ g → leb (min n g) l ≡ leb n l
+small_by : (g l n : ℕ) → l < g → leb (min n g) l ≡ leb n l
 small_by g l n within = grind (arith, nat_tests)
 
 -- a size that stops at the greatest number is as small as the size itself

@@ -16,9 +16,6 @@ use Rattle.c_type_stmt.specs.Declarations.{no, object_rules}
 
 pub use Rattle.c_types.specs.declared.body.Member.{Member}
 
-abbrev pub name_of : Decl → List ℕ
-name_of d = d.name
-
 abbrev pub ty_in : Member → Ty
 ty_in m = m.ty
 

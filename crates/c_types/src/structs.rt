@@ -1,6 +1,6 @@
 //! Struct declarations (C11 6.7.2.1, 6.7.2.3).
 
-ghost use Rattle.std.specs.Prelude.{◌≡◌, ◌<◌, [], length, map, IfOk, OnOk, Some};
+ghost use Rattle.std.specs.Prelude.{◌≡◌, ◌<◌, [], ◌++◌, length, IfOk, OnOk, Some};
 ghost use Rattle.std.specs.List.{list_any};
 ghost use Rattle.std.specs.Str.{bytes_eq};
 ghost use Rattle.c_type_expr.specs.Environment.{tag_number};
@@ -8,7 +8,6 @@ ghost use Rattle.c_type_expr.specs.Walked.{Walked};
 ghost use Rattle.c_type_stmt.specs.Declarations.{no};
 ghost use Rattle.c_types.specs.Standing.{Stands};
 ghost use Rattle.c_types.specs.Structs as spec;
-ghost use Rattle.c_types.specs.Structs.{name_of};
 ghost use Rattle.c_types.specs.Units as said;
 ghost use Rattle.c_types.specs.Units.{Judgement};
 
@@ -81,17 +80,32 @@ fn members(walk: &mut Walk, alloc: Global, decls: &[Decl]) -> Result<Vec<Member>
     let mut found = Vec::new(alloc);
     for (i, d) in decls.iter().enumerate() {
         let new = is_new_member(&decls[..i], &d.name);
-        if let Some(ty) = member(walk, alloc, new, d)? {
-            let name = d.name.copy(alloc)?;
-            found.push(Member { name, ty })?;
-        }
+        let known = member(walk, alloc, new, d)?;
+        found = with_member(alloc, found, &d.name, known)?;
     }
+    Ok(found)
+}
+
+/// One more member, where its type is known.
+fn with_member(
+    alloc: Global,
+    mut found: Vec<Member>,
+    name: &Name,
+    known: Option<Ty>,
+) -> Result<Vec<Member>, AllocError>
+    ensures { IfOk result (λ more. more.items ≡ found.items ++ spec.found_member name.now known) }
+{
+    let Some(ty) = known else {
+        return Ok(found);
+    };
+    let name = name.copy(alloc)?;
+    found.push(Member { name, ty })?;
     Ok(found)
 }
 
 /// Whether no earlier member has the name.
 fn is_new_member(earlier: &[Decl], name: &Name) -> bool
-    ensures { result ≡ no (list_any (bytes_eq name.now) (map name_of earlier.now)) }
+    ensures { result ≡ no (list_any (λ d. bytes_eq name.now d.name) earlier.now) }
 {
     !earlier
         .iter()

@@ -1,6 +1,9 @@
 -- Tables of structs that are laid out stay so: where a tag is added, and where one that has no body gets one whose members are complete.
 use Rattle.std.proofs.Common.{◌≡◌, refl, sym, ◌∙◌, ap, subst, ℕ, zero, suc, ◌+◌, ◌⊎◌, inl, inr, true, false, List, [], ◌∷◌, ◌++◌, map}
-use Rattle.std.proofs.Common.{slice_get, slice_set, Some, ◌≤◌, lit≤}
+use Rattle.std.proofs.Common.{slice_get, slice_set, Some, ◌≤◌, lit≤, arith}
+use Rattle.std.specs.Prelude.{min}
+use Rattle.std.proofs.Math.Nat.{le_trans}
+use Rattle.c_type_base.specs.declared.ty.Ty.{Ty}
 use Rattle.c_type_base.specs.declared.typed.StructInfo.{StructInfo}
 use Rattle.c_type_base.specs.Sizes.{size, align, complete_struct, largest}
 use Rattle.c_type_base.specs.Layout.{round_up, places, end_of, struct_align, struct_size, IsLaidOut, LaidOut, offset_in, type_of}
