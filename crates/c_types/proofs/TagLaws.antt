@@ -7,6 +7,7 @@ use Rattle.std.proofs.lemmas.Bool.Decides.{nat_tests}
 use Rattle.std.proofs.lemmas.Slice.Eq.{bytes_eq-Decides}
 use Rattle.c_ast.specs.declared.declaration.Decl.{Decl}
 use Rattle.c_ast.specs.declared.declaration.StructDecl.{StructDecl}
+use Rattle.c_type_base.specs.declared.typed.MemberInfo.{MemberInfo}
 use Rattle.c_type_base.specs.declared.typed.StructInfo.{StructInfo}
 use Rattle.c_type_base.specs.Sizes.{largest}
 use Rattle.c_type_base.specs.Layout.{struct_size}
@@ -46,6 +47,14 @@ tag_is structs tag none =
     let same : 0 + length structs ≡ length structs = omega arith in
     sym (found_last (λ info. bytes_eq info.name tag) 0 structs (tag_alone tag) none ((bytes_eq-Decides tag tag).1 refl)
     ∙ ap (λ (n : ℕ). Some n) same)
+
+pub tag_pushed : (structs more : List StructInfo) (tag name : List ℕ) (ms : List MemberInfo) (n : ℕ) → None ≡ tag_number structs tag →
+    more ≡ structs ++ record { name = name; members = ms; bytes = 0; align = 1 } ∷ [] → name ≡ tag → ms ≡ [] → n ≡ length structs →
+    Some n ≡ tag_number more tag
+tag_pushed structs more tag name ms n none is named bare count =
+    ap (λ (k : ℕ). Some k) count ∙ tag_is structs tag (sym none)
+    ∙ sym (ap (λ (s : List StructInfo). tag_number s tag) is
+    ∙ (λ i. tag_number (structs ++ record { name = named i; members = bare i; bytes = 0; align = 1 } ∷ []) tag))
 
 within_one : (b : Bool) (from n left : ℕ) (o : Option ℕ) → cond b (Some from) o ≡ Some n → (o ≡ Some n → n < from + 1 + left) →
     n < from + suc left

@@ -79,7 +79,7 @@ fn members(walk: &mut Walk, alloc: Global, decls: &[Decl]) -> Result<Vec<Member>
 {
     let mut found = Vec::new(alloc);
     for (i, d) in decls.iter().enumerate() {
-        let new = is_new_member(&decls[..i], &d.name);
+        let new = is_new_member(&decls[..i], d.name.as_slice());
         let known = member(walk, alloc, new, d)?;
         found = with_member(alloc, found, &d.name, known)?;
     }
@@ -104,12 +104,16 @@ fn with_member(
 }
 
 /// Whether no earlier member has the name.
-fn is_new_member(earlier: &[Decl], name: &Name) -> bool
+fn is_new_member(earlier: &[Decl], name: &[u8]) -> bool
     ensures { result ≡ no (list_any (λ d. bytes_eq name.now d.name) earlier.now) }
 {
-    !earlier
-        .iter()
-        .any(|d| name.as_slice() == d.name.as_slice())
+    !has_name(earlier, name)
+}
+
+fn has_name(decls: &[Decl], name: &[u8]) -> bool
+    ensures { result ≡ list_any (λ d. bytes_eq name.now d.name) decls.now }
+{
+    decls.iter().any(|d| name == d.name.as_slice())
 }
 
 /// A member: its type, and then its rules.
