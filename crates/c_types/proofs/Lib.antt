@@ -1,2 +1,5 @@
 pub mod RuleExamples
 pub mod SameSpanExamples
+pub mod ObjectLaws
+pub mod FileLaws
+pub mod AnswerLaws

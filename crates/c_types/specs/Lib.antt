@@ -4,5 +4,7 @@ pub mod Functions
 pub mod Structs
 pub mod Units
 pub mod WellTyped
+pub mod Refusal
+pub mod Starting
 pub mod Standing
 pub mod Laws
