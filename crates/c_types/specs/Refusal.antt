@@ -22,6 +22,36 @@ refusal_of number span =
     else (if nat_eq number 18 then refusal.NoMember span
     else refusal.MainForm span))))))))))
 
+-- the number of each refusal, and 0 for want of memory
+abbrev pub number_of : TypeRefusal → ℕ
+number_of (refusal.Undeclared span) = 9
+number_of (refusal.Redeclared span) = 10
+number_of (refusal.NotLvalue span) = 11
+number_of (refusal.Mismatch span) = 12
+number_of (refusal.NotCallable span) = 13
+number_of (refusal.ArgCount span) = 14
+number_of (refusal.Incomplete span) = 15
+number_of (refusal.BadInit span) = 16
+number_of (refusal.ObjectTooLarge span) = 17
+number_of (refusal.NoMember span) = 18
+number_of (refusal.MainForm span) = 19
+number_of refusal.NoMemory = 0
+
+-- the construct that each refusal names; want of memory names none
+abbrev pub span_of : TypeRefusal → Span
+span_of (refusal.Undeclared span) = span
+span_of (refusal.Redeclared span) = span
+span_of (refusal.NotLvalue span) = span
+span_of (refusal.Mismatch span) = span
+span_of (refusal.NotCallable span) = span
+span_of (refusal.ArgCount span) = span
+span_of (refusal.Incomplete span) = span
+span_of (refusal.BadInit span) = span
+span_of (refusal.ObjectTooLarge span) = span
+span_of (refusal.NoMember span) = span
+span_of (refusal.MainForm span) = span
+span_of refusal.NoMemory = record { start = 0; end = 0 }
+
 -- a refusal names the first rule that is broken, and its construct
 pub record Names (program : Program) (r : TypeRefusal) : Type 0 where
   pub number : ℕ

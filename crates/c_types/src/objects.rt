@@ -1,6 +1,6 @@
 //! Objects at file scope (C11 6.7, 6.9.2).
 
-ghost use Rattle.std.specs.Prelude.{◌≡◌, ◌∷◌, ◌++◌, IfOk, OnOk, Some, option_copied};
+ghost use Rattle.std.specs.Prelude.{◌≡◌, ◌∷◌, ◌++◌, true, IfOk, OnOk, option_copied};
 ghost use Rattle.std.specs.Str.{bytes_eq};
 ghost use Rattle.c_type_expr.specs.Faults.{rule, broken};
 ghost use Rattle.c_type_expr.specs.Outcomes.{option_map};
@@ -42,7 +42,7 @@ fn object_init(
     d: &Decl,
 ) -> Result<Option<Option<Fitted>>, AllocError>
     ensures { IfOk result (λ i. (j : Judgement) → Stands walk.old j →
-        Passed (locals.initialised Bool.true (option_copied t.entry) (init_of d.now)) j walk.new i) }
+        Passed (locals.initialised true (option_copied t.entry) (init_of d.now)) j walk.new i) }
 {
     let init = initialised(walk, alloc, true, t, d.init.as_ref())?;
     leave(walk, alloc);

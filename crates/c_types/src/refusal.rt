@@ -48,6 +48,48 @@ pub enum TypeRefusal {
     NoMemory,
 }
 
+impl TypeRefusal {
+    /// The number of the rule, from 9 to 19 in the order above, and 0 for want of memory.
+    pub fn number(&self) -> u8
+        ensures { result ≡ spec.number_of self.now }
+    {
+        match self {
+            TypeRefusal::Undeclared { .. } => 9,
+            TypeRefusal::Redeclared { .. } => 10,
+            TypeRefusal::NotLvalue { .. } => 11,
+            TypeRefusal::Mismatch { .. } => 12,
+            TypeRefusal::NotCallable { .. } => 13,
+            TypeRefusal::ArgCount { .. } => 14,
+            TypeRefusal::Incomplete { .. } => 15,
+            TypeRefusal::BadInit { .. } => 16,
+            TypeRefusal::ObjectTooLarge { .. } => 17,
+            TypeRefusal::NoMember { .. } => 18,
+            TypeRefusal::MainForm { .. } => 19,
+            TypeRefusal::NoMemory => 0,
+        }
+    }
+
+    /// The construct that breaks it; for want of memory the first byte.
+    pub fn span(&self) -> Span
+        ensures { result ≡ spec.span_of self.now }
+    {
+        match self {
+            TypeRefusal::Undeclared { span }
+            | TypeRefusal::Redeclared { span }
+            | TypeRefusal::NotLvalue { span }
+            | TypeRefusal::Mismatch { span }
+            | TypeRefusal::NotCallable { span }
+            | TypeRefusal::ArgCount { span }
+            | TypeRefusal::Incomplete { span }
+            | TypeRefusal::BadInit { span }
+            | TypeRefusal::ObjectTooLarge { span }
+            | TypeRefusal::NoMember { span }
+            | TypeRefusal::MainForm { span } => *span,
+            TypeRefusal::NoMemory => Span { start: 0, end: 0 },
+        }
+    }
+}
+
 /// The refusal for a broken rule.
 pub fn refusal_of(fault: Fault) -> TypeRefusal
     ensures { result ≡ spec.refusal_of fault.number fault.span }
