@@ -15,7 +15,6 @@ use Rattle.c_type_base.specs.declared.typed.StructInfo.{StructInfo}
 use Rattle.c_type_base.specs.Sizes.{is_complete, size, largest}
 use Rattle.c_type_expr.specs.declared.fault.Fault.{Fault}
 use Rattle.c_type_expr.specs.declared.scopes.Meaning.TheVariants as means
-use Rattle.c_type_expr.specs.declared.scopes.Place.{Place}
 use Rattle.c_type_expr.specs.declared.walk.Walk.{Walk}
 use Rattle.c_type_expr.specs.Environment.{binds}
 use Rattle.c_type_expr.specs.Faults.{Rule, rule, broken}
@@ -86,15 +85,13 @@ behind_type names c j d typed t =
 
 -- what the code finds of an object behind its type
 pub record Found (names : FileNames) (c : Storage) (d : Decl) (f : FileWalk) (w1 : Walk) (t : Option Ty) (after : FileWalk) : Type 0 where
-  pub place : Place
   pub i : Option (Option Fitted)
   pub this : Declared
   pub agrees : Bool
   pub w2 : Walk
   pub w3 : Walk
   pub w4 : Walk
-  pub place_is : place ≡ object_place names d.name
-  pub named : w2 ≡ record w1 { scopes = with_binding w1.scopes (binds d.name (means.Object place t)) }
+  pub named : w2 ≡ record w1 { scopes = with_binding w1.scopes (binds d.name (means.Object (object_place names d.name) t)) }
   pub begins : (j : Judgement) → Stands w2 j → Passed (initialised true t (init_of d)) j w3 i
   pub this_is : this ≡ object_declared c d t
   pub agrees_is : (ds : List Declared) → Recalls f.declared ds → agrees ≡ may_stand names ds this
@@ -113,8 +110,7 @@ found_stands names c d f after w1 t found j typed before first same functions =
     let named = with_names typed binding in
     let i = initialised true t (init_of d) named.env in
     let second : Stands found.w2 named =
-    stands_names binding w1 found.w2 typed first
-    (found.named ∙ ap (λ p. record w1 { scopes = with_binding w1.scopes (binds d.name (means.Object p t)) }) found.place_is) in
+    stands_names binding w1 found.w2 typed first found.named in
     let third = found.begins named second in
     let structs : found.w4.structs ≡ j.env.structs =
     ap (λ (x : Walk). x.structs) found.apart ∙ ap (λ e. e.structs) third.stands.env_is ∙ same in

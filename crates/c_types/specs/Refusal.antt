@@ -52,6 +52,10 @@ span_of (refusal.NoMember span) = span
 span_of (refusal.MainForm span) = span
 span_of refusal.NoMemory = record { start = 0; end = 0 }
 
+-- the byte at which that construct starts
+abbrev pub place_of : TypeRefusal → ℕ
+place_of r = (span_of r).start
+
 -- a refusal names the first rule that is broken, and its construct
 pub record Names (program : Program) (r : TypeRefusal) : Type 0 where
   pub number : ℕ

@@ -88,6 +88,13 @@ impl TypeRefusal {
             TypeRefusal::NoMemory => Span { start: 0, end: 0 },
         }
     }
+
+    /// The byte at which that construct starts.
+    pub fn place(&self) -> u32
+        ensures { result ≡ spec.place_of self.now }
+    {
+        self.span().start
+    }
 }
 
 /// The refusal for a broken rule.
