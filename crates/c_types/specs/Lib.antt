@@ -1,5 +1,9 @@
 pub mod Files
+pub mod Tables
 pub mod Redeclarations
+pub mod Recalled
+pub mod Ordered
+pub mod Placed
 pub mod Functions
 pub mod Structs
 pub mod Units
