@@ -6,3 +6,6 @@ pub mod TagLaws
 pub mod InsideLaws
 pub mod ParameterLaws
 pub mod FunctionLaws
+pub mod ObjectLaws
+pub mod FileLaws
+pub mod AnswerLaws

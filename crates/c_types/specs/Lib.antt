@@ -1,9 +1,15 @@
 pub mod Files
+pub mod Tables
 pub mod Redeclarations
+pub mod Recalled
+pub mod Ordered
+pub mod Placed
 pub mod Functions
 pub mod Structs
 pub mod Units
 pub mod WellTyped
+pub mod Refusal
+pub mod Starting
 pub mod Standing
 pub mod Inside
 pub mod Laws

@@ -2,6 +2,15 @@
 #![tactic(auto)]
 
 mod body;
+mod file_walk;
+mod functions;
+mod names;
+mod objects;
+mod ordered;
+mod parts;
+mod program;
+mod redeclared;
+mod refusal;
 mod structs;
 mod types;
 
@@ -10,3 +19,5 @@ pub use c_type_base::{
     TExpr, TFunction, TInit, TItem, TNode, TStmt, Target, Ty, Typed, align_of, member_offset,
     size_of,
 };
+pub use program::check;
+pub use refusal::TypeRefusal;
