@@ -14,13 +14,14 @@ use Rattle.c_type_expr.specs.Walked.{blamed}
 use Rattle.c_type_stmt.specs.Statements.{statement}
 use Rattle.c_types.specs.declared.file_walk.FileWalk.{FileWalk}
 use Rattle.c_types.specs.declared.functions.Body.{Body}
+use Rattle.c_types.specs.declared.redeclared.Redeclared.{Redeclared}
 use Rattle.c_types.specs.Files.{FileNames, function_callee}
 use Rattle.c_types.specs.Functions.{parameters, signature_of, head_rules, result_type}
 use Rattle.c_types.specs.Inside.{outside_of, named_around, Inside, Entered, Headed, env_inside, Bodied}
 use Rattle.c_types.specs.Recalled.{Recalls}
 use Rattle.c_types.specs.Redeclarations.{Declared, may_stand}
 use Rattle.c_types.specs.Standing.{Stands, FileStands, Passed}
-use Rattle.c_types.specs.Units.{Judgement, with_outcome, with_faults, with_names, function_declared, function_of, parameters_in, head_judged, with_function, function_judged, option_list}
+use Rattle.c_types.specs.Units.{Judgement, with_outcome, with_faults, with_names, function_declared, function_of, parameters_in, head_judged, with_function, function_judged}
 use Rattle.c_types.proofs.InsideLaws.{inside_faults, inside_named, inside_declared}
 
 -- ---- the head
@@ -57,6 +58,14 @@ head_inside names f j w1 w2 w3 w4 result params s agrees passed entered made agr
       scopes = named_around w3.scopes (binds f.name (means.Function (function_callee names f.name) x));
     }) same) in
     inside_declared w4 (with_names (with_faults read (broken f.span rules)) (b ∷ [])) (function_declared f all ∷ j.declared) ps binding
+
+pub head_recalls : (names : FileNames) (f : Function) (j : Judgement) (w1 w2 : Walk) (result : Option Ty) (params : Option (List Ty))
+    (s : Option Signature) (this : Declared) (r : Redeclared) → Passed (result_type f) j w1 result →
+    Entered (parameters (is_there f.body) f.params) (with_outcome j (result_type f j.env)) w2 params → s ≡ signature_of result params →
+    this ≡ function_declared f s → Recalls r (this ∷ j.declared) → Recalls r (head_judged names j f).declared
+head_recalls names f j w1 w2 result params s this r passed entered made is recalls =
+    subst (λ (d : Declared). Recalls r (d ∷ j.declared))
+    (is ∙ ap (function_declared f) (signature_same f j w1 w2 result params s passed entered made)) recalls
 
 -- ---- the whole
 

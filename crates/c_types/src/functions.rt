@@ -13,6 +13,7 @@ ghost use Rattle.c_type_expr.specs.Walked.{Walked, env_of, blamed};
 ghost use Rattle.c_types.specs.Files as named;
 ghost use Rattle.c_types.specs.Functions as spec;
 ghost use Rattle.c_types.specs.Inside.{Inside, Entered, Headed, Bodied, named_around, outside_of};
+ghost use Rattle.c_types.specs.Ordered.{option_list};
 ghost use Rattle.c_types.specs.Standing.{Stands, FileStands, Passed};
 ghost use Rattle.c_types.specs.Units as said;
 ghost use Rattle.c_types.specs.Units.{Judgement};
@@ -349,7 +350,7 @@ pub struct Body {
 }
 
 /// The body of a function, whose outermost names share the scope of the parameters.
-fn body(
+fn pass_body(
     walk: &mut Walk,
     alloc: Global,
     returns: Option<Ty>,
@@ -372,7 +373,7 @@ fn body(
 
 /// A function in the typed program, where its result and its body are known. More parameters than a number can tell count as want of memory.
 fn made(alloc: Global, f: &Function, b: Body) -> Result<Option<TFunction>, AllocError>
-    ensures { IfOk result (λ t. said.option_list t ≡ said.function_of f.now b.result b.locals b.tree) }
+    ensures { IfOk result (λ t. option_list t ≡ said.function_of f.now b.result b.locals b.tree) }
 {
     let Body {
         result,
@@ -414,7 +415,7 @@ pub fn function_judged(
         leave(&mut files.walk, alloc);
         return Ok(());
     };
-    let body = body(&mut files.walk, alloc, returns, s)?;
+    let body = pass_body(&mut files.walk, alloc, returns, s)?;
     if let Some(made) = made(alloc, f, body)? {
         files.functions.push(made)?;
     }
