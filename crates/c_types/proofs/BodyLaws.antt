@@ -1,5 +1,6 @@
 -- Members are placed one by one, and the numbers of a struct that is too large stop at the greatest one.
-use Rattle.std.proofs.Common.{◌≡◌, refl, sym, ◌∙◌, ap, subst, ℕ, zero, suc, ◌+◌, ◌*◌, ◌-◌, ◌/◌, ◌%◌, ◌<◌, ◌≤◌, max, List, [], ◌∷◌, ◌++◌, map, length, append-nil, append_assoc, inl, inr, arith, lit≤}
+use Rattle.std.proofs.Common.{◌≡◌, refl, sym, ◌∙◌, ap, subst, ℕ, zero, suc, ◌+◌, ◌*◌, ◌-◌, ◌/◌, ◌%◌, ◌<◌, ◌≤◌, max, List, [], ◌∷◌, ◌++◌}
+use Rattle.std.proofs.Common.{map, length, append-nil, append_assoc, inl, inr, arith, lit≤}
 use Rattle.std.specs.Prelude.{min}
 use Rattle.std.proofs.Math.Nat.{le_trans, div-eq_of_lt-le, mul-zero}
 use Rattle.std.proofs.lemmas.Bool.{cases_lt}
@@ -68,7 +69,8 @@ round_same g p q (suc u) same =
     elim (cases_lt p g) [
       | inl below ↦ ap (λ n. min (round_up n (suc u)) g) (below_same g p q same below)
       | inr above ↦ both_above g (round_up p (suc u)) (round_up q (suc u))
-        (le_trans above (round_up-reaches p (suc u) (one_more u))) (le_trans (above_too g p q same above) (round_up-reaches q (suc u) (one_more u)))
+          (le_trans above (round_up-reaches p (suc u) (one_more u)))
+          (le_trans (above_too g p q same above) (round_up-reaches q (suc u) (one_more u)))
     ]
 
 add_same : (g p q s : ℕ) → min p g ≡ min q g → min (p + s) g ≡ min (q + s) g
@@ -156,11 +158,14 @@ placing_more structs all rest m placed end al offset next before place_is next_i
 -- one more member, as the code places it
 pub placing_turn : (structs : List StructInfo) (all rest more : List Member) (m : Member) (placed placed_now : List MemberInfo)
     (end al offset next unit bytes greater : ℕ) → Placing structs all rest placed end al → rest ≡ m ∷ more → unit ≡ align structs m.ty →
-    offset ≡ capped (round_up end unit) → bytes ≡ capped (size structs m.ty) → next ≡ min (offset + bytes) greatest → greater ≡ max unit al →
+    offset ≡ capped (round_up end unit) → bytes ≡ capped (size structs m.ty) → next ≡ min (offset + bytes) greatest →
+    greater ≡ max unit al →
     placed_now ≡ placed ++ record { name = m.name; ty = m.ty; offset = offset } ∷ [] → Placing structs all more placed_now next greater
-placing_turn structs all rest more m placed placed_now end al offset next unit bytes greater before is unit_is place_is bytes_is next_is greater_is
+placing_turn structs all rest more m placed placed_now end al offset next unit bytes greater before is unit_is place_is bytes_is next_is
+    greater_is
     with_is =
-    let here = placing_more structs all more m placed end al offset next (subst (λ (l : List Member). Placing structs all l placed end al) is before)
+    let here = placing_more structs all more m placed end al offset next
+    (subst (λ (l : List Member). Placing structs all l placed end al) is before)
     (place_is ∙ ap (λ u. capped (round_up end u)) unit_is) (next_is ∙ ap (λ b. min (offset + b) greatest) bytes_is) in
     subst (λ (l : List MemberInfo). Placing structs all more l next greater) (sym with_is)
     (subst (λ (a : ℕ). Placing structs all more (placed ++ record { name = m.name; ty = m.ty; offset = offset } ∷ []) next a)

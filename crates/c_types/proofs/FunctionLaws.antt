@@ -21,12 +21,14 @@ use Rattle.c_types.specs.Inside.{outside_of, named_around, Inside, Entered, Head
 use Rattle.c_types.specs.Recalled.{Recalls}
 use Rattle.c_types.specs.Redeclarations.{Declared, may_stand}
 use Rattle.c_types.specs.Standing.{Stands, FileStands, Passed}
-use Rattle.c_types.specs.Units.{Judgement, with_outcome, with_faults, with_names, function_declared, function_of, parameters_in, head_judged, with_function, function_judged}
+use Rattle.c_types.specs.Units.{Judgement, with_outcome, with_faults, with_names, function_declared, function_of, parameters_in}
+use Rattle.c_types.specs.Units.{head_judged, with_function, function_judged}
 use Rattle.c_types.proofs.InsideLaws.{inside_faults, inside_named, inside_declared}
 
 -- ---- the head
 
-pub signature_same : (f : Function) (j : Judgement) (w1 w2 : Walk) (result : Option Ty) (params : Option (List Ty)) (s : Option Signature) →
+pub signature_same : (f : Function) (j : Judgement) (w1 w2 : Walk) (result : Option Ty) (params : Option (List Ty))
+    (s : Option Signature) →
     Passed (result_type f) j w1 result →
     Entered (parameters (is_there f.body) f.params) (with_outcome j (result_type f j.env)) w2 params → s ≡ signature_of result params →
     s ≡ signature_of (result_type f j.env).known (parameters_in j f).known
@@ -86,8 +88,8 @@ function_declares names f j files result w headed leaves none =
     (sym none) here
 
 -- with one
-pub function_defines : (names : FileNames) (f : Function) (j : Judgement) (files : FileWalk) (result : Option Ty) (w : Walk) (s : Stmt) (b : Body)
-    (fs : List TFunction) → Headed names f j files result →
+pub function_defines : (names : FileNames) (f : Function) (j : Judgement) (files : FileWalk) (result : Option Ty) (w : Walk) (s : Stmt)
+    (b : Body) (fs : List TFunction) → Headed names f j files result →
     Bodied s (head_judged names j f) (parameters_in j f) w b → b.result ≡ result → f.body ≡ Some s →
     fs ≡ files.functions ++ function_of f b.result b.locals b.tree →
     FileStands (record files { walk = w; functions = fs }) (function_judged names j f)
@@ -101,7 +103,8 @@ function_defines names f j files result w s b fs headed bodied same some made =
     bodied.locals_are ∙ ap (λ (x : Option Ty). ps.locals ++ ((statement s).body (env_inside h ps x)).locals) is in
     let tree : b.tree ≡ o.known = bodied.tree_is ∙ ap (λ (x : Option Ty). ((statement s).body (env_inside h ps x)).known) is in
     let standing : Stands w (with_outcome h (record o { names = [] })) =
-    subst (λ (x : Option Ty). Stands w (with_outcome h (record ((statement s).body (env_inside h ps x)) { names = [] }))) is bodied.stands in
+    subst (λ (x : Option Ty). Stands w (with_outcome h (record ((statement s).body (env_inside h ps x)) { names = [] })))
+    is bodied.stands in
     let here : FileStands (record files { walk = w; functions = fs }) (with_function h f r ps (Some s)) =
     record {
       walk_stands = record {

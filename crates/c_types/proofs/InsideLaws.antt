@@ -105,7 +105,8 @@ bodied s w w1 w2 w3 b gives walked taken leaves j o inside =
     let q = p (env_inside j o b.result) in
     let after : w2 ≡ passed_by (record w { result = b.result }) q = walked.after_is ∙ (λ i. passed_by (gives i) (p (at i))) in
     record {
-      stands = stands_passed (record q { names = [] }) (outside_of w) (passed_by (outside_of w) (record q { names = [] })) w3 j inside.outside refl
+      stands = stands_passed (record q { names = [] }) (outside_of w) (passed_by (outside_of w) (record q { names = [] })) w3 j
+          inside.outside refl
           (leaves ∙ ap (λ (x : Walk). record x { scopes = closed_names x.scopes; locals = []; result = w.result }) after);
       locals_are = taken ∙ ap (λ (x : Walk). x.locals) after ∙ ap (λ l. l ++ q.locals) inside.locals_are;
       tree_is = walked.known_is ∙ ap (λ e. (p e).known) at;

@@ -1,5 +1,6 @@
 -- The members of a body are walked one by one.
-use Rattle.std.proofs.Common.{◌≡◌, refl, sym, ◌∙◌, ap, subst, ℕ, ◌+◌, ◌<◌, Bool, true, false, ◌||◌, List, [], ◌∷◌, ◌++◌, take, get_or, length, Option, Some, None, append-nil, append_assoc}
+use Rattle.std.proofs.Common.{◌≡◌, refl, sym, ◌∙◌, ap, subst, ℕ, ◌+◌, ◌<◌, Bool, true, false, ◌||◌, List, [], ◌∷◌, ◌++◌, take, get_or}
+use Rattle.std.proofs.Common.{length, Option, Some, None, append-nil, append_assoc}
 use Rattle.std.specs.List.{list_any}
 use Rattle.std.specs.Str.{bytes_eq}
 use Rattle.std.proofs.lemmas.List.{take_more}
@@ -76,8 +77,8 @@ members_more seen [] d w w1 w2 k t first second =
     let here = from p w1 w w2 t (after_sure {A = List Member} w w1 [] first.after_is) second in
     let last = walked_sure {A = List Member} w2 [] in
     record {
-      after_is = after_two w w2 w2 (p (env_of w)) (sure {A = List Member} []) (with_member (found_member d.name (p (env_of w)).known) (Some []))
-          here.after_is last.after_is;
+      after_is = after_two w w2 w2 (p (env_of w)) (sure {A = List Member} [])
+          (with_member (found_member d.name (p (env_of w)).known) (Some [])) here.after_is last.after_is;
       known_is = ap (λ (k : Option (List Member)). more k (found_member d.name t)) first.known_is
           ∙ ap (λ (l : List Member). Some l) (sym (append-nil (found_member d.name t)))
           ∙ ap (λ (t : Option Ty). with_member (found_member d.name t) (Some [])) here.known_is;

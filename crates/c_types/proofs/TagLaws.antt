@@ -1,5 +1,6 @@
 -- Where the walk stands behind a tag, and behind the body of one.
-use Rattle.std.proofs.Common.{◌≡◌, refl, sym, ◌∙◌, ap, subst, ℕ, suc, ◌+◌, ◌<◌, ◌≤◌, Bool, true, false, cond, List, [], ◌∷◌, ◌++◌, map, length, slice_get, slice_set, Option, Some, None, arith}
+use Rattle.std.proofs.Common.{◌≡◌, refl, sym, ◌∙◌, ap, subst, ℕ, suc, ◌+◌, ◌<◌, ◌≤◌, Bool, true, false, cond, List, [], ◌∷◌, ◌++◌, map}
+use Rattle.std.proofs.Common.{length, slice_get, slice_set, Option, Some, None, arith}
 use Rattle.std.specs.Prelude.{leb, min}
 use Rattle.std.specs.List.{position_from}
 use Rattle.std.specs.Str.{bytes_eq}
@@ -26,7 +27,8 @@ structs_at w j stands = ap (λ (e : Env). e.structs) stands.env_is
 
 -- ---- tags
 
-behind_one : (b : Bool) (n k : ℕ) (o p : Option ℕ) → cond b (Some n) o ≡ None → (o ≡ None → p ≡ Some k) → cond b (Some n) p ≡ Some k
+behind_one : (b : Bool) (n k : ℕ) (o p : Option ℕ) → cond b (Some n) o ≡ None → (o ≡ None → p ≡ Some k) →
+    cond b (Some n) p ≡ Some k
 behind_one true n k o p is next = absurd (cc)
 behind_one false n k o p is next = next is
 
@@ -37,7 +39,8 @@ found_last test from [] x none is =
     ap (λ b. cond b (Some from) None) is ∙ ap (λ (n : ℕ). Some n) same
 found_last test from (y ∷ ys) x none is =
     let same : from + 1 + length ys ≡ from + length (y ∷ ys) = omega arith in
-    behind_one (test y) from (from + length (y ∷ ys)) (position_from test (from + 1) ys) (position_from test (from + 1) (ys ++ x ∷ [])) none
+    behind_one (test y) from (from + length (y ∷ ys)) (position_from test (from + 1) ys)
+    (position_from test (from + 1) (ys ++ x ∷ [])) none
     (λ o. found_last test (from + 1) ys x o is ∙ ap (λ (n : ℕ). Some n) same)
 
 -- a tag that was not declared has the next number
@@ -82,7 +85,8 @@ pub tag_new : (w w1 : Walk) (j : Judgement) (tag : List ℕ) → Stands w j → 
 tag_new w w1 j tag stands none is =
     let same = structs_at w j stands in
     subst (λ (o : Option ℕ). Stands w1 (with_tag j tag o)) (sym none ∙ ap (λ s. tag_number s tag) same)
-    (stands_structs (j.env.structs ++ tag_alone tag ∷ []) w w1 j stands (is ∙ ap (λ s. record w { structs = s ++ tag_alone tag ∷ [] }) same))
+    (stands_structs (j.env.structs ++ tag_alone tag ∷ []) w w1 j stands
+    (is ∙ ap (λ s. record w { structs = s ++ tag_alone tag ∷ [] }) same))
 
 -- ---- bodies
 
@@ -116,5 +120,6 @@ body_stands d number ds ms info new small w w1 w2 w3 w4 walked leaves info_is ne
     stands_faults faults w2 w3 (with_outcome j o) read
     (asked ∙ (λ i. blamed w2 (broken d.span (rule 10 (fresh i) ∷ rule 17 (fits i) ∷ [])))) in
     let still : w3.structs ≡ j.env.structs = structs_at w3 (with_faults (with_outcome j o) faults) blames in
-    stands_structs (slice_set j.env.structs number (struct_with j.env.structs d.name found)) w3 w4 (with_faults (with_outcome j o) faults) blames
+    stands_structs (slice_set j.env.structs number (struct_with j.env.structs d.name found)) w3 w4
+    (with_faults (with_outcome j o) faults) blames
     (changed ∙ (λ i. record w3 { structs = slice_set (still i) number (made i) }))

@@ -1,11 +1,15 @@
 -- The walk over a function, from its parameters to the end of its body: it stands in a scope of its own.
-use Rattle.std.specs.Prelude.{◌≡◌, List, [], ◌∷◌, ◌++◌, length, Option}
+use Rattle.std.specs.Prelude.{◌≡◌, Bool, List, [], ◌∷◌, ◌++◌, length, Option}
 use Rattle.c_ast.specs.declared.program.Function.{Function}
 use Rattle.c_ast.specs.declared.statement.Stmt.{Stmt}
 use Rattle.c_type_base.specs.declared.ty.Ty.{Ty}
+use Rattle.c_type_base.specs.declared.typed.StructInfo.{StructInfo}
+use Rattle.c_type_base.specs.Sizes.{is_complete}
+use Rattle.c_type_base.specs.Types.{is_scalar}
 use Rattle.c_type_expr.specs.declared.walk.Walk.{Walk}
 use Rattle.c_type_expr.specs.declared.scopes.Binding.{Binding}
 use Rattle.c_type_expr.specs.Environment.{Env, with_innermost}
+use Rattle.c_type_expr.specs.Faults.{Rule, rule}
 use Rattle.c_type_expr.specs.Names.{Names}
 use Rattle.c_type_expr.specs.Outcomes.{Outcome, Judged}
 use Rattle.c_type_expr.specs.Scoping.{closed_names}
@@ -17,6 +21,10 @@ use Rattle.c_types.specs.Functions.{result_type}
 use Rattle.c_types.specs.Recalled.{Recalls}
 use Rattle.c_types.specs.Standing.{Stands}
 use Rattle.c_types.specs.Units.{Judgement, with_outcome, parameters_in, head_judged}
+
+-- the rules on a parameter of a type, as the code asks them: whether its name is new, and whether its bytes are few enough
+abbrev pub rules_on : List StructInfo → Bool → Ty → Bool → List Rule
+rules_on structs new t small = rule 10 new ∷ rule 12 (is_scalar t) ∷ rule 15 (is_complete structs t) ∷ rule 17 small ∷ []
 
 -- without the innermost scope and the locals
 abbrev pub outside_of : Walk → Walk

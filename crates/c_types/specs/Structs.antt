@@ -13,7 +13,6 @@ use Rattle.c_type_expr.specs.Outcomes.{Judged, sure, on, behind, joined}
 use Rattle.c_type_expr.specs.Said.{whole}
 use Rattle.c_type_expr.specs.Expressions.{written}
 use Rattle.c_type_stmt.specs.Declarations.{no, object_rules}
-
 pub use Rattle.c_types.specs.declared.body.Member.{Member}
 
 abbrev pub ty_in : Member → Ty

@@ -1,18 +1,17 @@
 //! Functions: parameters, heads and bodies (C11 6.7.6.3, 6.9.1, 5.1.2.2.1).
 
 ghost use Rattle.std.specs.Prelude.{◌≡◌, ◌∷◌, List, [], None, Some, if◌then◌else◌, IfOk, OnOk, map, option_copied};
-ghost use Rattle.c_type_base.specs.Sizes.{is_complete};
-ghost use Rattle.c_type_base.specs.Types.{is_scalar, is_there};
+ghost use Rattle.c_type_base.specs.Types.{is_there};
 ghost use Rattle.c_type_base.specs.declared.ty.Ty.{Ty, out-Ty};
 ghost use Rattle.c_type_expr.specs.declared.scopes.Meaning.TheVariants as means;
 ghost use Rattle.c_type_expr.specs.Environment.{binds};
-ghost use Rattle.c_type_expr.specs.Faults.{rule, broken, all_kept};
+ghost use Rattle.c_type_expr.specs.Faults.{broken, all_kept};
 ghost use Rattle.c_type_expr.specs.Outcomes.{Outcome, each};
 ghost use Rattle.c_type_expr.specs.Sorted.{with_known};
 ghost use Rattle.c_type_expr.specs.Walked.{Walked, env_of, blamed};
 ghost use Rattle.c_types.specs.Files as named;
 ghost use Rattle.c_types.specs.Functions as spec;
-ghost use Rattle.c_types.specs.Inside.{Inside, Entered, Headed, Bodied, named_around, outside_of};
+ghost use Rattle.c_types.specs.Inside.{Inside, Entered, Headed, Bodied, named_around, outside_of, rules_on};
 ghost use Rattle.c_types.specs.Ordered.{option_list};
 ghost use Rattle.c_types.specs.Standing.{Stands, FileStands, Passed};
 ghost use Rattle.c_types.specs.Units as said;
@@ -92,8 +91,8 @@ fn is_new_parameter(walk: &Walk, defines: bool, name: &[u8]) -> bool
 /// Asks the rules on a parameter of a type. Whether all are kept.
 #[tactic(auto, using(crate::proofs::ParameterLaws::blamed_then))]
 fn ask_parameter(walk: &mut Walk, span: Span, new: bool, t: &Ty, small: bool) -> bool
-    ensures kept { result ≡ all_kept (rule 10 new ∷ rule 12 (is_scalar t.now) ∷ rule 15 (is_complete walk.old.structs t.now) ∷ rule 17 small ∷ []) }
-    ensures blames { walk.new ≡ blamed walk.old (broken span (rule 10 new ∷ rule 12 (is_scalar t.now) ∷ rule 15 (is_complete walk.old.structs t.now) ∷ rule 17 small ∷ [])) }
+    ensures kept { result ≡ all_kept (rules_on walk.old.structs new t.now small) }
+    ensures blames { walk.new ≡ blamed walk.old (broken span (rules_on walk.old.structs new t.now small)) }
 {
     let scalar = is_scalar(t);
     let complete = is_complete(t, walk.structs.as_slice());
@@ -152,10 +151,7 @@ fn parameter(
 }
 
 /// One more type, if all so far are known.
-fn with_type(
-    types: Option<Items<Ty>>,
-    known: Option<Ty>,
-) -> Result<Option<Items<Ty>>, AllocError>
+fn with_type(types: Option<Items<Ty>>, known: Option<Ty>) -> Result<Option<Items<Ty>>, AllocError>
     ensures { IfOk result (λ more. more ≡ with_known types known) }
 {
     let Some(mut types) = types else {
@@ -283,10 +279,7 @@ fn declared(
     })
 }
 
-fn copy_known(
-    alloc: Global,
-    signature: Option<&Signature>,
-) -> Result<Option<Signature>, AllocError>
+fn copy_known(alloc: Global, signature: Option<&Signature>) -> Result<Option<Signature>, AllocError>
     ensures { IfOk result (λ s. s ≡ option_copied signature.entry) }
 {
     match signature {
@@ -371,7 +364,8 @@ fn pass_body(
     })
 }
 
-/// A function in the typed program, where its result and its body are known. More parameters than a number can tell count as want of memory.
+/// A function in the typed program, where its result and its body are known. More parameters than a number can tell
+/// count as want of memory.
 fn made(alloc: Global, f: &Function, b: Body) -> Result<Option<TFunction>, AllocError>
     ensures { IfOk result (λ t. option_list t ≡ said.function_of f.now b.result b.locals b.tree) }
 {

@@ -107,7 +107,8 @@ places-within structs laid from (t ∷ ts) below =
     let place = round_up from (align structs t) in
     let next = place + size structs t in
     let here : capped place ≡ place =
-    within greatest place (front-within place (size structs t) (end_of structs next ts) greatest (end_of-reaches structs laid next ts) below) in
+    within greatest place
+    (front-within place (size structs t) (end_of structs next ts) greatest (end_of-reaches structs laid next ts) below) in
     λ i. here i ∷ places-within structs laid next ts below i
 
 body-ready : (structs : List StructInfo) (tag : List ℕ) (ms : List Member) → LaidOut structs → AllComplete structs (map ty_in ms) →
