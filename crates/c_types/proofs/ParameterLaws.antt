@@ -22,6 +22,7 @@ use Rattle.c_type_expr.specs.Laws.WalkedLaws.{first_with-append}
 use Rattle.c_type_stmt.specs.Declarations.{local_info}
 use Rattle.c_type_stmt.specs.Laws.LocalLaws.{local_declared}
 use Rattle.c_type_stmt.specs.Laws.PartLaws.{walked_given}
+use Rattle.c_types.specs.Inside.{rules_on}
 use Rattle.c_types.specs.Functions.{adjusted, counted, parameter_rules, adjusted_in, is_new_parameter, declares_parameter, parameter}
 
 -- ---- rules in two lists
@@ -44,47 +45,31 @@ blamed_then w w1 w2 span rs ss first second =
     ∙ (λ i. record w { first = sym (first_with-append w.first (broken span rs) (broken span ss)) i })
     ∙ ap (blamed w) (sym (broken-append span rs ss))
 
+pub asked_four : (w w1 w2 : Walk) (span : Span) (new scalar complete small : Bool) (t : Ty) →
+    w1 ≡ blamed w (broken span (rule 10 new ∷ rule 12 scalar ∷ [])) → w2 ≡ blamed w1 (broken span (rule 15 complete ∷ rule 17 small ∷ [])) →
+    scalar ≡ is_scalar t → complete ≡ is_complete w.structs t → w2 ≡ blamed w (broken span (rules_on w.structs new t small))
+asked_four w w1 w2 span new scalar complete small t first second plain whole =
+    blamed_then w w1 w2 span (rule 10 new ∷ rule 12 scalar ∷ []) (rule 15 complete ∷ rule 17 small ∷ []) first second
+    ∙ (λ i. blamed w (broken span (rule 10 new ∷ rule 12 (plain i) ∷ rule 15 (whole i) ∷ rule 17 small ∷ [])))
+
 -- ---- a parameter
 
 abbrev rules_of : Bool → Decl → Option Written → Env → List Rule
 rules_of defines d t env = rule 10 (is_new_parameter defines env d.name) ∷ parameter_rules env.structs t
 
-no_type : (b : Bool) → (if b then None {A = Ty} else None) ≡ None
-no_type true = refl
-no_type false = refl
-
-one_kept : (b : Bool) → b ≡ all_kept (rule 10 b ∷ [])
-one_kept true = refl
-one_kept false = refl
-
--- where its type is not known
-pub parameter_unknown : (defines : Bool) (d : Decl) (t : Option Written) (number : ℕ) (new : Bool) (w w1 w2 : Walk) → t ≡ None →
-    number ≡ length w.locals → new ≡ is_new_parameter defines (env_of w) d.name → w1 ≡ blamed w (broken d.span (rule 10 new ∷ [])) →
-    w2 ≡ record w1 {
-      scopes = with_binding w1.scopes (binds d.name (means.Object (place.Local number) None));
-      locals = w1.locals ++ local_info d.name d.span None;
-    } →
-    Walked (declares_parameter defines d t) w w2 None
-parameter_unknown defines d t number new w w1 w2 none count fresh asked bound =
-    let rules : (rule 10 new ∷ []) ≡ rules_of defines d None (env_of w) = λ i. rule 10 (fresh i) ∷ [] in
-    subst (λ (x : Option Written). Walked (declares_parameter defines d x) w w2 None) (sym none)
-    (as_known (declares_parameter defines d None) w w2 (if new then None {A = Ty} else None) None (no_type new)
-    (local_declared d.name d.span (rules_of defines d None) None number new w w1 w2 count (one_kept new ∙ ap all_kept rules)
-    (asked ∙ ap (λ rs. blamed w (broken d.span rs)) rules) bound))
-
--- and where it is
+-- where its type is known
 pub parameter_known : (defines : Bool) (d : Decl) (t : Written) (made : Ty) (number : ℕ) (new small kept : Bool) (w w1 w2 : Walk)
     (known : Option Ty) → made ≡ adjusted t → number ≡ length w.locals → new ≡ is_new_parameter defines (env_of w) d.name →
     small ≡ leb (size w.structs (counted t)) largest →
-    kept ≡ all_kept (rule 10 new ∷ rule 12 (is_scalar made) ∷ rule 15 (is_complete w.structs made) ∷ rule 17 small ∷ []) →
-    w1 ≡ blamed w (broken d.span (rule 10 new ∷ rule 12 (is_scalar made) ∷ rule 15 (is_complete w.structs made) ∷ rule 17 small ∷ [])) →
+    kept ≡ all_kept (rules_on w.structs new made small) →
+    w1 ≡ blamed w (broken d.span (rules_on w.structs new made small)) →
     w2 ≡ record w1 {
       scopes = with_binding w1.scopes (binds d.name (means.Object (place.Local number) (Some made)));
       locals = w1.locals ++ local_info d.name d.span (Some made);
     } →
     known ≡ (if kept then Some made else None) → Walked (declares_parameter defines d (Some t)) w w2 known
 parameter_known defines d t made number new small kept w w1 w2 known made_is count fresh fits kept_is asked bound known_is =
-    let rules : (rule 10 new ∷ rule 12 (is_scalar made) ∷ rule 15 (is_complete w.structs made) ∷ rule 17 small ∷ []) ≡
+    let rules : rules_on w.structs new made small ≡
     rules_of defines d (Some t) (env_of w) =
     λ i. rule 10 (fresh i) ∷ rule 12 (is_scalar (made_is i)) ∷ rule 15 (is_complete w.structs (made_is i)) ∷ rule 17 (fits i) ∷ [] in
     as_known (declares_parameter defines d (Some t)) w w2 (if kept then Some (adjusted t) else None) known

@@ -181,13 +181,20 @@ fn parameters(
     Ok(types)
 }
 
+/// Whether a function has a body.
+fn defines(f: &Function) -> bool
+    ensures { result ≡ is_there f.now.body }
+{
+    f.body.is_some()
+}
+
 /// The parameters, in a scope that opens here.
 fn enter(walk: &mut Walk, alloc: Global, f: &Function) -> Result<Option<Items<Ty>>, AllocError>
     ensures { IfOk result (λ ts. (j : Judgement) → Stands walk.old j →
         Entered (spec.parameters (is_there f.now.body) f.now.params) j walk.new ts) }
 {
     walk.scopes.open(alloc)?;
-    parameters(walk, alloc, f.body.is_some(), f.params.as_slice())
+    parameters(walk, alloc, defines(f), f.params.as_slice())
 }
 
 /// The type of a function's result.
@@ -275,7 +282,7 @@ fn declared(
         name,
         kind: Kind::AFunction(signature),
         local: is_static(f.storage),
-        defined: f.body.is_some(),
+        defined: defines(f),
     })
 }
 
