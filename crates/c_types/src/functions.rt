@@ -1,6 +1,6 @@
 //! Functions: parameters, heads and bodies (C11 6.7.6.3, 6.9.1, 5.1.2.2.1).
 
-ghost use Rattle.std.specs.Prelude.{◌≡◌, ◌∷◌, List, [], None, Some, if◌then◌else◌, IfOk, OnOk, map, option_copied};
+ghost use Rattle.std.specs.Prelude.{◌≡◌, ◌∷◌, ◌++◌, List, [], None, Some, if◌then◌else◌, IfOk, OnOk, map, option_copied};
 ghost use Rattle.c_type_base.specs.Types.{is_there};
 ghost use Rattle.c_type_base.specs.declared.ty.Ty.{Ty, out-Ty};
 ghost use Rattle.c_type_expr.specs.declared.scopes.Meaning.TheVariants as means;
@@ -402,6 +402,19 @@ fn made(alloc: Global, f: &Function, b: Body) -> Result<Option<TFunction>, Alloc
     }))
 }
 
+/// One more function at the end, where it is made.
+fn with_made(
+    functions: &mut Items<TFunction>,
+    made: Option<TFunction>,
+) -> Result<(), AllocError>
+    ensures { OnOk result (functions.new ≡ functions.old ++ option_list made) }
+{
+    match made {
+        None => Ok(()),
+        Some(made) => functions.push(made),
+    }
+}
+
 /// A function: its head, and then its body. The error is want of memory.
 pub fn function_judged(
     files: &mut FileWalk,
@@ -417,8 +430,7 @@ pub fn function_judged(
         return Ok(());
     };
     let body = pass_body(&mut files.walk, alloc, returns, s)?;
-    if let Some(made) = made(alloc, f, body)? {
-        files.functions.push(made)?;
-    }
+    let made = made(alloc, f, body)?;
+    with_made(&mut files.functions, made)?;
     Ok(())
 }
