@@ -11,4 +11,5 @@ pub mod WellTyped
 pub mod Refusal
 pub mod Starting
 pub mod Standing
+pub mod Inside
 pub mod Laws

@@ -12,6 +12,7 @@ mod program;
 mod redeclared;
 mod refusal;
 mod structs;
+mod types;
 
 pub use c_type_base::{
     Callee, ExternInfo, GlobalInfo, InitPiece, InitValue, LocalInfo, MemberInfo, StructInfo, TDecl,
