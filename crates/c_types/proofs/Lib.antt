@@ -9,3 +9,7 @@ pub mod FunctionLaws
 pub mod ObjectLaws
 pub mod FileLaws
 pub mod AnswerLaws
+pub mod NameLaws
+pub mod SameLaws
+pub mod RecallLaws
+pub mod OrderLaws

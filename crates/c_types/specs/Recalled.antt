@@ -47,8 +47,7 @@ with_kind e (AFunction (Some s)) =
 -- with one declaration more
 abbrev pub grown : Earlier → Kind → Bool → Bool → Earlier
 grown e kind local defined =
-    let k = with_kind e kind in
-    record k { local = k.local || local; shared = k.shared || no local; defined = k.defined || defined }
+    record (with_kind e kind) { local = e.local || local; shared = e.shared || no local; defined = e.defined || defined }
 
 abbrev pub with_declared : Earlier → Declared → Earlier
 with_declared e d = grown e d.kind d.local d.defined

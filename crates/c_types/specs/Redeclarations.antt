@@ -1,6 +1,6 @@
 -- What may be declared again at file scope (ISO C11 6.2.7, 6.7 paragraph 4, 6.9 paragraph 5; that all or none are `static` is this
 -- project's own).
-use Rattle.std.specs.Prelude.{ℕ, Bool, true, false, ◌&&◌, List, [], ◌∷◌, Option, Some, if◌then◌else◌}
+use Rattle.std.specs.Prelude.{ℕ, Bool, true, false, ◌&&◌, List, [], ◌∷◌, Some, if◌then◌else◌}
 use Rattle.std.specs.List.{list_all}
 use Rattle.std.specs.Str.{bytes_eq}
 use Rattle.c_ast.specs.declared.int_type.IntType.TheVariants as int

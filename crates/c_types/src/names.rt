@@ -1,6 +1,6 @@
 //! The names that a file declares, and their numbers (C11 6.2.2, 6.9).
 
-ghost use Rattle.std.specs.Prelude.{◌≡◌, [], ◌++◌, ◌&&◌, List, ℕ, length, map, flat_map, IfOk, OnOk};
+ghost use Rattle.std.specs.Prelude.{◌≡◌, [], ◌++◌, ◌&&◌, List, ℕ, length, map, flat_map, if◌then◌else◌, IfOk, OnOk};
 ghost use Rattle.std.specs.List.{filter, list_any};
 ghost use Rattle.std.specs.Str.{bytes_eq};
 ghost use Rattle.c_type_stmt.specs.Declarations.{no};
@@ -79,6 +79,13 @@ impl NameTable {
         self.names.insert(name)?;
         Ok(())
     }
+
+    /// Adds it where a test held.
+    fn add_where(&mut self, alloc: Global, holds: bool, name: &[u8]) -> Result<(), AllocError>
+        ensures { OnOk result (self.new ≡ (if holds then with_name self.old name.now else self.old)) }
+    {
+        if holds { self.add(alloc, name) } else { Ok(()) }
+    }
 }
 
 /// A declaration at file scope: of a function or of an object, and whether it defines it.
@@ -138,11 +145,7 @@ fn mention_objects(
     Ok(())
 }
 
-fn mention_part(
-    alloc: Global,
-    into: &mut Items<Mention>,
-    part: &External,
-) -> Result<(), AllocError>
+fn mention_part(alloc: Global, into: &mut Items<Mention>, part: &External) -> Result<(), AllocError>
     ensures { OnOk result (into.new ≡ into.old ++ mentions part.now) }
 {
     match part {
@@ -173,15 +176,26 @@ fn mentioned(alloc: Global, parts: &[External]) -> Result<Items<Mention>, AllocE
     Ok(made)
 }
 
+/// Whether it defines a function, or else an object.
+fn defines_as(mention: &Mention, function: bool) -> bool
+    ensures { result ≡ (mention.now.defines && (if mention.now.function then function else no function)) }
+{
+    let fits = if mention.function {
+        function
+    } else {
+        !function
+    };
+    mention.defines && fits
+}
+
 /// The names that are defined as functions, or else as objects.
 fn defined(alloc: Global, mentions: &[Mention], function: bool) -> Result<NameTable, AllocError>
     ensures { IfOk result (λ names. (name : List ℕ) → list_any (bytes_eq name) names ≡ defined_as function mentions.now name) }
 {
     let mut names = NameTable::new(alloc);
     for mention in mentions {
-        if mention.defines && mention.function == function {
-            names.add(alloc, mention.name.as_slice())?;
-        }
+        let defines = defines_as(mention, function);
+        names.add_where(alloc, defines, mention.name.as_slice())?;
     }
     Ok(names)
 }
@@ -192,10 +206,8 @@ fn among(alloc: Global, mentions: &[Mention], chosen: &NameTable) -> Result<Name
 {
     let mut names = NameTable::new(alloc);
     for mention in mentions {
-        let name = mention.name.as_slice();
-        if chosen.has(name) {
-            names.add(alloc, name)?;
-        }
+        let there = chosen.has(mention.name.as_slice());
+        names.add_where(alloc, there, mention.name.as_slice())?;
     }
     Ok(names)
 }
@@ -208,12 +220,7 @@ fn is_library(name: &[u8]) -> bool
 }
 
 /// Whether a name, which is not defined here, is one of another file.
-fn is_elsewhere(
-    objects: &NameTable,
-    functions: &NameTable,
-    includes: bool,
-    name: &[u8],
-) -> bool
+fn is_elsewhere(objects: &NameTable, functions: &NameTable, includes: bool, name: &[u8]) -> bool
     ensures { result ≡ is_elsewhere objects.now functions.now includes name.now }
 {
     !objects.has(name) && !functions.has(name) && !(includes && is_library(name))
@@ -232,10 +239,8 @@ fn elsewhere(
 {
     let mut names = NameTable::new(alloc);
     for mention in mentions {
-        let name = mention.name.as_slice();
-        if is_elsewhere(objects, functions, includes, name) {
-            names.add(alloc, name)?;
-        }
+        let away = is_elsewhere(objects, functions, includes, mention.name.as_slice());
+        names.add_where(alloc, away, mention.name.as_slice())?;
     }
     Ok(names)
 }
@@ -257,16 +262,21 @@ fn names_by(alloc: Global, mentions: &[Mention], includes: bool) -> Result<FileN
     })
 }
 
+/// Whether it is the include line.
+fn is_include(part: &External) -> bool
+    ensures { result ≡ spec.is_include part.now }
+{
+    match part {
+        External::Include => true,
+        _ => false,
+    }
+}
+
 /// Whether a file has the include line.
 fn has_include(parts: &[External]) -> bool
     ensures { result ≡ list_any spec.is_include parts.now }
 {
-    for part in parts {
-        if let External::Include = part {
-            return true;
-        }
-    }
-    false
+    parts.iter().any(|part| is_include(part))
 }
 
 /// The names that a file declares.

@@ -1,10 +1,10 @@
 //! What a file defines, in the order in which its names are first declared.
 
-ghost use Rattle.std.specs.Prelude.{◌≡◌, List, ℕ, None, flat_map, IfOk};
+ghost use Rattle.std.specs.Prelude.{◌≡◌, ◌++◌, List, ℕ, None, length, flat_map, IfOk, OnOk};
 ghost use Rattle.std.proofs.Common.{replicate};
 ghost use Rattle.c_types.specs.Ordered as spec;
 ghost use Rattle.c_types.specs.Ordered.{by_names, option_list};
-ghost use Rattle.c_types.specs.Placed.{placed};
+ghost use Rattle.c_types.specs.Placed.{put, placed};
 ghost use Rattle.c_types.specs.Recalled.{Recalls, recalled, told_of};
 ghost use Rattle.c_types.specs.declared.redeclared.Declared.{Declared};
 
@@ -49,23 +49,39 @@ fn blank<T: Drop>(alloc: Global, count: usize) -> Result<Vec<Option<T>>, AllocEr
     Ok(made)
 }
 
-/// Each at the number of its name, of those with one name the first; what has another name is left out.
-fn at_numbers<T: Named + Drop>(
-    alloc: Global,
-    names: &NameTable,
-    mut gathered: Items<T>,
-) -> Result<Vec<Option<T>>, AllocError>
-    ensures { IfOk result (λ places. places.items ≡ placed T.name_of names.now gathered) }
+/// Puts it at a number, in the place of what stands there.
+fn put<T: Drop>(places: &mut Vec<Option<T>>, number: Option<usize>, item: T)
+    ensures { places.new.items ≡ put places.old.items number item }
 {
-    let mut places = blank(alloc, names.len())?;
-    while let Some(item) = gathered.pop() {
-        if let Some(number) = names.number(item.name()) {
-            if number < places.len() {
-                places[number] = Some(item);
-            }
+    if let Some(number) = number {
+        if number < places.len() {
+            places[number] = Some(item);
         }
     }
-    Ok(places)
+}
+
+/// Puts each at the number of its name, of those with one name the first; what has another name is left out.
+fn at_numbers<T: Named + Drop>(
+    names: &NameTable,
+    mut places: Vec<Option<T>>,
+    mut gathered: Items<T>,
+) -> Vec<Option<T>>
+    ensures { result.items ≡ placed T.name_of names.now places.items gathered }
+{
+    while let Some(item) = gathered.pop() {
+        let number = names.number(item.name());
+        put(&mut places, number, item);
+    }
+    places
+}
+
+fn push_there<T: Drop>(made: &mut Items<T>, item: Option<T>) -> Result<(), AllocError>
+    ensures { OnOk result (made.new ≡ made.old ++ option_list item) }
+{
+    match item {
+        Some(item) => made.push(item),
+        None => Ok(()),
+    }
 }
 
 /// Those that are there, in order.
@@ -74,9 +90,7 @@ fn all_there<T: Drop>(alloc: Global, places: Vec<Option<T>>) -> Result<Items<T>,
 {
     let mut made = Items::new(alloc);
     for place in places {
-        if let Some(item) = place {
-            made.push(item)?;
-        }
+        push_there(&mut made, place)?;
     }
     Ok(made)
 }
@@ -89,8 +103,8 @@ fn ordered<T: Named + Drop>(
 ) -> Result<Items<T>, AllocError>
     ensures { IfOk result (λ made. made ≡ by_names T.name_of names.now gathered) }
 {
-    let places = at_numbers(alloc, names, gathered)?;
-    all_there(alloc, places)
+    let places = blank(alloc, names.len())?;
+    all_there(alloc, at_numbers(names, places, gathered))
 }
 
 /// The objects that a file defines, by the order of their names.
@@ -124,10 +138,10 @@ fn told(
     ensures { IfOk result (λ made. made ≡ flat_map (λ n. option_list (told_of n (recalled declared.now n))) names.now) }
 {
     let mut made = Items::new(alloc);
-    for name in names.as_slice() {
-        if let Some(told) = declared.told(alloc, name.as_slice())? {
-            made.push(told)?;
-        }
+    let list = names.as_slice();
+    for name in list {
+        let told = declared.told(alloc, name.as_slice())?;
+        push_there(&mut made, told)?;
     }
     Ok(made)
 }

@@ -1,6 +1,6 @@
 //! What a file declares so far, by name, and what may be declared again (C11 6.2.7, 6.7 paragraph 4, 6.9 paragraph 5).
 
-ghost use Rattle.std.specs.Prelude.{◌≡◌, [], ◌∷◌, List, None, Some, IfOk, OnOk, option_copied};
+ghost use Rattle.std.specs.Prelude.{◌≡◌, [], ◌∷◌, ◌&&◌, List, None, Some, IfOk, OnOk, option_copied};
 ghost use Rattle.c_type_base.specs.declared.ty.Ty.TheVariants as ty;
 ghost use Rattle.c_type_base.specs.declared.typed.ExternInfo.{ExternInfo};
 ghost use Rattle.c_types.specs.Recalled as recall;
@@ -93,16 +93,17 @@ impl Redeclared {
         } = d;
         let key = Vec::from_slice(alloc, name.as_slice())?;
         let earlier = or_nothing(self.by_name.remove(&key));
-        self.by_name.insert(key, grown(earlier, kind, local, defined))?;
+        self.by_name
+            .insert(key, grown(earlier, kind, local, defined))?;
         Ok(())
     }
 
-    /// Whether it agrees with the declarations of its name so far.
-    fn agrees(&self, d: &Declared) -> bool
-        ensures { result ≡ fits (recalled self.now d.now.name) d.now }
+    /// Whether a declaration agrees with those of a name so far.
+    fn agrees_under(&self, name: &[u8], d: &Declared) -> bool
+        ensures { result ≡ fits (recalled self.now name.now) d.now }
     {
-        match self.by_name.get(d.name.as_slice()) {
-            None => true,
+        match self.by_name.get(name) {
+            None => may_follow(&nothing(), d),
             Some(earlier) => may_follow(earlier, d),
         }
     }
@@ -148,12 +149,14 @@ fn or_nothing(earlier: Option<Earlier>) -> Earlier
 fn grown(earlier: Earlier, kind: Kind, local: bool, defined: bool) -> Earlier
     ensures { result ≡ recall.grown earlier kind local defined }
 {
-    let told = of_kind(earlier, kind);
+    let local_too = earlier.local || local;
+    let shared = earlier.shared || !local;
+    let defined = earlier.defined || defined;
     Earlier {
-        local: told.local || local,
-        shared: told.shared || !local,
-        defined: told.defined || defined,
-        ..told
+        local: local_too,
+        shared,
+        defined,
+        ..of_kind(earlier, kind)
     }
 }
 
@@ -245,7 +248,11 @@ fn same_types(ss: &[Ty], ts: &[Ty]) -> bool
 fn may_follow(earlier: &Earlier, d: &Declared) -> bool
     ensures { result ≡ fits earlier.now d.now }
 {
-    let linked = if d.local { !earlier.shared } else { !earlier.local };
+    let linked = if d.local {
+        !earlier.shared
+    } else {
+        !earlier.local
+    };
     may_have(earlier, &d.kind) && linked && !(d.defined && earlier.defined)
 }
 
@@ -277,11 +284,7 @@ fn told_by(alloc: Global, earlier: &Earlier, name: &[u8]) -> Result<Option<Exter
     }
 }
 
-fn object_told(
-    alloc: Global,
-    t: Option<&Ty>,
-    name: &[u8],
-) -> Result<Option<ExternInfo>, AllocError>
+fn object_told(alloc: Global, t: Option<&Ty>, name: &[u8]) -> Result<Option<ExternInfo>, AllocError>
     ensures { IfOk result (λ told. told ≡ recall.object_told name.now (option_copied t.entry)) }
 {
     let Some(t) = t else {
@@ -318,39 +321,33 @@ fn function_told(
     }))
 }
 
-fn is_int(t: &Ty) -> bool
-    ensures { result ≡ recall.same_type t.now (ty.Int IntType.Int) }
-{
-    let int = Ty::Int(IntType::Int);
-    same_type(t, &int)
-}
-
-/// Whether a function, or one of an unknown type, is `int putchar(int)`.
-fn is_putchar(kind: &Kind) -> bool
-    ensures { result ≡ spec.same_kind kind.now (AFunction (Some putchar_type)) }
+/// Whether a function, or one of an unknown type, has the result `int` and these parameters.
+fn gives_int(kind: &Kind, params: &[Ty]) -> bool
+    ensures { result ≡ spec.same_kind kind.now (AFunction (Some (record { result = ty.Int IntType.Int; params = params.now }))) }
 {
     match kind {
         Kind::AnObject(_) => false,
         Kind::AFunction(None) => true,
         Kind::AFunction(Some(s)) => {
-            let one = match s.params.as_slice() {
-                [t] => is_int(t),
-                _ => false,
-            };
-            is_int(&s.result) && one
+            let int = Ty::Int(IntType::Int);
+            same_type(&s.result, &int) && same_types(s.params.as_slice(), params)
         }
     }
 }
 
-/// Whether it is `int getchar(void)`.
+/// Whether it may be `int putchar(int)`.
+fn is_putchar(kind: &Kind) -> bool
+    ensures { result ≡ spec.same_kind kind.now (AFunction (Some putchar_type)) }
+{
+    let params = [Ty::Int(IntType::Int)];
+    gives_int(kind, &params)
+}
+
+/// Whether it may be `int getchar(void)`.
 fn is_getchar(kind: &Kind) -> bool
     ensures { result ≡ spec.same_kind kind.now (AFunction (Some getchar_type)) }
 {
-    match kind {
-        Kind::AnObject(_) => false,
-        Kind::AFunction(None) => true,
-        Kind::AFunction(Some(s)) => is_int(&s.result) && s.params.is_empty(),
-    }
+    gives_int(kind, &[])
 }
 
 /// Whether it agrees with what the include line declares, in a file that has the line.
@@ -367,9 +364,16 @@ fn agrees_with_library(names: &FileNames, d: &Declared) -> bool
         && (name != b"getchar".as_slice() || is_getchar(&d.kind) && bare)
 }
 
+/// Whether it agrees with the earlier ones of its name, as far as they are kept, and with the include line.
+fn agrees(names: &FileNames, earlier: &Redeclared, d: &Declared) -> bool
+    ensures { result ≡ (spec.agrees_with_library names.now d.now && fits (recalled earlier.now d.now.name) d.now) }
+{
+    agrees_with_library(names, d) && earlier.agrees_under(d.name.as_slice(), d)
+}
+
 /// Whether a declaration may stand beside the earlier ones of its name, and beside the include line.
 pub fn may_stand(names: &FileNames, earlier: &Redeclared, d: &Declared) -> bool
     ensures { (ds : List Declared) → Recalls earlier.now ds → result ≡ spec.may_stand names.now ds d.now }
 {
-    agrees_with_library(names, d) && earlier.agrees(d)
+    agrees(names, earlier, d)
 }
