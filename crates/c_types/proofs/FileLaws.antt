@@ -107,9 +107,11 @@ parts-append names j [] e = refl
 parts-append names j (x ∷ es) e = parts-append names (part_judged names j x) es e
 
 pub parts_next : (names : FileNames) (es : List External) (i : ℕ) (e : External) (f f1 f2 : FileWalk) → i < length es →
-    ((j : Judgement) → FileStands f j → FileStands f1 (parts_judged names j (take i es))) →
-    ((j : Judgement) → FileStands f1 j → FileStands f2 (part_judged names j (get_or es i e))) →
+    e ≡ get_or es i e → ((j : Judgement) → FileStands f j → FileStands f1 (parts_judged names j (take i es))) →
+    ((j : Judgement) → FileStands f1 j → FileStands f2 (part_judged names j e)) →
     (j : Judgement) → FileStands f j → FileStands f2 (parts_judged names j (take (i + 1) es))
-parts_next names es i e f f1 f2 below before one j stands =
+parts_next names es i e f f1 f2 below is before one j stands =
+    let so_far = parts_judged names j (take i es) in
     subst (λ l. FileStands f2 (parts_judged names j l)) (sym (take_more es i e below))
-    (subst (FileStands f2) (sym (parts-append names j (take i es) (get_or es i e))) (one (parts_judged names j (take i es)) (before j stands)))
+    (subst (FileStands f2) (sym (parts-append names j (take i es) (get_or es i e)))
+    (subst (λ x. FileStands f2 (part_judged names so_far x)) is (one so_far (before j stands))))

@@ -155,10 +155,11 @@ objects-append names c j [] d = refl
 objects-append names c j (e ∷ ds) d = objects-append names c (object_judged names c j e) ds d
 
 pub objects_next : (names : FileNames) (c : Storage) (ds : List Decl) (i : ℕ) (d : Decl) (f f1 f2 : FileWalk) → i < length ds →
-    ((j : Judgement) → FileStands f j → FileStands f1 (objects_judged names c j (take i ds))) →
-    ((j : Judgement) → FileStands f1 j → FileStands f2 (object_judged names c j (get_or ds i d))) →
+    d ≡ get_or ds i d → ((j : Judgement) → FileStands f j → FileStands f1 (objects_judged names c j (take i ds))) →
+    ((j : Judgement) → FileStands f1 j → FileStands f2 (object_judged names c j d)) →
     (j : Judgement) → FileStands f j → FileStands f2 (objects_judged names c j (take (i + 1) ds))
-objects_next names c ds i d f f1 f2 below before one j stands =
+objects_next names c ds i d f f1 f2 below is before one j stands =
+    let so_far = objects_judged names c j (take i ds) in
     subst (λ l. FileStands f2 (objects_judged names c j l)) (sym (take_more ds i d below))
     (subst (FileStands f2) (sym (objects-append names c j (take i ds) (get_or ds i d)))
-    (one (objects_judged names c j (take i ds)) (before j stands)))
+    (subst (λ x. FileStands f2 (object_judged names c so_far x)) is (one so_far (before j stands))))

@@ -26,7 +26,6 @@ use sqlite_items::Items;
 use std::alloc::{AllocError, Global};
 
 /// The type that a declaration gives its object.
-#[tactic(auto, using(crate::specs::Laws::StandingLaws::passed))]
 fn object_type(walk: &mut Walk, alloc: Global, d: &Decl) -> Result<Option<Ty>, AllocError>
     ensures { IfOk result (λ t. (j : Judgement) → Stands walk.old j → Passed (locals.declared_type d.now) j walk.new t) }
 {
@@ -54,7 +53,6 @@ fn name_object(
 }
 
 /// What the object begins with.
-#[tactic(auto, using(crate::specs::Laws::StandingLaws::passed))]
 fn object_init(
     walk: &mut Walk,
     alloc: Global,

@@ -2,8 +2,8 @@ use Rattle.std.proofs.Common.{refl}
 use Rattle.c_types.proofs.ObjectLaws.{object_stands}
 use Rattle.c_types.proofs.objects.object_judged.Goals as goal
 
-pub returns-in_ok-add_global : goal.returns-in_ok-add_global
-returns-in_ok-add_global c =
+pub returns : goal.returns
+returns c =
     object_stands c.args.names.now c.args.storage c.args.d.now c.args.files.now _ _ c.in_ok-t.t c.in_ok-t.ensures (record {
       i = c.in_ok-init.init;
       this = c.in_ok-this.this;
