@@ -1,5 +1,14 @@
 pub mod RuleExamples
 pub mod SameSpanExamples
+pub mod BodyLaws
+pub mod MemberLaws
+pub mod TagLaws
+pub mod InsideLaws
+pub mod ParameterLaws
+pub mod FunctionLaws
+pub mod ObjectLaws
+pub mod FileLaws
+pub mod AnswerLaws
 pub mod NameLaws
 pub mod SameLaws
 pub mod RecallLaws

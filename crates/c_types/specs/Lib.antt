@@ -8,5 +8,8 @@ pub mod Functions
 pub mod Structs
 pub mod Units
 pub mod WellTyped
+pub mod Refusal
+pub mod Starting
 pub mod Standing
+pub mod Inside
 pub mod Laws

@@ -180,18 +180,25 @@ with_function j f result params (Some s) =
     let judged = with_outcome j (record o { names = [] }) in
     record judged { functions = j.functions ++ function_of f result (params.locals ++ o.locals) o.known }
 
--- a function: its result, its parameters, its name, and then its body; the rules on the head belong to the whole
-abbrev pub function_judged : FileNames → Judgement → Function → Judgement
-function_judged names j f =
+-- the parameters, behind the result
+abbrev pub parameters_in : Judgement → Function → Outcome (List Ty)
+parameters_in j f = parameters (is_there f.body) f.params (with_outcome j (result_type f j.env)).env
+
+-- the head: its result, its parameters, and then its name; its rules belong to the whole
+abbrev pub head_judged : FileNames → Judgement → Function → Judgement
+head_judged names j f =
     let result = result_type f j.env in
-    let read = with_outcome j result in
-    let params = parameters (is_there f.body) f.params read.env in
+    let params = parameters_in j f in
     let s = signature_of result.known params.known in
     let this = function_declared f s in
     let rules = head_rules f (may_stand names j.declared this) result.known in
-    let headed = with_faults (with_outcome read (record params { names = [] })) (broken f.span rules) in
+    let headed = with_faults (with_outcome (with_outcome j result) (record params { names = [] })) (broken f.span rules) in
     let named = with_names headed (binds f.name (means.Function (function_callee names f.name) s) ∷ []) in
-    with_function (record named { declared = this ∷ j.declared }) f result.known params f.body
+    record named { declared = this ∷ j.declared }
+
+-- a function: its head, and then its body
+abbrev pub function_judged : FileNames → Judgement → Function → Judgement
+function_judged names j f = with_function (head_judged names j f) f (result_type f j.env).known (parameters_in j f) f.body
 
 -- ---- all of it
 
