@@ -403,10 +403,7 @@ fn made(alloc: Global, f: &Function, b: Body) -> Result<Option<TFunction>, Alloc
 }
 
 /// One more function at the end, where it is made.
-fn with_made(
-    functions: &mut Items<TFunction>,
-    made: Option<TFunction>,
-) -> Result<(), AllocError>
+fn with_made(functions: &mut Items<TFunction>, made: Option<TFunction>) -> Result<(), AllocError>
     ensures { OnOk result (functions.new ≡ functions.old ++ option_list made) }
 {
     match made {
