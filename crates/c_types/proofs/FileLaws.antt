@@ -20,7 +20,8 @@ use Rattle.c_types.specs.Files.{FileNames, putchar_name, getchar_name}
 use Rattle.c_types.specs.Recalled.{Recalls}
 use Rattle.c_types.specs.Redeclarations.{putchar_type, getchar_type}
 use Rattle.c_types.specs.Standing.{Stands, FileStands}
-use Rattle.c_types.specs.Units.{Judgement, with_names, included, with_tag, with_body, with_members, struct_judged, part_judged, parts_judged}
+use Rattle.c_types.specs.Units.{Judgement, with_names, included, with_tag, with_body, with_members, struct_judged}
+use Rattle.c_types.specs.Units.{part_judged, parts_judged}
 use Rattle.c_types.specs.Laws.StandingLaws.{stands_names, stands_stdio}
 
 -- ---- the include line

@@ -165,7 +165,8 @@ fn object_judged(
     storage: Storage,
     d: &Decl,
 ) -> Result<(), AllocError>
-    ensures { OnOk result ((j : Judgement) → FileStands files.old j → FileStands files.new (spec.object_judged names.now storage j d.now)) }
+    ensures { OnOk result ((j : Judgement) → FileStands files.old j →
+        FileStands files.new (spec.object_judged names.now storage j d.now)) }
 {
     let t = object_type(&mut files.walk, alloc, d)?;
     name_object(&mut files.walk, alloc, names, d, &t)?;

@@ -42,7 +42,9 @@ pub fn without_part(answer: &str) -> &str {
         return answer;
     };
     match rest.split_once(' ') {
-        Some((place, _)) => answer.get(..number.len() + 1 + place.len()).unwrap_or(answer),
+        Some((place, _)) => answer
+            .get(..number.len() + 1 + place.len())
+            .unwrap_or(answer),
         None => answer,
     }
 }

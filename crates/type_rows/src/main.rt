@@ -1,7 +1,7 @@
 //! Compares rows of C texts with what the check of types says of them. A row is one of these:
 //!
 //!     "TEXT" => typed                    the text keeps all rules
-//!     "TEXT" => NUMBER START-END PART    the first rule that it breaks, and the bytes of the construct that breaks it, of which PART is the text
+//!     "TEXT" => NUMBER START-END PART    the first rule that it breaks, and the bytes of the construct that breaks it, which are PART
 //!
 //! Behind ` ; ` stands what gcc says, which `tools/type_rows.py` compares. `unquoted` of `test_rows` says how texts are written.
 #![tactic(auto)]

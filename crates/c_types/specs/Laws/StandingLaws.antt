@@ -49,7 +49,8 @@ passed p w w1 w2 k walked leaves j stands = record {
 
 -- ---- faults, names and structs
 
-pub stands_faults : (faults : List Fault) (w w1 : Walk) (j : Judgement) → Stands w j → w1 ≡ blamed w faults → Stands w1 (with_faults j faults)
+pub stands_faults : (faults : List Fault) (w w1 : Walk) (j : Judgement) → Stands w j → w1 ≡ blamed w faults →
+    Stands w1 (with_faults j faults)
 stands_faults faults w w1 j stands is = record {
   env_is = ap env_of is ∙ stands.env_is;
   texts_are = ap (λ (x : Walk). x.texts) is ∙ stands.texts_are;
