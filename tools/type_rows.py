@@ -1,5 +1,5 @@
 #!/usr/bin/env python3
-"""Compares what gcc says of the C texts in tools/type-rows.txt with the column that says so.
+"""Compares what gcc says of the C texts in crates/type_rows/stdin with the column that says so.
 
     tools/type_rows.py            prints each row that differs, and ends with 1 then
     tools/type_rows.py --write    writes the column
@@ -19,7 +19,7 @@ import re
 import subprocess
 import sys
 
-ROWS = pathlib.Path(__file__).resolve().parent.parent / 'tools/type-rows.txt'
+ROWS = pathlib.Path(__file__).resolve().parent.parent / 'crates/type_rows/stdin'
 GCC = ['gcc', '-std=c11', '-pedantic-errors', '-fsyntax-only', '-funsigned-char', '-x', 'c', '-']
 ROW = re.compile(r'"(?P<text>.*)" => (?P<answer>.*?) ; gcc (?P<gcc>.*?)(?: ; (?P<reason>.*))?')
 ESCAPES = {'n': '\n', 't': '\t', 'r': '\r', '\\': '\\'}

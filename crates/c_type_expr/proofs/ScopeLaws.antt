@@ -4,7 +4,7 @@ use Rattle.std.proofs.Common.{Option, Some, None}
 use Rattle.std.proofs.lemmas.List.{take_more, map-append, reverse-append}
 use Rattle.std.proofs.lemmas.Option.{slice_get_within, get_or_from_slice_get, slice_get-get_or}
 use Rattle.c_type_expr.specs.declared.scopes.Binding.{Binding}
-use Rattle.c_type_expr.specs.Environment.{in_scope, in_scopes, or_else}
+use Rattle.c_type_expr.specs.Environment.{in_scope, in_scopes, or_else, with_innermost}
 
 -- the names of the first n of the scopes held
 abbrev pub in_first : List ℕ → List (List Binding) → ℕ → Option Binding
@@ -44,3 +44,23 @@ pub one_there : {C : Type 0} (outer : List (List Binding)) (n : ℕ) → 0 < n �
 one_there outer n some within none =
     let here = slice_get-get_or outer (n - 1) [] (omega (arith, some, within)) in
     absurd (cc)
+
+-- ---- a name in the scope around the innermost
+
+last_first : (rest : List (List Binding)) (scope : List Binding) →
+    reverse (map reverse (rest ++ scope ∷ [])) ≡ reverse scope ∷ reverse (map reverse rest)
+last_first rest scope = ap reverse (map-append reverse rest (scope ∷ [])) ∙ reverse-append (map reverse rest) (reverse scope ∷ [])
+
+pub declared_around : (rest outer more : List (List Binding)) (scope bound : List Binding) (b : Binding) → outer ≡ rest ++ scope ∷ [] →
+    bound ≡ scope ++ b ∷ [] → more ≡ rest ++ bound ∷ [] →
+    reverse (map reverse more) ≡ with_innermost (b ∷ []) (reverse (map reverse outer))
+declared_around rest outer more scope bound b was has is =
+    ap (λ x. reverse (map reverse x)) is ∙ last_first rest bound
+    ∙ ap (λ x. x ∷ reverse (map reverse rest)) (ap reverse has ∙ reverse-append scope (b ∷ []))
+    ∙ sym (ap (λ x. with_innermost (b ∷ []) (reverse (map reverse x))) was ∙ ap (with_innermost (b ∷ [])) (last_first rest scope))
+
+pub declared_alone : (rest outer more : List (List Binding)) (bound : List Binding) (b : Binding) → outer ≡ [] → rest ≡ [] →
+    bound ≡ [] ++ b ∷ [] → more ≡ rest ++ bound ∷ [] →
+    reverse (map reverse more) ≡ with_innermost (b ∷ []) (reverse (map reverse outer))
+declared_alone rest outer more bound b was none has is =
+    ap (λ x. reverse (map reverse x)) (is ∙ (λ i. none i ++ has i ∷ [])) ∙ sym (ap (λ x. with_innermost (b ∷ []) (reverse (map reverse x))) was)

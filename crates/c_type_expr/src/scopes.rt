@@ -1,7 +1,7 @@
 //! What names stand for, by scopes (C11 6.2.1).
 
-ghost use Rattle.std.specs.Prelude.{◌≡◌, ◌∷◌, OnOk, option_copied, reverse};
-ghost use Rattle.c_type_expr.specs.Environment.{in_scope, in_scopes};
+ghost use Rattle.std.specs.Prelude.{◌≡◌, [], ◌∷◌, OnOk, option_copied, reverse};
+ghost use Rattle.c_type_expr.specs.Environment.{in_scope, in_scopes, with_innermost};
 ghost use Rattle.c_type_expr.specs.Scoping.{no_names, with_binding, opened_names, closed_names};
 
 use c_ast::Name;
@@ -116,6 +116,24 @@ impl Scopes {
     {
         self.inner.push(binding)?;
         Ok(())
+    }
+
+    /// Declares a name in the scope around the innermost.
+    #[tactic(auto, using(crate::proofs::ScopeLaws::declared_around, crate::proofs::ScopeLaws::declared_alone))]
+    pub fn add_around(&mut self, alloc: Global, binding: Binding) -> Result<(), AllocError>
+        ensures { OnOk result (self.new ≡ record self.old { outer = with_innermost (binding ∷ []) self.old.outer }) }
+    {
+        match self.outer.pop() {
+            Some(mut scope) => {
+                scope.push(binding)?;
+                self.outer.push(scope)
+            }
+            None => {
+                let mut scope = Items::new(alloc);
+                scope.push(binding)?;
+                self.outer.push(scope)
+            }
+        }
     }
 
     /// Opens a scope of its own inside.

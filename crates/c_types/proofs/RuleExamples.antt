@@ -21,9 +21,11 @@ use Rattle.c_type_expr.specs.Faults.{fault, NoLater, ends_first, starts_last}
 use Rattle.c_type_base.specs.Known.{texpr}
 use Rattle.c_types.specs.Files.{file_names}
 use Rattle.c_types.specs.Units.{judged, typed_by}
-use Rattle.c_type_expr.specs.Laws.SaidLaws.{written-void, written-int, written-struct, written-pointer, written-array, written-open, said-constant, said-text, said-variable, said-assign}
-use Rattle.c_types.specs.Laws.SaidLaws.{said-one, said-block, said-expression, said-return, judged-statement}
-use Rattle.c_type_base.specs.Laws.SizeLaws.{size-int, size-pointer, size-array, size-struct, complete-int, complete-pointer, complete-array, complete-struct}
+use Rattle.c_type_expr.specs.Laws.SaidLaws.{written-void, written-int, written-struct, written-pointer, written-array, written-open}
+use Rattle.c_type_expr.specs.Laws.SaidLaws.{said-constant, said-text, said-variable, said-assign}
+use Rattle.c_type_stmt.specs.Laws.SaidLaws.{said-one, said-block, said-expression, said-return, judged-statement}
+use Rattle.c_type_base.specs.Laws.SizeLaws.{size-int, size-pointer, size-array, size-struct, complete-int, complete-pointer}
+use Rattle.c_type_base.specs.Laws.SizeLaws.{complete-array, complete-struct}
 use Rattle.c_type_base.specs.Laws.TypeLaws.{same-int}
 use Rattle.c_type_base.specs.Laws.Opened.{given_types}
 use Rattle.c_type_expr.specs.Laws.GivenTrees.{span, int_type, constant, name, decl, main_at, program, returns}

@@ -31,13 +31,14 @@ use Rattle.c_type_expr.specs.declared.scopes.Place.TheVariants as place
 use Rattle.c_type_expr.specs.Environment.{Env, binds}
 use Rattle.c_type_expr.specs.Expressions.{expression, written}
 use Rattle.c_type_expr.specs.Outcomes.{Outcome}
-use Rattle.c_types.specs.declared.fitted.Fitted.{Fitted}
-use Rattle.c_types.specs.Initials.{initialiser, piece}
+use Rattle.c_type_stmt.specs.declared.fitted.Fitted.{Fitted}
+use Rattle.c_type_stmt.specs.Initials.{initialiser, piece}
 use Rattle.c_type_base.specs.declared.typed.InitPiece.{InitPiece}
 use Rattle.c_type_base.specs.declared.typed.InitValue.TheVariants as initial_value
-use Rattle.c_types.specs.Declarations.{local}
-use Rattle.c_type_expr.specs.Laws.SaidLaws.{written-int, written-open, written-void, written-struct, written-pointer, written-array, said-constant, said-variable, said-unary, said-call, said-cast, said-member}
-use Rattle.c_types.specs.Laws.SaidLaws.{said-one, said-list}
+use Rattle.c_type_stmt.specs.Declarations.{local}
+use Rattle.c_type_expr.specs.Laws.SaidLaws.{written-int, written-open, written-void, written-struct, written-pointer, written-array}
+use Rattle.c_type_expr.specs.Laws.SaidLaws.{said-constant, said-variable, said-unary, said-call, said-cast, said-member}
+use Rattle.c_type_stmt.specs.Laws.SaidLaws.{said-one, said-list}
 use Rattle.c_type_base.specs.Laws.SizeLaws.{size-int, size-array, size-struct, complete-int, complete-array, complete-struct}
 use Rattle.c_type_base.specs.Laws.FirstScalarLaws.{first-int, first-array, first-struct}
 use Rattle.c_type_base.specs.Laws.TypeLaws.{same-struct}

@@ -3,6 +3,7 @@
 use Rattle.std.specs.Prelude.{ℕ, Bool, true, false, ◌&&◌, ◌||◌, List, [], ◌∷◌, map, flat_map, codes, Option, Some, None, if◌then◌else◌}
 use Rattle.std.specs.List.{filter, list_any, position_from}
 use Rattle.std.specs.Str.{bytes_eq}
+use Rattle.c_ast.specs.declared.declaration.Decl.{Decl}
 use Rattle.c_ast.specs.declared.declaration.Storage.{Storage}
 use Rattle.c_ast.specs.declared.declaration.Storage.TheVariants as storage
 use Rattle.c_ast.specs.declared.program.Program.{Program}
@@ -13,13 +14,11 @@ use Rattle.c_type_base.specs.declared.expr.Callee.TheVariants as callee
 use Rattle.c_type_expr.specs.declared.scopes.Place.{Place}
 use Rattle.c_type_expr.specs.declared.scopes.Place.TheVariants as place
 use Rattle.c_type_base.specs.Types.{is_there}
-use Rattle.c_types.specs.Declarations.{no}
-
--- a declaration at file scope: of a function or of an object, and whether it defines it
-pub record Mention : Type 0 where
-  pub name : List ℕ
-  pub function : Bool
-  pub defines : Bool
+use Rattle.c_type_stmt.specs.Declarations.{no}
+-- a declaration at file scope, of a function or of an object, and whether it defines it
+pub use Rattle.c_types.specs.declared.names.Mention.{Mention}
+-- the names that a file declares, by what they are, each list in the order of first declarations; and whether it has the include line
+pub use Rattle.c_types.specs.declared.names.FileNames.{FileNames}
 
 abbrev pub is_extern : Storage → Bool
 is_extern storage.Extern = true
@@ -29,11 +28,14 @@ abbrev pub is_static : Storage → Bool
 is_static storage.Static = true
 is_static _ = false
 
+abbrev pub mentioned_object : Storage → Decl → Mention
+mentioned_object c d = record { name = d.name; function = false; defines = no (is_extern c) }
+
 -- an object is defined unless it is `extern`, a function where it has a body
 abbrev pub mentions : External → List Mention
 mentions external.Include = []
 mentions (external.Struct d) = []
-mentions (external.Objects c ds) = map (λ d. record { name = d.name; function = false; defines = no (is_extern c) }) ds
+mentions (external.Objects c ds) = map (mentioned_object c) ds
 mentions (external.Function f) = record { name = f.name; function = true; defines = is_there f.body } ∷ []
 
 abbrev pub is_include : External → Bool
@@ -54,13 +56,6 @@ getchar_name = codes "getchar"
 
 abbrev pub is_library : List ℕ → Bool
 is_library name = bytes_eq name putchar_name || bytes_eq name getchar_name
-
--- the names that a file declares, by what they are, each list in the order of first declarations; and whether it has the include line
-pub record FileNames : Type 0 where
-  pub globals : List (List ℕ)
-  pub functions : List (List ℕ)
-  pub externs : List (List ℕ)
-  pub includes : Bool
 
 abbrev pub defined_as : Bool → List Mention → List ℕ → Bool
 defined_as function ms name = list_any (λ m. bytes_eq m.name name && m.defines && (if m.function then function else no function)) ms

@@ -18,7 +18,7 @@ use Rattle.c_type_base.specs.declared.known.Written.{Written}
 use Rattle.c_type_base.specs.declared.known.Written.TheVariants.{Whole, Open}
 use Rattle.c_type_expr.specs.Said.{whole}
 use Rattle.c_type_expr.specs.Expressions.{written}
-use Rattle.c_types.specs.Declarations.{no, is_new, declares_local}
+use Rattle.c_type_stmt.specs.Declarations.{no, is_new, declares_local}
 use Rattle.c_types.specs.Files.{is_static}
 
 -- ---- parameters
@@ -56,13 +56,16 @@ is_new_parameter defines env [] = true
 is_new_parameter true env name = is_new env name
 is_new_parameter false env name = is_new (record env { stdio = false }) name
 
--- a parameter, which is a local of the function
+-- a parameter of a type, which is a local of the function
+abbrev pub declares_parameter : Bool → Decl → Option Written → Judged Ty
+declares_parameter defines d w env =
+    declares_local d.name d.span (rule 10 (is_new_parameter defines env d.name) ∷ parameter_rules env.structs w) (adjusted_in w) env
+
+-- a parameter: its type, and then its name
 abbrev pub parameter : Bool → Decl → Judged Ty
 parameter defines d env =
     let w = written d.ty d.span env in
-    let here = behind w env in
-    let b = declares_local d.name d.span (rule 10 (is_new_parameter defines here d.name) ∷ parameter_rules here.structs w.known)
-    (adjusted_in w.known) here in
+    let b = declares_parameter defines d w.known (behind w env) in
     joined w b b.known
 
 -- the parameters, in a scope of their own

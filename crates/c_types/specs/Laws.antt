@@ -1,4 +1,4 @@
 pub mod WellTypedLaws
-pub mod SaidLaws
 pub mod TableLaws
 pub mod PromiseLaws
+pub mod StandingLaws

@@ -8,19 +8,12 @@ use Rattle.c_type_base.specs.declared.ty.Ty.{Ty}
 use Rattle.c_type_base.specs.declared.ty.Ty.TheVariants as ty
 use Rattle.c_type_base.specs.Types.{same_type}
 use Rattle.c_type_expr.specs.declared.scopes.Signature.{Signature}
-use Rattle.c_types.specs.Declarations.{no, eof_name}
+use Rattle.c_type_stmt.specs.Declarations.{no, eof_name}
 use Rattle.c_types.specs.Files.{FileNames, putchar_name, getchar_name}
-
 -- what a declaration at file scope declares, and its type where that is known
-pub data Kind : Type 0 where
-  AnObject : Option Ty → Kind
-  AFunction : Option Signature → Kind
-
-pub record Declared : Type 0 where
-  pub name : List ℕ
-  pub kind : Kind
-  pub local : Bool
-  pub defined : Bool
+pub use Rattle.c_types.specs.declared.redeclared.Kind.{Kind}
+pub use Rattle.c_types.specs.declared.redeclared.Kind.TheVariants.{AnObject, AFunction}
+pub use Rattle.c_types.specs.declared.redeclared.Declared.{Declared}
 
 abbrev pub same_types : List Ty → List Ty → Bool
 same_types [] [] = true

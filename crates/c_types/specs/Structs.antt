@@ -1,5 +1,5 @@
 -- Struct declarations (ISO C11 6.7.2.1, 6.7.2.3).
-use Rattle.std.specs.Prelude.{ℕ, Bool, false, leb, List, [], ◌∷◌, ◌++◌, map, slice_get, Option, Some, None}
+use Rattle.std.specs.Prelude.{ℕ, Bool, false, leb, min, List, [], ◌∷◌, ◌++◌, map, slice_get, Option, Some, None}
 use Rattle.std.specs.List.{list_any}
 use Rattle.std.specs.Str.{bytes_eq}
 use Rattle.c_ast.specs.declared.declaration.Decl.{Decl}
@@ -12,12 +12,9 @@ use Rattle.c_type_expr.specs.Faults.{Rule, rule, broken}
 use Rattle.c_type_expr.specs.Outcomes.{Judged, sure, on, behind, joined}
 use Rattle.c_type_expr.specs.Said.{whole}
 use Rattle.c_type_expr.specs.Expressions.{written}
-use Rattle.c_types.specs.Declarations.{no, object_rules}
+use Rattle.c_type_stmt.specs.Declarations.{no, object_rules}
 
--- a member by its name and its type, before it has a place
-pub record Member : Type 0 where
-  pub name : List ℕ
-  pub ty : Ty
+pub use Rattle.c_types.specs.declared.body.Member.{Member}
 
 abbrev pub ty_in : Member → Ty
 ty_in m = m.ty
@@ -33,18 +30,30 @@ with_member m (Some ms) = Some (m ++ ms)
 abbrev pub member_type : Decl → Judged Ty
 member_type d = on (written d.ty d.span) (whole d.span)
 
--- the members of a body behind those of some names: each has a name of its own and an object's type
+-- a member, whose name is new in the body or not: it has an object's type
+abbrev pub member : Bool → Decl → Judged Ty
+member new d env =
+    let t = member_type d env in
+    record t { faults = t.faults ++ broken d.span (rule 10 new ∷ object_rules env.structs t.known) }
+
+-- the members of a body behind those of some names: each has a name of its own
 abbrev pub members : List (List ℕ) → List Decl → Judged (List Member)
 members seen [] = sure []
 members seen (d ∷ ds) = λ env.
-    let t = member_type d env in
-    let faults = broken d.span (rule 10 (no (list_any (bytes_eq d.name) seen)) ∷ object_rules env.structs t.known) in
-    let one = record t { faults = t.faults ++ faults } in
+    let one = member (no (list_any (bytes_eq d.name) seen)) d env in
     let rest = members (d.name ∷ seen) ds (behind one env) in
-    joined one rest (with_member (found_member d.name t.known) rest.known)
+    joined one rest (with_member (found_member d.name one.known) rest.known)
+
+-- the greatest number of 64 bits
+abbrev pub greatest : ℕ
+greatest = 18446744073709551615
+
+-- A number of bytes, as far as 64 bits hold it. A struct with more has broken the rule on sizes.
+abbrev pub capped : ℕ → ℕ
+capped n = min n greatest
 
 abbrev pub with_places : List Member → List ℕ → List MemberInfo
-with_places (m ∷ ms) (place ∷ rest) = record { name = m.name; ty = m.ty; offset = place } ∷ with_places ms rest
+with_places (m ∷ ms) (place ∷ rest) = record { name = m.name; ty = m.ty; offset = capped place } ∷ with_places ms rest
 with_places _ _ = []
 
 -- a struct of a tag with these members, each at its place
@@ -52,7 +61,7 @@ abbrev pub struct_with : List StructInfo → List ℕ → List Member → Struct
 struct_with structs name ms = record {
   name = name;
   members = with_places ms (places structs 0 (map ty_in ms));
-  bytes = struct_size structs (map ty_in ms);
+  bytes = capped (struct_size structs (map ty_in ms));
   align = struct_align structs (map ty_in ms);
 }
 

@@ -1,6 +1,5 @@
 -- A whole file (ISO C11 6.9): its parts in order, each with what was declared before it.
-use Rattle.std.specs.Prelude.{ℕ, true, false, List, [], ◌∷◌, ◌++◌, length, flat_map, slice_set, Option, Some, None, if◌then◌else◌}
-use Rattle.std.specs.List.{find}
+use Rattle.std.specs.Prelude.{ℕ, true, false, List, [], ◌∷◌, ◌++◌, length, slice_set, Option, Some, None, if◌then◌else◌}
 use Rattle.std.specs.Str.{bytes_eq}
 use Rattle.c_ast.specs.declared.declaration.Decl.{Decl}
 use Rattle.c_ast.specs.declared.declaration.Storage.{Storage}
@@ -11,7 +10,6 @@ use Rattle.c_ast.specs.declared.program.Function.{Function}
 use Rattle.c_ast.specs.declared.program.External.{External}
 use Rattle.c_ast.specs.declared.program.External.TheVariants as external
 use Rattle.c_type_base.specs.declared.ty.Ty.{Ty}
-use Rattle.c_type_base.specs.declared.ty.Ty.TheVariants as ty
 use Rattle.c_type_base.specs.declared.expr.Callee.TheVariants as callee
 use Rattle.c_type_base.specs.declared.statement.TStmt.{TStmt}
 use Rattle.c_type_base.specs.declared.typed.Typed.{Typed}
@@ -19,7 +17,6 @@ use Rattle.c_type_base.specs.declared.typed.StructInfo.{StructInfo}
 use Rattle.c_type_base.specs.declared.typed.GlobalInfo.{GlobalInfo}
 use Rattle.c_type_base.specs.declared.typed.InitPiece.{InitPiece}
 use Rattle.c_type_base.specs.declared.typed.TFunction.{TFunction}
-use Rattle.c_type_base.specs.declared.typed.ExternInfo.{ExternInfo}
 use Rattle.c_type_base.specs.declared.typed.LocalInfo.{LocalInfo}
 use Rattle.c_type_base.specs.Types.{is_there}
 use Rattle.c_type_expr.specs.declared.fault.Fault.{Fault}
@@ -29,12 +26,13 @@ use Rattle.c_type_expr.specs.declared.scopes.Signature.{Signature}
 use Rattle.c_type_expr.specs.declared.scopes.Meaning.TheVariants as means
 use Rattle.c_type_expr.specs.Environment.{Env, binds, tag_number}
 use Rattle.c_type_expr.specs.Outcomes.{Outcome, behind}
-use Rattle.c_types.specs.declared.fitted.Fitted.{Fitted}
-use Rattle.c_types.specs.Initials.{InitSaid}
-use Rattle.c_types.specs.Declarations.{no, init_of, declared_type, object_rules, initialised, eof_name}
-use Rattle.c_types.specs.Statements.{statement}
+use Rattle.c_type_stmt.specs.declared.fitted.Fitted.{Fitted}
+use Rattle.c_type_stmt.specs.Initials.{InitSaid}
+use Rattle.c_type_stmt.specs.Declarations.{no, init_of, declared_type, object_rules, initialised, eof_name}
+use Rattle.c_type_stmt.specs.Statements.{statement}
 use Rattle.c_types.specs.Files.{FileNames, file_names, is_extern, is_static, object_place, function_callee, putchar_name, getchar_name}
 use Rattle.c_types.specs.Redeclarations.{AnObject, AFunction, Declared, may_stand, putchar_type, getchar_type}
+use Rattle.c_types.specs.Ordered.{globals_by, functions_by, externs_by}
 use Rattle.c_types.specs.Functions.{parameters, signature_of, head_rules, main_name, result_type}
 use Rattle.c_types.specs.Structs.{Member, members, struct_with, tag_alone, body_rules}
 
@@ -182,18 +180,25 @@ with_function j f result params (Some s) =
     let judged = with_outcome j (record o { names = [] }) in
     record judged { functions = j.functions ++ function_of f result (params.locals ++ o.locals) o.known }
 
--- a function: its result, its parameters, its name, and then its body; the rules on the head belong to the whole
-abbrev pub function_judged : FileNames → Judgement → Function → Judgement
-function_judged names j f =
+-- the parameters, behind the result
+abbrev pub parameters_in : Judgement → Function → Outcome (List Ty)
+parameters_in j f = parameters (is_there f.body) f.params (with_outcome j (result_type f j.env)).env
+
+-- the head: its result, its parameters, and then its name; its rules belong to the whole
+abbrev pub head_judged : FileNames → Judgement → Function → Judgement
+head_judged names j f =
     let result = result_type f j.env in
-    let read = with_outcome j result in
-    let params = parameters (is_there f.body) f.params read.env in
+    let params = parameters_in j f in
     let s = signature_of result.known params.known in
     let this = function_declared f s in
     let rules = head_rules f (may_stand names j.declared this) result.known in
-    let headed = with_faults (with_outcome read (record params { names = [] })) (broken f.span rules) in
+    let headed = with_faults (with_outcome (with_outcome j result) (record params { names = [] })) (broken f.span rules) in
     let named = with_names headed (binds f.name (means.Function (function_callee names f.name) s) ∷ []) in
-    with_function (record named { declared = this ∷ j.declared }) f result.known params f.body
+    record named { declared = this ∷ j.declared }
+
+-- a function: its head, and then its body
+abbrev pub function_judged : FileNames → Judgement → Function → Judgement
+function_judged names j f = with_function (head_judged names j f) f (result_type f j.env).known (parameters_in j f) f.body
 
 -- ---- all of it
 
@@ -212,27 +217,6 @@ abbrev pub judged : Program → Judgement
 judged p = parts_judged (file_names p) start p.items
 
 -- ---- the typed program: what it defines in the order of first declarations, as the numbers in it say
-
-abbrev pub option_list : {A : Type 0} → Option A → List A
-option_list None = []
-option_list (Some a) = a ∷ []
-
-abbrev pub globals_by : List (List ℕ) → List GlobalInfo → List GlobalInfo
-globals_by names gs = flat_map (λ n. option_list (find (λ g. bytes_eq g.name n) gs)) names
-
-abbrev pub functions_by : List (List ℕ) → List TFunction → List TFunction
-functions_by names fs = flat_map (λ n. option_list (find (λ f. bytes_eq f.name n) fs)) names
-
-abbrev pub extern_of : Declared → List ExternInfo
-extern_of d = elim d.kind [
-  | AnObject None ↦ []
-  | AnObject (Some t) ↦ record { name = d.name; object = Some t; result = ty.Void; params = [] } ∷ []
-  | AFunction None ↦ []
-  | AFunction (Some s) ↦ record { name = d.name; object = None; result = s.result; params = s.params } ∷ []
-]
-
-abbrev pub externs_by : List (List ℕ) → List Declared → List ExternInfo
-externs_by names ds = flat_map (λ n. flat_map extern_of (option_list (find (λ d. bytes_eq d.name n) ds))) names
 
 abbrev pub typed_by : FileNames → Judgement → Typed
 typed_by names j = record {

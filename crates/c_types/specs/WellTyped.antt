@@ -1,7 +1,7 @@
 -- Which programs keep all rules, what they are with their names resolved and their types, and which rule of another is broken first.
 -- (The rules of ISO C11 6.3 and 6.5 to 6.9, cut to the profile.)
 --
--- Which rule has which number, and the files with the cases that ask it, here and in c_type_expr:
+-- Which rule has which number, and the files with the cases that ask it, here, in c_type_stmt and in c_type_expr:
 --    9  a used name and tag is declared ............ Said (name_row, tag_of)
 --   10  one declaration in one scope ............... Declarations (is_new), Functions (parameter, head_rules), Redeclarations, Structs
 --                                                    (members, body_rules), Units (object_judged)

@@ -17,10 +17,11 @@ use Rattle.c_type_base.specs.Layout.{LaidOut, struct_size}
 use Rattle.c_type_expr.specs.Faults.{Rule, rule, broken}
 use Rattle.c_type_expr.specs.Environment.{Env, tag_number}
 use Rattle.c_type_expr.specs.Outcomes.{Outcome, behind}
-use Rattle.c_types.specs.Declarations.{no, object_rules}
+use Rattle.c_type_stmt.specs.Declarations.{no, object_rules}
 use Rattle.c_types.specs.Files.{FileNames, file_names}
 use Rattle.c_types.specs.Structs.{Member, ty_in, members, member_type, found_member, with_member, has_body, body_rules}
-use Rattle.c_types.specs.Units.{Judgement, start, with_outcome, with_tag, known_members, with_body, with_members, struct_judged, object_judged, objects_judged, with_function, function_judged, part_judged, parts_judged}
+use Rattle.c_types.specs.Units.{Judgement, start, with_outcome, with_tag, known_members, with_body, with_members, struct_judged}
+use Rattle.c_types.specs.Units.{object_judged, objects_judged, with_function, function_judged, part_judged, parts_judged}
 use Rattle.c_types.specs.Functions.{parameters, result_type}
 use Rattle.c_type_base.specs.Types.{is_there}
 use Rattle.std.specs.Prelude.{leb}

@@ -1,9 +1,14 @@
 -- Tables of structs that are laid out stay so: where a tag is added, and where one that has no body gets one whose members are complete.
-use Rattle.std.proofs.Common.{◌≡◌, refl, sym, ◌∙◌, ap, subst, ℕ, zero, suc, ◌+◌, ◌⊎◌, inl, inr, true, false, List, [], ◌∷◌, ◌++◌, map, slice_get, slice_set, Some, ◌≤◌, lit≤}
+use Rattle.std.proofs.Common.{◌≡◌, refl, sym, ◌∙◌, ap, subst, ℕ, zero, suc, ◌+◌, ◌⊎◌, inl, inr, true, false, List, [], ◌∷◌, ◌++◌, map}
+use Rattle.std.proofs.Common.{slice_get, slice_set, Some, ◌≤◌, lit≤, arith}
+use Rattle.std.specs.Prelude.{min}
+use Rattle.std.proofs.Math.Nat.{le_trans}
+use Rattle.c_type_base.specs.declared.ty.Ty.{Ty}
 use Rattle.c_type_base.specs.declared.typed.StructInfo.{StructInfo}
 use Rattle.c_type_base.specs.Sizes.{size, align, complete_struct, largest}
-use Rattle.c_type_base.specs.Layout.{round_up, places, struct_align, struct_size, IsLaidOut, LaidOut, offset_in, type_of}
-use Rattle.c_types.specs.Structs.{Member, ty_in, with_places, struct_with, tag_alone}
+use Rattle.c_type_base.specs.Layout.{round_up, places, end_of, struct_align, struct_size, IsLaidOut, LaidOut, offset_in, type_of}
+use Rattle.c_type_base.specs.Laws.LayoutLaws.{round_up-reaches, struct_align-positive, end_of-reaches}
+use Rattle.c_types.specs.Structs.{Member, ty_in, greatest, capped, with_places, struct_with, tag_alone}
 use Rattle.c_type_base.specs.Laws.GrowthLaws.{Extends, AllComplete, none, all-kept, laid_out-kept}
 
 -- a struct of a table: its numbers are those of the rule, its members are complete, and it is not too large
@@ -79,22 +84,48 @@ types-placed structs from (m ∷ ms) =
     ap (λ l. m.ty ∷ l) (types-placed structs (round_up from (align structs m.ty) + size structs m.ty) ms)
 
 offsets-placed : (structs : List StructInfo) (from : ℕ) (ms : List Member) →
-    map offset_in (with_places ms (places structs from (map ty_in ms))) ≡ places structs from (map ty_in ms)
+    map offset_in (with_places ms (places structs from (map ty_in ms))) ≡ map capped (places structs from (map ty_in ms))
 offsets-placed structs from [] = refl
 offsets-placed structs from (m ∷ ms) =
-    ap (λ l. round_up from (align structs m.ty) ∷ l) (offsets-placed structs (round_up from (align structs m.ty) + size structs m.ty) ms)
+    ap (λ l. capped (round_up from (align structs m.ty)) ∷ l)
+    (offsets-placed structs (round_up from (align structs m.ty) + size structs m.ty) ms)
 
-body-ready : (structs : List StructInfo) (tag : List ℕ) (ms : List Member) → AllComplete structs (map ty_in ms) →
+within : (g n : ℕ) → n ≤ g → min n g ≡ n
+within g n below = omega arith
+
+not_more : (g n l : ℕ) → n ≤ l → min n g ≤ l
+not_more g n l below = omega arith
+
+front-within : (p s e g : ℕ) → p + s ≤ e → e ≤ g → p ≤ g
+front-within p s e g reaches below = omega arith
+
+-- where the last member ends within 64 bits, each place does
+places-within : (structs : List StructInfo) → LaidOut structs → (from : ℕ) (ts : List Ty) → end_of structs from ts ≤ greatest →
+    map capped (places structs from ts) ≡ places structs from ts
+places-within structs laid from [] below = refl
+places-within structs laid from (t ∷ ts) below =
+    let place = round_up from (align structs t) in
+    let next = place + size structs t in
+    let here : capped place ≡ place =
+    within greatest place (front-within place (size structs t) (end_of structs next ts) greatest (end_of-reaches structs laid next ts) below) in
+    λ i. here i ∷ places-within structs laid next ts below i
+
+body-ready : (structs : List StructInfo) (tag : List ℕ) (ms : List Member) → LaidOut structs → AllComplete structs (map ty_in ms) →
     struct_size structs (map ty_in ms) ≤ largest → Ready structs (struct_with structs tag ms)
-body-ready structs tag ms all small =
-    let types = types-placed structs 0 ms in record {
+body-ready structs tag ms laid all small =
+    let tys = map ty_in ms in
+    let types = types-placed structs 0 ms in
+    let fits : struct_size structs tys ≤ greatest = le_trans small (lit≤ tt) in
+    let ends : end_of structs 0 tys ≤ greatest =
+    le_trans (round_up-reaches (end_of structs 0 tys) (struct_align structs tys) (struct_align-positive structs tys)) fits in
+    record {
       laid = record {
-        offsets = offsets-placed structs 0 ms ∙ ap (places structs 0) (sym types);
-        bytes = ap (struct_size structs) (sym types);
+        offsets = offsets-placed structs 0 ms ∙ places-within structs laid 0 tys ends ∙ ap (places structs 0) (sym types);
+        bytes = within greatest (struct_size structs tys) fits ∙ ap (struct_size structs) (sym types);
         align = ap (struct_align structs) (sym types);
       };
       all = subst (AllComplete structs) (sym types) all;
-      small = small;
+      small = not_more greatest (struct_size structs tys) largest small;
     }
 
 pub body_added : (s : List StructInfo) (k : ℕ) (tag : List ℕ) (ms : List Member) → complete_struct (slice_get s k) ≡ false →
@@ -106,5 +137,5 @@ body_added s k tag ms bare all small ready n info is =
     let more : Extends s t = get-set_other s k new bare in
     elim (from_set s k new n info is) [
       | inl there ↦ ready-kept s t more info (ready n info there)
-      | inr same ↦ subst (Ready t) same (ready-kept s t more new (body-ready s tag ms all small))
+      | inr same ↦ subst (Ready t) same (ready-kept s t more new (body-ready s tag ms (ready-laid_out s ready) all small))
     ]

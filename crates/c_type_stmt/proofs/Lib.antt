@@ -1,0 +1,10 @@
+pub mod DeclarationLaws
+pub mod StatementLaws
+pub mod InitialLaws
+pub mod ListLaws
+pub mod FirstBytesLaws
+pub mod ExpressionInitialLaws
+pub mod PlaceLaws
+pub mod FitLaws
+pub mod BraceLaws
+pub mod ScalarLaws

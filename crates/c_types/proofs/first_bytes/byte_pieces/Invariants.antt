@@ -1,7 +1,0 @@
-use Rattle.std.proofs.Common.{◌≡◌, take}
-use Rattle.c_types.specs.Initials.{byte_pieces}
-use Rattle.c_types.proofs.first_bytes.byte_pieces.Given as goal
-
--- the bytes passed have their pieces
-abbrev pub invariant-loop-i : goal.invariant-loop-i
-invariant-loop-i l = l.pieces ≡ byte_pieces 0 (take l.i l.kept)
