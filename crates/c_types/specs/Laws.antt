@@ -2,3 +2,4 @@ pub mod WellTypedLaws
 pub mod TableLaws
 pub mod PromiseLaws
 pub mod StandingLaws
+pub mod QuietLaws
