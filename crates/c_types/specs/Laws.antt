@@ -3,3 +3,4 @@ pub mod TableLaws
 pub mod PromiseLaws
 pub mod StandingLaws
 pub mod QuietLaws
+pub mod DeclaredObjects

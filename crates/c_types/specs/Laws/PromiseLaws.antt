@@ -32,11 +32,11 @@ use Rattle.c_types.specs.WellTyped.{WellTyped}
 use Rattle.c_type_base.specs.Laws.GrowthLaws.{AllComplete, none, some}
 use Rattle.c_types.specs.Laws.TableLaws.{AllReady, ready-laid_out, none_ready, tag_added, body_added}
 
-front : {A : Type 0} (a b : List A) → a ++ b ≡ [] → a ≡ []
+pub front : {A : Type 0} (a b : List A) → a ++ b ≡ [] → a ≡ []
 front [] b is = refl
 front (x ∷ xs) b is = absurd (cc)
 
-back : {A : Type 0} (a b : List A) → a ++ b ≡ [] → b ≡ []
+pub back : {A : Type 0} (a b : List A) → a ++ b ≡ [] → b ≡ []
 back [] b is = is
 back (x ∷ xs) b is = absurd (cc)
 
