@@ -4,3 +4,5 @@ pub mod PromiseLaws
 pub mod StandingLaws
 pub mod QuietLaws
 pub mod DeclaredObjects
+pub mod ByteLaws
+pub mod TypedObjects
