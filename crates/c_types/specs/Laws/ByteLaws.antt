@@ -1,5 +1,5 @@
 -- Structs with members have bytes, and so has each complete type; this stays so where a tag is added or gets its body.
-use Rattle.std.proofs.Common.{◌≡◌, refl, sym, ◌∙◌, subst, ℕ, zero, suc, ◌+◌, ◌*◌, ◌≤◌, ◌⊎◌, inl, inr, Bool, true, false, ◌&&◌, List, [], ◌∷◌}
+use Rattle.std.proofs.Common.{◌≡◌, refl, sym, ◌∙◌, subst, ℕ, zero, suc, ◌+◌, ◌*◌, ◌≤◌, inl, inr, Bool, true, false, ◌&&◌, List, [], ◌∷◌}
 use Rattle.std.proofs.Common.{◌++◌, map, slice_get, slice_set, Option, Some, None, arith, lit≤}
 use Rattle.std.specs.Prelude.{ltb, min, IsTrue}
 use Rattle.std.proofs.Math.Nat.{le_trans}
@@ -12,8 +12,8 @@ use Rattle.c_type_base.specs.Layout.{LaidOut, places, end_of, round_up, struct_a
 use Rattle.c_type_base.specs.Sizes.{size, align, is_complete, complete_struct, bytes_of_struct, has_members}
 use Rattle.c_type_base.specs.Laws.LayoutLaws.{int_bytes-positive, round_up-reaches, struct_align-positive, end_of-reaches}
 use Rattle.c_type_base.specs.Laws.SizeLaws.{size-int, size-pointer, size-array, size-struct, complete-void, complete-array, complete-struct}
-use Rattle.c_type_base.specs.Laws.GrowthLaws.{AllComplete, none, some}
-use Rattle.c_types.specs.Structs.{Member, ty_in, greatest, capped, with_places, struct_with, tag_alone}
+use Rattle.c_type_base.specs.Laws.GrowthLaws.{AllComplete, some}
+use Rattle.c_types.specs.Structs.{Member, ty_in, greatest, with_places, struct_with, tag_alone}
 use Rattle.c_types.specs.Laws.TableLaws.{from_appended, from_set}
 
 -- each struct of a table that has members has bytes (ISO C11 6.2.6.1 and 6.7.2.1)

@@ -1,23 +1,18 @@
 -- What is declared inside a function that breaks no rule: each local and each parameter has a type that an object may have.
-use Rattle.std.proofs.Common.{◌≡◌, refl, sym, ◌∙◌, ap, subst, ℕ, zero, suc, ◌≤◌, Bool, true, false, List, [], ◌∷◌, ◌++◌, map, slice_get}
-use Rattle.std.proofs.Common.{Option, Some, None, lit≤}
-use Rattle.std.specs.Prelude.{leb, ◌||◌}
+use Rattle.std.proofs.Common.{◌≡◌, refl, sym, subst, ℕ, zero, suc, Bool, false, List, [], ◌∷◌, ◌++◌, map, slice_get}
+use Rattle.std.proofs.Common.{Option, Some, None}
+use Rattle.std.specs.Prelude.{leb}
 use Rattle.std.proofs.lemmas.Bool.{leb-true}
 use Rattle.c_ast.specs.Laws.Opened.{given_trees}
 use Rattle.c_ast.specs.Tree.{StmtLayer, ItemLayer}
 use Rattle.c_ast.specs.declared.token.Span.{Span}
-use Rattle.c_ast.specs.declared.int_type.IntType.{IntType}
-use Rattle.c_ast.specs.declared.int_type.IntType.TheVariants as int
 use Rattle.c_ast.specs.declared.expr.Expr.{Expr}
 use Rattle.c_ast.specs.declared.declaration.Decl.{Decl}
 use Rattle.c_ast.specs.declared.statement.Stmt.{Stmt, roll-Stmt, map-Stmt}
 use Rattle.c_ast.specs.declared.statement.Item.{Item, roll-Item, map-Item}
 use Rattle.c_ast.specs.declared.statement.Item.TheOpen.{Item-F, Stmt-F}
-use Rattle.c_ast.specs.declared.statement.Item.TheFolds.{ind-Stmt, fold-Item, fold-roll-Item, fold-roll-Stmt}
-use Rattle.c_type_base.specs.declared.ty.Ty.{Ty, out-Ty, map-Ty}
-use Rattle.c_type_base.specs.declared.ty.Ty.TheOpen.{Ty-F}
-use Rattle.c_type_base.specs.declared.ty.Ty.TheFolds.{fold_out-Ty}
-use Rattle.c_type_base.specs.declared.expr.TExpr.{TExpr}
+use Rattle.c_ast.specs.declared.statement.Item.TheFolds.{ind-Stmt, fold-roll-Item, fold-roll-Stmt}
+use Rattle.c_type_base.specs.declared.ty.Ty.{Ty}
 use Rattle.c_type_base.specs.declared.statement.TItem.{TItem}
 use Rattle.c_type_base.specs.declared.statement.TItem.TheVariants as titem
 use Rattle.c_type_base.specs.declared.statement.TStmt.{TStmt}
@@ -25,21 +20,20 @@ use Rattle.c_type_base.specs.declared.statement.TStmt.TheVariants as tstmt
 use Rattle.c_type_base.specs.declared.typed.StructInfo.{StructInfo}
 use Rattle.c_type_base.specs.declared.typed.LocalInfo.{LocalInfo}
 use Rattle.c_type_base.specs.declared.known.Known.{Known}
-use Rattle.c_type_base.specs.declared.known.Written.{Written}
-use Rattle.c_type_base.specs.Sizes.{int_bytes, size, size_step, is_complete, largest, IsObject}
-use Rattle.c_type_base.specs.Types.{TyLayer, is_there, int_of_level, target_of_level, is_scalar, is_void}
-use Rattle.c_type_expr.specs.Faults.{Rule, rule, broken}
+use Rattle.c_type_base.specs.Sizes.{size, is_complete, largest, IsObject}
+use Rattle.c_type_base.specs.Types.{is_scalar}
+use Rattle.c_type_expr.specs.Faults.{rule, broken}
 use Rattle.c_type_expr.specs.Environment.{Env, opened}
 use Rattle.c_type_expr.specs.Outcomes.{Outcome, Judged, behind, joined, sure, both, each, perhaps, on, continued, ruled, option_map}
-use Rattle.c_type_expr.specs.Expressions.{written, judged_value}
+use Rattle.c_type_expr.specs.Expressions.{judged_value}
 use Rattle.c_type_stmt.specs.Declarations.{init_of, object_rules, initialised, local_info, declared_type, declares_local, is_new, tdecl, local}
 use Rattle.c_type_stmt.specs.Statements.{StmtSaid, stated, scoped, effect, condition, block, returned, return_row, if_row, for_row, judged_of}
 use Rattle.c_type_stmt.specs.Statements.{stmt_step, item_step, statement}
 use Rattle.c_type_stmt.specs.Laws.SaidLaws.{item_judged}
-use Rattle.c_types.specs.Functions.{adjusted, counted, parameter_rules, adjusted_in, is_new_parameter, declares_parameter, parameter}
-use Rattle.c_types.specs.Functions.{parameters}
 use Rattle.c_types.specs.Laws.PromiseLaws.{front, back, first-kept, rest-kept}
-use Rattle.c_types.specs.Laws.QuietLaws.{Quiet, both_quiet, on_quiet, value_quiet, written_quiet, declared_type_quiet, initialised_quiet}
+use Rattle.c_types.specs.Laws.QuietRows.{Quiet, on_quiet}
+use Rattle.c_types.specs.Laws.QuietLaws.{value_quiet}
+use Rattle.c_types.specs.Laws.QuietInits.{declared_type_quiet, initialised_quiet}
 
 -- so it is for each of a list, by its number
 abbrev pub Every : {A : Type 0} → (A → Type 0) → List A → Type 0
@@ -70,14 +64,14 @@ Declares p = (env : Env) → (p env).faults ≡ [] → AreObjects env.structs (p
 
 -- ---- parts
 
-pub none_declared : (structs : List StructInfo) (ls : List LocalInfo) → ls ≡ [] → AreObjects structs ls
+none_declared : (structs : List StructInfo) (ls : List LocalInfo) → ls ≡ [] → AreObjects structs ls
 none_declared structs [] none = every_none (object_in structs)
 none_declared structs (l ∷ ls) none = absurd (cc)
 
 pub quiet_declares : {A : Type 0} (p : Judged A) → Quiet p → Declares p
 quiet_declares p quiet env is = none_declared env.structs (p env).locals (quiet env)
 
-joined_objects : {A B : Type 0} (structs : List StructInfo) (a : Outcome A) (b : Outcome B) →
+pub joined_objects : {A B : Type 0} (structs : List StructInfo) (a : Outcome A) (b : Outcome B) →
     (a.faults ≡ [] → AreObjects structs a.locals) → (b.faults ≡ [] → AreObjects structs b.locals) → a.faults ++ b.faults ≡ [] →
     AreObjects structs (a.locals ++ b.locals)
 joined_objects structs a b first next is =
@@ -91,7 +85,7 @@ pub data AllDeclare {A : Type 0} : List (Judged A) → Type 0 where
   none : AllDeclare []
   some : {p : Judged A} {ps : List (Judged A)} → Declares p → AllDeclare ps → AllDeclare (p ∷ ps)
 
-each_declares : {A : Type 0} (ps : List (Judged A)) → AllDeclare ps → Declares (each ps)
+pub each_declares : {A : Type 0} (ps : List (Judged A)) → AllDeclare ps → Declares (each ps)
 each_declares [] none = λ env is. every_none (object_in env.structs)
 each_declares (p ∷ ps) (some one all) = λ env.
     joined_objects env.structs (p env) (each ps (behind (p env) env)) (one env) (each_declares ps all (behind (p env) env))
@@ -288,63 +282,3 @@ statement_declares = ind-Stmt (λ i. Declares (item_judged i)) (λ s. StmtDeclar
 -- the locals of a body are objects
 pub body_declares : (s : Stmt) → Declares (statement s).body
 body_declares s = (statement_declares s).body
-
--- ---- parameters
-
-int_small : (t : IntType) → int_bytes t ≤ largest
-int_small int.Char = lit≤ tt
-int_small int.SignedChar = lit≤ tt
-int_small int.UnsignedChar = lit≤ tt
-int_small int.Short = lit≤ tt
-int_small int.UShort = lit≤ tt
-int_small int.Int = lit≤ tt
-int_small int.UInt = lit≤ tt
-int_small int.Long = lit≤ tt
-int_small int.ULong = lit≤ tt
-
-scalar_level : (structs : List StructInfo) (y : TyLayer) → (is_there (int_of_level y) || is_there (target_of_level y)) ≡ true →
-    size_step structs (map-Ty Ty ℕ (size structs) y) ≤ largest
-scalar_level structs Ty-F.Void is = absurd (cc)
-scalar_level structs (Ty-F.Int t) is = int_small t
-scalar_level structs (Ty-F.Pointer t) is = lit≤ tt
-scalar_level structs (Ty-F.Array t n) is = absurd (cc)
-scalar_level structs (Ty-F.Struct n) is = absurd (cc)
-
--- a scalar has at most 8 bytes
-scalar_small : (structs : List StructInfo) (t : Ty) → is_scalar t ≡ true → size structs t ≤ largest
-scalar_small structs t is =
-    subst (λ n. n ≤ largest) (sym (fold_out-Ty ℕ (size_step structs) t)) (scalar_level structs (out-Ty t) is)
-
-parameter_kept : (structs : List StructInfo) (span : Span) (w : Written) → broken span (parameter_rules structs (Some w)) ≡ [] →
-    IsObject structs (adjusted w)
-parameter_kept structs span w is =
-    let small = rule 17 (leb (size structs (counted w)) largest) ∷ [] in
-    let complete = rule 15 (is_complete structs (adjusted w)) ∷ small in
-    record {
-      complete = first-kept span 15 (is_complete structs (adjusted w)) small (rest-kept span 12 (is_scalar (adjusted w)) complete is);
-      small = scalar_small structs (adjusted w) (first-kept span 12 (is_scalar (adjusted w)) complete is);
-    }
-
-parameter_objects : (structs : List StructInfo) (name : List ℕ) (span : Span) (new : Bool) (w : Option Written) →
-    broken span (rule 10 new ∷ parameter_rules structs w) ≡ [] → AreObjects structs (local_info name span (adjusted_in w))
-parameter_objects structs name span new None is = every_none (object_in structs)
-parameter_objects structs name span new (Some w) is =
-    every_one (object_in structs) (record { name = name; ty = adjusted w; span = span })
-    (parameter_kept structs span w (rest-kept span 10 new (parameter_rules structs (Some w)) is))
-
-parameter_declares : (defines : Bool) (d : Decl) → Declares (parameter defines d)
-parameter_declares defines d env =
-    let w = written d.ty d.span env in
-    let here = behind w env in
-    joined_objects env.structs w (declares_parameter defines d w.known here)
-    (quiet_declares (written d.ty d.span) (written_quiet d.ty d.span) env)
-    (parameter_objects env.structs d.name d.span (is_new_parameter defines here d.name) w.known)
-
-each_parameter : (defines : Bool) (ds : List Decl) → AllDeclare (map (parameter defines) ds)
-each_parameter defines [] = none
-each_parameter defines (d ∷ ds) = some (parameter_declares defines d) (each_parameter defines ds)
-
--- parameters are objects
-pub parameters_declare : (defines : Bool) (ds : List Decl) → Declares (parameters defines ds)
-parameters_declare defines ds env =
-    each_declares (map (parameter defines) ds) (each_parameter defines ds) (opened env)

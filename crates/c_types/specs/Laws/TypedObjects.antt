@@ -1,8 +1,8 @@
 -- What a program that keeps its rules promises of its functions: each parameter and local has a type that an object may have, by the
 -- table of all structs. And each of its structs that has members has bytes.
-use Rattle.std.proofs.Common.{◌≡◌, refl, sym, ◌∙◌, ap, subst, ℕ, ◌≤◌, Bool, true, false, List, [], ◌∷◌, ◌++◌, map, slice_get, slice_set, suc}
+use Rattle.std.proofs.Common.{◌≡◌, refl, sym, subst, ℕ, ◌≤◌, Bool, true, false, List, [], ◌∷◌, ◌++◌, map, slice_get, slice_set, suc}
 use Rattle.std.proofs.Common.{length, Option, Some, None}
-use Rattle.std.specs.Prelude.{leb, IsTrue, flat_map, if◌then◌else◌}
+use Rattle.std.specs.Prelude.{leb, IsTrue, if◌then◌else◌}
 use Rattle.std.specs.List.{find}
 use Rattle.std.specs.Str.{bytes_eq}
 use Rattle.c_ast.specs.declared.declaration.Decl.{Decl}
@@ -19,7 +19,7 @@ use Rattle.c_type_base.specs.declared.typed.Typed.{Typed}
 use Rattle.c_type_base.specs.declared.typed.StructInfo.{StructInfo}
 use Rattle.c_type_base.specs.declared.typed.LocalInfo.{LocalInfo}
 use Rattle.c_type_base.specs.declared.typed.TFunction.{TFunction}
-use Rattle.c_type_base.specs.Sizes.{size, complete_struct, has_members, largest, IsObject}
+use Rattle.c_type_base.specs.Sizes.{has_members, largest, IsObject}
 use Rattle.c_type_base.specs.Layout.{struct_size}
 use Rattle.c_type_base.specs.Types.{is_there}
 use Rattle.c_type_base.specs.Laws.GrowthLaws.{Extends, complete-kept}
@@ -29,18 +29,18 @@ use Rattle.c_type_expr.specs.Outcomes.{Outcome}
 use Rattle.c_type_stmt.specs.Declarations.{no}
 use Rattle.c_type_stmt.specs.Statements.{statement}
 use Rattle.c_types.specs.Files.{FileNames, file_names}
-use Rattle.c_types.specs.Functions.{parameters, result_type}
-use Rattle.c_types.specs.Ordered.{option_list, by_names, functions_by}
+use Rattle.c_types.specs.Functions.{result_type}
+use Rattle.c_types.specs.Ordered.{option_list, by_names}
 use Rattle.c_types.specs.Structs.{ty_in, members, struct_with, tag_alone, has_body, body_rules}
 use Rattle.c_types.specs.Units.{Judgement, start, with_tag, known_members, with_body, with_members, struct_judged, object_judged}
 use Rattle.c_types.specs.Units.{objects_judged, function_of, with_function, parameters_in, head_judged, function_judged, part_judged}
 use Rattle.c_types.specs.Units.{parts_judged}
 use Rattle.c_types.specs.WellTyped.{WellTyped}
-use Rattle.c_types.specs.Laws.TableLaws.{AllReady, ready-laid_out, none_ready, get-appended, get-set_other}
+use Rattle.c_types.specs.Laws.TableLaws.{ready-laid_out, none_ready, get-appended, get-set_other}
 use Rattle.c_types.specs.Laws.PromiseLaws.{Good, front, back, first-kept, open-struct, members-complete, tag-good, part-good}
 use Rattle.c_types.specs.Laws.ByteLaws.{HaveBytes, none_have, tag_has, body_has}
 use Rattle.c_types.specs.Laws.DeclaredObjects.{Every, every_none, every_one, every_append, AreObjects, object_in, body_declares}
-use Rattle.c_types.specs.Laws.DeclaredObjects.{parameters_declare}
+use Rattle.c_types.specs.Laws.ParameterObjects.{parameters_declare}
 
 -- so it is for the locals of each function
 abbrev HaveObjects : List StructInfo → List TFunction → Type 0
