@@ -11,7 +11,8 @@ use Rattle.c_type_base.specs.declared.typed.StructInfo.{StructInfo}
 use Rattle.c_type_base.specs.Layout.{LaidOut, places, end_of, round_up, struct_align, struct_size}
 use Rattle.c_type_base.specs.Sizes.{size, align, is_complete, complete_struct, bytes_of_struct, has_members}
 use Rattle.c_type_base.specs.Laws.LayoutLaws.{int_bytes-positive, round_up-reaches, struct_align-positive, end_of-reaches}
-use Rattle.c_type_base.specs.Laws.SizeLaws.{size-int, size-pointer, size-array, size-struct, complete-void, complete-array, complete-struct}
+use Rattle.c_type_base.specs.Laws.SizeLaws.{size-int, size-pointer, size-array, size-struct, complete-void, complete-array}
+use Rattle.c_type_base.specs.Laws.SizeLaws.{complete-struct}
 use Rattle.c_type_base.specs.Laws.GrowthLaws.{AllComplete, some}
 use Rattle.c_types.specs.Structs.{Member, ty_in, greatest, with_places, struct_with, tag_alone}
 use Rattle.c_types.specs.Laws.TableLaws.{from_appended, from_set}

@@ -1,6 +1,5 @@
--- What is declared inside a function that breaks no rule: each local and each parameter has a type that an object may have.
-use Rattle.std.proofs.Common.{◌≡◌, refl, sym, subst, ℕ, zero, suc, Bool, false, List, [], ◌∷◌, ◌++◌, map, slice_get}
-use Rattle.std.proofs.Common.{Option, Some, None}
+-- What is declared in a body that breaks no rule: each local has a type that an object may have.
+use Rattle.std.proofs.Common.{◌≡◌, refl, sym, subst, ℕ, zero, suc, Bool, false, List, [], ◌∷◌, ◌++◌, map, slice_get, Option, Some, None}
 use Rattle.std.specs.Prelude.{leb}
 use Rattle.std.proofs.lemmas.Bool.{leb-true}
 use Rattle.c_ast.specs.Laws.Opened.{given_trees}
@@ -26,16 +25,17 @@ use Rattle.c_type_expr.specs.Faults.{rule, broken}
 use Rattle.c_type_expr.specs.Environment.{Env, opened}
 use Rattle.c_type_expr.specs.Outcomes.{Outcome, Judged, behind, joined, sure, both, each, perhaps, on, continued, ruled, option_map}
 use Rattle.c_type_expr.specs.Expressions.{judged_value}
-use Rattle.c_type_stmt.specs.Declarations.{init_of, object_rules, initialised, local_info, declared_type, declares_local, is_new, tdecl, local}
-use Rattle.c_type_stmt.specs.Statements.{StmtSaid, stated, scoped, effect, condition, block, returned, return_row, if_row, for_row, judged_of}
-use Rattle.c_type_stmt.specs.Statements.{stmt_step, item_step, statement}
+use Rattle.c_type_stmt.specs.Declarations.{init_of, object_rules, initialised, local_info, declared_type, declares_local, is_new, tdecl}
+use Rattle.c_type_stmt.specs.Declarations.{local}
+use Rattle.c_type_stmt.specs.Statements.{StmtSaid, stated, scoped, effect, condition, block, returned, return_row, if_row, for_row}
+use Rattle.c_type_stmt.specs.Statements.{judged_of, stmt_step, item_step, statement}
 use Rattle.c_type_stmt.specs.Laws.SaidLaws.{item_judged}
 use Rattle.c_types.specs.Laws.PromiseLaws.{front, back, first-kept, rest-kept}
 use Rattle.c_types.specs.Laws.QuietRows.{Quiet, on_quiet}
 use Rattle.c_types.specs.Laws.QuietLaws.{value_quiet}
 use Rattle.c_types.specs.Laws.QuietInits.{declared_type_quiet, initialised_quiet}
 
--- so it is for each of a list, by its number
+-- so it is for each element of a list
 abbrev pub Every : {A : Type 0} → (A → Type 0) → List A → Type 0
 Every P xs = (k : ℕ) (x : _) → slice_get xs k ≡ Some x → P x
 
@@ -65,8 +65,8 @@ Declares p = (env : Env) → (p env).faults ≡ [] → AreObjects env.structs (p
 -- ---- parts
 
 none_declared : (structs : List StructInfo) (ls : List LocalInfo) → ls ≡ [] → AreObjects structs ls
-none_declared structs [] none = every_none (object_in structs)
-none_declared structs (l ∷ ls) none = absurd (cc)
+none_declared structs [] empty = every_none (object_in structs)
+none_declared structs (l ∷ ls) empty = absurd (cc)
 
 pub quiet_declares : {A : Type 0} (p : Judged A) → Quiet p → Declares p
 quiet_declares p quiet env is = none_declared env.structs (p env).locals (quiet env)

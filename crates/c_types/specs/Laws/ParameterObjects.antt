@@ -1,6 +1,5 @@
 -- Each parameter of a function that breaks no rule has a type that an object may have: it is a scalar.
-use Rattle.std.proofs.Common.{◌≡◌, sym, subst, ℕ, ◌≤◌, Bool, true, List, [], ◌∷◌, map}
-use Rattle.std.proofs.Common.{Option, Some, None, lit≤}
+use Rattle.std.proofs.Common.{◌≡◌, sym, subst, ℕ, ◌≤◌, Bool, true, List, [], ◌∷◌, map, Option, Some, None, lit≤}
 use Rattle.std.specs.Prelude.{leb, ◌||◌}
 use Rattle.c_ast.specs.declared.token.Span.{Span}
 use Rattle.c_ast.specs.declared.int_type.IntType.{IntType}
@@ -22,7 +21,8 @@ use Rattle.c_types.specs.Functions.{adjusted, counted, parameter_rules, adjusted
 use Rattle.c_types.specs.Functions.{parameters}
 use Rattle.c_types.specs.Laws.PromiseLaws.{first-kept, rest-kept}
 use Rattle.c_types.specs.Laws.QuietLaws.{written_quiet}
-use Rattle.c_types.specs.Laws.DeclaredObjects.{AreObjects, object_in, Declares, AllDeclare, none, some, every_none, every_one, joined_objects, quiet_declares, each_declares}
+use Rattle.c_types.specs.Laws.DeclaredObjects.{AreObjects, object_in, Declares, AllDeclare, none, some, every_none, every_one}
+use Rattle.c_types.specs.Laws.DeclaredObjects.{joined_objects, quiet_declares, each_declares}
 
 int_small : (t : IntType) → int_bytes t ≤ largest
 int_small int.Char = lit≤ tt
@@ -43,7 +43,7 @@ scalar_level structs (Ty-F.Pointer t) is = lit≤ tt
 scalar_level structs (Ty-F.Array t n) is = absurd (cc)
 scalar_level structs (Ty-F.Struct n) is = absurd (cc)
 
--- a scalar has at most 8 bytes
+-- a scalar is small enough
 scalar_small : (structs : List StructInfo) (t : Ty) → is_scalar t ≡ true → size structs t ≤ largest
 scalar_small structs t is =
     subst (λ n. n ≤ largest) (sym (fold_out-Ty ℕ (size_step structs) t)) (scalar_level structs (out-Ty t) is)

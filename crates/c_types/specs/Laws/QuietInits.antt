@@ -25,15 +25,13 @@ use Rattle.c_type_base.specs.Layout.{first_scalar}
 use Rattle.c_type_base.specs.Sizes.{is_complete}
 use Rattle.c_type_base.specs.Types.{TyLayer, is_char_type, is_struct}
 use Rattle.c_type_base.specs.declared.ty.Ty.TheVariants as ty
-use Rattle.c_type_expr.specs.Outcomes.{Outcome, Judged, sure, both, each, on, asked, ruled}
-use Rattle.c_type_expr.specs.Outcomes.{not_known, option_map}
+use Rattle.c_type_expr.specs.Outcomes.{Outcome, Judged, sure, both, each, on, asked, ruled, not_known, option_map}
 use Rattle.c_type_expr.specs.Faults.{rule}
 use Rattle.c_type_expr.specs.Operators.{breaks}
 use Rattle.c_type_expr.specs.Said.{Said}
 use Rattle.c_type_expr.specs.Expressions.{expression, written}
-use Rattle.c_types.specs.Laws.QuietRows.{Quiet, both_quiet, AllQuiet, each_quiet, on_quiet, either_quiet}
+use Rattle.c_types.specs.Laws.QuietRows.{Quiet, both_quiet, AllQuiet, each_quiet, on_quiet, either_quiet, none, some}
 use Rattle.c_types.specs.Laws.QuietLaws.{expression_quiet, written_quiet}
-use Rattle.c_types.specs.Laws.QuietRows.{none, some}
 
 text_quiet : (span : Span) (e : Judged Known) (text : Option (List ℕ)) (char : Bool) (n : ℕ) → Quiet e →
     Quiet (array_by span e text char n)
@@ -52,6 +50,7 @@ pub record InitQuiet (i : InitSaid) : Type 0 where
   pub loose : Quiet i.loose
   pub fitted : (from_start : Bool) (t : Ty) → Quiet (i.fitted from_start t)
 
+-- so it is for each of a list
 data AllInits : List InitSaid → Type 0 where
   empty : AllInits []
   more : {i : InitSaid} {is : List InitSaid} → InitQuiet i → AllInits is → AllInits (i ∷ is)
@@ -95,7 +94,7 @@ fit_quiet : (slot : ℕ → Option Slot) (from_start : Bool) (k : ℕ) (is : Lis
 fit_quiet slot from_start k [] all = λ env. refl
 fit_quiet slot from_start k (i ∷ is) (more one all) =
     let rest = fit_all slot from_start (k + 1) is in
-    elim (slot k) as (λ o. Quiet (elim o [ | None ↦ spare i is | Some s ↦ placed from_start s i rest ])) [
+    elim (slot k) as (λ o. Quiet (elim o [ None ↦ spare i is | Some s ↦ placed from_start s i rest ])) [
       | None ↦ spare_quiet i is one all
       | Some s ↦ placed_quiet from_start s i rest one (fit_quiet slot from_start (k + 1) is all)
     ]
@@ -166,8 +165,9 @@ fits_quiet : (from_start : Bool) (t : Option Ty) (i : InitSaid) → InitQuiet i 
 fits_quiet from_start None i quiet = on_quiet i.loose (λ x. not_known) quiet.loose (λ v env. refl)
 fits_quiet from_start (Some t) i quiet = quiet.fitted from_start t
 
-pub initialised_quiet : (from_start : Bool) (t : Option Ty) (i : Option Init) → Quiet (initialised from_start t (option_map initialiser i))
+pub initialised_quiet : (from_start : Bool) (t : Option Ty) (i : Option Init) →
+    Quiet (initialised from_start t (option_map initialiser i))
 initialised_quiet from_start t None = λ env. refl
 initialised_quiet from_start t (Some i) =
-    on_quiet (fits_object from_start t (initialiser i)) (λ f. sure (Some f)) (fits_quiet from_start t (initialiser i) (initialiser_quiet i))
-    (λ f env. refl)
+    on_quiet (fits_object from_start t (initialiser i)) (λ f. sure (Some f))
+    (fits_quiet from_start t (initialiser i) (initialiser_quiet i)) (λ f env. refl)

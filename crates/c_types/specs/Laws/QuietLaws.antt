@@ -5,8 +5,7 @@ use Rattle.c_ast.specs.Laws.Opened.{given_trees}
 use Rattle.c_ast.specs.declared.token.Span.{Span}
 use Rattle.c_ast.specs.declared.expr.CType.{CType, roll-CType, map-CType}
 use Rattle.c_ast.specs.declared.expr.CType.TheOpen.{CType-F, Node-F, Expr-F}
-use Rattle.c_ast.specs.declared.expr.CType.TheFolds.{ind-CType, ind-Expr, fold-Node, fold-roll-Node}
-use Rattle.c_ast.specs.declared.expr.CType.TheFolds.{fold_out-Expr}
+use Rattle.c_ast.specs.declared.expr.CType.TheFolds.{ind-CType, ind-Expr, fold-Node, fold-roll-Node, fold_out-Expr}
 use Rattle.c_ast.specs.declared.expr.Expr.{Expr, roll-Expr, map-Expr}
 use Rattle.c_ast.specs.declared.expr.Node.{Node, roll-Node, map-Node}
 use Rattle.c_type_base.specs.declared.known.Known.{Known}
@@ -15,22 +14,17 @@ use Rattle.c_type_base.specs.Known.{value}
 use Rattle.c_type_base.specs.Types.{struct_of, target_of}
 use Rattle.c_type_expr.specs.Environment.{in_scopes, tag_number}
 use Rattle.c_type_expr.specs.Outcomes.{Judged, sure, both, each, on}
-use Rattle.c_type_expr.specs.Operators.{sort_of}
-use Rattle.c_type_expr.specs.Operators.{binary_judged}
-use Rattle.c_type_expr.specs.Operators.{cond_judged}
-use Rattle.c_type_expr.specs.Said.{Said, NodeSaid, pointer_to, judged_length, array_of, type_step, whole}
-use Rattle.c_type_expr.specs.Said.{meaning_of}
-use Rattle.c_type_expr.specs.Postfix.{member_row}
-use Rattle.c_type_expr.specs.Postfix.{struct_pointed, function_in, meaning_by, argument, call}
+use Rattle.c_type_expr.specs.Operators.{sort_of, binary_judged, cond_judged}
+use Rattle.c_type_expr.specs.Said.{Said, NodeSaid, pointer_to, judged_length, array_of, type_step, whole, meaning_of}
+use Rattle.c_type_expr.specs.Postfix.{member_row, struct_pointed, function_in, meaning_by, argument, call}
 use Rattle.c_type_expr.specs.Laws.SaidLaws.{written-void, written-int, written-struct, written-pointer, written-array, written-open}
-use Rattle.c_type_expr.specs.Expressions.{in_parentheses, sizeof_row, sizeof_type, cast_row, unary_row, assign_row}
-use Rattle.c_type_expr.specs.Expressions.{step_row, conditional, cast_judged, index_of}
-use Rattle.c_type_expr.specs.Expressions.{arrow_of, node_step, expr_step, expression, written, judged_value}
+use Rattle.c_type_expr.specs.Expressions.{in_parentheses, sizeof_row, sizeof_type, cast_row, unary_row, assign_row, step_row, conditional}
+use Rattle.c_type_expr.specs.Expressions.{cast_judged, index_of, arrow_of, node_step, expr_step, expression, written, judged_value}
 use Rattle.c_types.specs.Laws.QuietRows.{Quiet, both_quiet, AllQuiet, each_quiet, on_quiet, binary_quiet, cond_quiet, unary_quiet}
 use Rattle.c_types.specs.Laws.QuietRows.{assign_quiet, step_quiet, index_quiet, member_quiet, arrow_quiet, name_quiet, call_by_quiet}
-use Rattle.c_types.specs.Laws.QuietRows.{pointer_quiet, array_quiet, tag_quiet, whole_quiet, length_quiet}
-use Rattle.c_types.specs.Laws.QuietRows.{none, some}
+use Rattle.c_types.specs.Laws.QuietRows.{pointer_quiet, array_quiet, tag_quiet, whole_quiet, length_quiet, none, some}
 
+-- what is said of a node, which has no span
 abbrev node_said : Node → NodeSaid
 node_said = fold-Node (Span → Judged Written) NodeSaid Said type_step node_step expr_step
 
@@ -61,15 +55,13 @@ nodes_with = map-Node TypeWith NodeWith ExprWith CType Node Expr (λ e. e.0) (λ
 exprs_with : Expr-F TypeWith NodeWith ExprWith → Expr-F CType Node Expr
 exprs_with = map-Expr TypeWith NodeWith ExprWith CType Node Expr (λ e. e.0) (λ e. e.0) (λ e. e.0)
 
--- by what one level says
+-- by what is said of one level
 type_by : (d : TypeLayer) (s : CType-F (Span → Judged Written) NodeSaid Said) → written (roll-CType d) ≡ type_step s →
     ((span : Span) → Quiet (type_step s span)) → TypeQuiet (roll-CType d)
 type_by d s is quiet span = subst (λ (w : Span → Judged Written). Quiet (w span)) (sym is) (quiet span)
 
--- those of a level
 abbrev said_at : NodeLayer → NodeSaid
-said_at d =
-    node_step (map-Node CType Node Expr (Span → Judged Written) NodeSaid Said written node_said expression d)
+said_at d = node_step (map-Node CType Node Expr (Span → Judged Written) NodeSaid Said written node_said expression d)
 
 level : (d : NodeLayer) → ((span : Span) → Quiet ((said_at d).judged span)) → NodeQuiet (roll-Node d)
 level d quiet span =
@@ -91,9 +83,6 @@ type_row (CType-F.Array t (Some e)) =
     (λ span. on_quiet (both (judged_length (expression e.0)) (written t.0 span)) (λ (n, element). array_of span (Some n) element)
     (both_quiet (judged_length (expression e.0)) (written t.0 span) (length_quiet (expression e.0) e.1) (t.1 span))
     (λ v. array_quiet span (Some v.0) v.1))
-
-said_in : ExprWith → Said
-said_in e = expression e.0
 
 arguments_quiet : (es : List ExprWith) → AllQuiet (map argument (map expression (map (λ e. e.0) es)))
 arguments_quiet [] = none

@@ -27,12 +27,10 @@ use Rattle.c_type_expr.specs.Outcomes.{Outcome, Judged, behind, both, each, on, 
 use Rattle.c_type_expr.specs.Faults.{rule}
 use Rattle.c_type_expr.specs.Operators.{Sort, Integer, Points, Neither, sort_of, arithmetic, sum, difference, shift, ordering, equality}
 use Rattle.c_type_expr.specs.Operators.{logical, binary_row, signed_row, not_row, arms_of_void, arms, cond_row}
-use Rattle.c_type_expr.specs.Said.{Said, pointer_to, judged_length, length_known, array_of, tag_of, whole}
-use Rattle.c_type_expr.specs.Said.{name_row}
+use Rattle.c_type_expr.specs.Said.{Said, pointer_to, judged_length, length_known, array_of, tag_of, whole, name_row}
 use Rattle.c_type_expr.specs.Postfix.{index_row, member_found, member_number, member_at, member_in, member_row, arrow_found, arrow_in}
 use Rattle.c_type_expr.specs.Postfix.{arrow_row, call_row, not_called_row, call_by}
-use Rattle.c_type_expr.specs.Expressions.{target_row, unary_row, compound_row, assign_row}
-use Rattle.c_type_expr.specs.Expressions.{step_row}
+use Rattle.c_type_expr.specs.Expressions.{target_row, unary_row, compound_row, assign_row, step_row}
 
 -- it declares no local, wherever it stands
 abbrev pub Quiet : {A : Type 0} → Judged A → Type 0
