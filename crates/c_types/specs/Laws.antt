@@ -2,3 +2,10 @@ pub mod WellTypedLaws
 pub mod TableLaws
 pub mod PromiseLaws
 pub mod StandingLaws
+pub mod QuietRows
+pub mod QuietLaws
+pub mod QuietInits
+pub mod DeclaredObjects
+pub mod ParameterObjects
+pub mod ByteLaws
+pub mod TypedObjects

@@ -32,11 +32,11 @@ use Rattle.c_types.specs.WellTyped.{WellTyped}
 use Rattle.c_type_base.specs.Laws.GrowthLaws.{AllComplete, none, some}
 use Rattle.c_types.specs.Laws.TableLaws.{AllReady, ready-laid_out, none_ready, tag_added, body_added}
 
-front : {A : Type 0} (a b : List A) → a ++ b ≡ [] → a ≡ []
+pub front : {A : Type 0} (a b : List A) → a ++ b ≡ [] → a ≡ []
 front [] b is = refl
 front (x ∷ xs) b is = absurd (cc)
 
-back : {A : Type 0} (a b : List A) → a ++ b ≡ [] → b ≡ []
+pub back : {A : Type 0} (a b : List A) → a ++ b ≡ [] → b ≡ []
 back [] b is = is
 back (x ∷ xs) b is = absurd (cc)
 
@@ -62,7 +62,7 @@ member-complete structs span b name (Some t) (Some ms) is all =
     some (first-kept span 15 (is_complete structs t) (rule 17 (leb (size structs t) largest) ∷ []) (rest-kept span 10 b
     (object_rules structs (Some t)) is)) all
 
-members-complete : (seen : List (List ℕ)) (ds : List Decl) (env : Env) → (members seen ds env).faults ≡ [] →
+pub members-complete : (seen : List (List ℕ)) (ds : List Decl) (env : Env) → (members seen ds env).faults ≡ [] →
     AllComplete env.structs (map ty_in (known_members (members seen ds env).known))
 members-complete seen [] env is = none
 members-complete seen (d ∷ ds) env is =
@@ -78,14 +78,14 @@ members-complete seen (d ∷ ds) env is =
 -- ---- parts
 
 -- where no rule is broken so far, the structs are ready
-abbrev Good : Judgement → Type 0
+abbrev pub Good : Judgement → Type 0
 Good j = j.faults ≡ [] → AllReady j.env.structs
 
-tag-good : (j : Judgement) (tag : List ℕ) (o : Option ℕ) → Good j → Good (with_tag j tag o)
+pub tag-good : (j : Judgement) (tag : List ℕ) (o : Option ℕ) → Good j → Good (with_tag j tag o)
 tag-good j tag (Some n) good = good
 tag-good j tag None good = λ is. tag_added j.env.structs tag (good is)
 
-open-struct : (o : Option StructInfo) → no (has_body o) ≡ true → complete_struct o ≡ false
+pub open-struct : (o : Option StructInfo) → no (has_body o) ≡ true → complete_struct o ≡ false
 open-struct None is = refl
 open-struct (Some info) is = elim info.members as (λ ms. no (has_members ms) ≡ true → has_members ms ≡ false) [
   | [] ↦ λ is. refl
@@ -133,7 +133,7 @@ function-good names j f good =
     with_function-good _ f _ (parameters (is_there f.body) f.params (with_outcome j (result_type f j.env)).env) f.body (λ is. good
     (front j.faults _ (front _ _ (front _ _ (front _ [] is)))))
 
-part-good : (names : FileNames) (j : Judgement) (e : External) → Good j → Good (part_judged names j e)
+pub part-good : (names : FileNames) (j : Judgement) (e : External) → Good j → Good (part_judged names j e)
 part-good names j external.Include good = λ is. good (front j.faults [] is)
 part-good names j (external.Struct d) good = struct-good j d good
 part-good names j (external.Objects c ds) good = objects-good names c j ds good

@@ -36,13 +36,13 @@ none_ready number info is = absurd (cc)
 
 -- ---- a tag is added
 
-get-appended : (s : List StructInfo) (new : StructInfo) (n : ℕ) → complete_struct (slice_get s n) ≡ true → slice_get (s ++ new ∷
+pub get-appended : (s : List StructInfo) (new : StructInfo) (n : ℕ) → complete_struct (slice_get s n) ≡ true → slice_get (s ++ new ∷
     []) n ≡ slice_get s n
 get-appended [] new n is = absurd (cc)
 get-appended (x ∷ xs) new zero is = refl
 get-appended (x ∷ xs) new (suc n) is = get-appended xs new n is
 
-from_appended : (s : List StructInfo) (new : StructInfo) (n : ℕ) (info : StructInfo) → slice_get (s ++ new ∷ []) n ≡ Some info →
+pub from_appended : (s : List StructInfo) (new : StructInfo) (n : ℕ) (info : StructInfo) → slice_get (s ++ new ∷ []) n ≡ Some info →
     (slice_get s n ≡ Some info) ⊎ (new ≡ info)
 from_appended [] new zero info is = inr (cc)
 from_appended [] new (suc n) info is = absurd (cc)
@@ -61,7 +61,7 @@ tag_added s tag ready n info is =
 
 -- ---- a tag gets its body
 
-get-set_other : (s : List StructInfo) (k : ℕ) (new : StructInfo) → complete_struct (slice_get s k) ≡ false →
+pub get-set_other : (s : List StructInfo) (k : ℕ) (new : StructInfo) → complete_struct (slice_get s k) ≡ false →
     (n : ℕ) → complete_struct (slice_get s n) ≡ true → slice_get (slice_set s k new) n ≡ slice_get s n
 get-set_other [] k new bare n is = absurd (cc)
 get-set_other (x ∷ xs) zero new bare zero is = absurd (cc)
@@ -69,7 +69,7 @@ get-set_other (x ∷ xs) zero new bare (suc n) is = refl
 get-set_other (x ∷ xs) (suc k) new bare zero is = refl
 get-set_other (x ∷ xs) (suc k) new bare (suc n) is = get-set_other xs k new bare n is
 
-from_set : (s : List StructInfo) (k : ℕ) (new : StructInfo) (n : ℕ) (info : StructInfo) → slice_get (slice_set s k new) n ≡ Some info →
+pub from_set : (s : List StructInfo) (k : ℕ) (new : StructInfo) (n : ℕ) (info : StructInfo) → slice_get (slice_set s k new) n ≡ Some info →
     (slice_get s n ≡ Some info) ⊎ (new ≡ info)
 from_set [] k new n info is = inl is
 from_set (x ∷ xs) zero new zero info is = inr (cc)
