@@ -1,6 +1,6 @@
 -- The first fault of conditions that a loop goes through.
 use Rattle.std.proofs.Common.{◌≡◌, ℕ, ◌+◌, Bool, true, false, List, [], ◌∷◌, ◌++◌, length, drop, sym, ap, subst, ◌∙◌, Option, Some, None}
-use Rattle.std.specs.Prelude.{Result, MatchResult, ◌&&◌, slice_get, if◌then◌else◌}
+use Rattle.std.specs.Prelude.{Result, MatchResult, ◌&&◌, slice_get}
 use Rattle.mt_base.specs.Granules.{round16}
 use Rattle.elf_base.specs.Index.{told_index}
 use Rattle.elf_base.specs.Laws.Conditions.{holds_is, fails_is}

@@ -1,5 +1,5 @@
 -- Conditions in order, each with the fault that it is where it fails.
-use Rattle.std.specs.Prelude.{◌≡◌, ℕ, Bool, List, [], ◌∷◌, length, take, drop, Some, None, Result, MatchResult, if◌then◌else◌}
+use Rattle.std.specs.Prelude.{◌≡◌, ℕ, Bool, List, length, take, drop, Some, None, Result, MatchResult}
 use Rattle.std.specs.Str.{bytes_eq}
 use Rattle.elf_base.specs.Field.{Field, bytes_of}
 use Rattle.elf_base.specs.Conditions.{Condition, first_fault}

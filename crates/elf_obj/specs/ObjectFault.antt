@@ -1,5 +1,5 @@
 -- What is wrong with bytes that are the file of no object: the first condition that fails, and its place.
-use Rattle.std.specs.Prelude.{◌≡◌, ℕ, ◌+◌, ◌-◌, ◌*◌, Bool, true, false, ◌&&◌, ◌==◌, nat_le, nat_lt, List, [], ◌∷◌, ◌++◌, length, take, Some}
+use Rattle.std.specs.Prelude.{◌≡◌, ℕ, ◌+◌, ◌*◌, Bool, true, false, ◌&&◌, ◌==◌, nat_le, nat_lt, List, [], ◌∷◌, ◌++◌, length, take, Some}
 use Rattle.std.specs.Str.{bytes_eq}
 use Rattle.mt_base.specs.Granules.{round16}
 use Rattle.elf_base.specs.Place.{number_at}

@@ -1,7 +1,7 @@
 -- What the start of a file says, once it is judged: nothing goes past the end.
 use Rattle.std.proofs.Common.{◌≡◌, ℕ, zero, suc, ◌+◌, ◌*◌, ◌<◌, ◌≤◌, ◌^◌, ◌⊎◌, inl, inr, true, List, [], ◌∷◌, length, refl, sym, ap}
 use Rattle.std.proofs.Common.{subst, ◌∙◌, arith, Some, length-append}
-use Rattle.std.specs.Prelude.{◌&&◌, slice_get}
+use Rattle.std.specs.Prelude.{slice_get}
 use Rattle.mt_base.specs.Granules.{round16}
 use Rattle.elf_base.specs.Field.{Field, number, bytes_of}
 use Rattle.elf_base.specs.Place.{number_at}

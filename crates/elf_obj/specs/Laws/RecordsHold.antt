@@ -1,6 +1,6 @@
 -- Where no condition on symbols and relocations fails, their records stand in the file and they keep the rules.
 use Rattle.std.proofs.Common.{◌≡◌, ℕ, ◌+◌, ◌<◌, ◌≤◌, ◌^◌, Bool, true, List, [], ◌∷◌, ◌++◌, length, refl, None}
-use Rattle.std.specs.Prelude.{◌&&◌, if◌then◌else◌}
+use Rattle.std.specs.Prelude.{◌&&◌}
 use Rattle.std.specs.List.{flat_map}
 use Rattle.elf_base.specs.Field.{bytes_of, StandsAt}
 use Rattle.elf_base.specs.Records.{sym_fields, rela_fields}
