@@ -1,5 +1,6 @@
 -- Tables of names, and which names a file declares.
-use Rattle.std.proofs.Common.{◌≡◌, refl, sym, ◌∙◌, ap, ℕ, ◌+◌, ◌<◌, Bool, true, false, ◌&&◌, ◌||◌, cond, List, [], ◌∷◌, ◌++◌, map, take, length, get_or, position}
+use Rattle.std.proofs.Common.{◌≡◌, refl, sym, ◌∙◌, ap, ℕ, ◌+◌, ◌<◌, Bool, true, false, ◌&&◌, ◌||◌, cond, List, [], ◌∷◌, ◌++◌, map, take}
+use Rattle.std.proofs.Common.{length, get_or, position}
 use Rattle.std.proofs.Common.{Some}
 use Rattle.std.specs.Prelude.{if◌then◌else◌}
 use Rattle.std.specs.List.{filter, list_any, position_from, IsDistinct as apart}
@@ -96,7 +97,8 @@ once_more seen (m ∷ ns) n = chosen (list_any (bytes_eq m) seen) (once_more see
     chosen false same more =
         let o = once (m ∷ seen) ns in
         let here : (b : Bool) → m ∷ (if b then o else o ++ n ∷ []) ≡ (if b then m ∷ o else m ∷ (o ++ n ∷ [])) =
-        λ b. elim b as (λ b. m ∷ (if b then o else o ++ n ∷ []) ≡ (if b then m ∷ o else m ∷ (o ++ n ∷ []))) [ true ↦ refl | false ↦ refl ] in
+        λ b. elim b as (λ b. m ∷ (if b then o else o ++ n ∷ []) ≡ (if b then m ∷ o else m ∷ (o ++ n ∷ [])))
+        [ true ↦ refl | false ↦ refl ] in
         ap (λ l. m ∷ l) more
         ∙ here ((bytes_eq n m || list_any (bytes_eq n) seen) || list_any (bytes_eq n) o)
         ∙ ap (λ b. if b then m ∷ o else m ∷ (o ++ n ∷ [])) (or_last (bytes_eq n m) (list_any (bytes_eq n) seen) (list_any (bytes_eq n) o))
@@ -110,7 +112,8 @@ any_last [] n name = or_false (bytes_eq name n)
 any_last (x ∷ xs) n name =
     ap (λ b. bytes_eq name x || b) (any_last xs n name) ∙ or_regroup (bytes_eq name x) (list_any (bytes_eq name) xs) (bytes_eq name n)
 
-any_with : (names : List Name) (n name : Name) → list_any (bytes_eq name) (with_name names n) ≡ (list_any (bytes_eq name) names || bytes_eq name n)
+any_with : (names : List Name) (n name : Name) → list_any (bytes_eq name) (with_name names n) ≡
+    (list_any (bytes_eq name) names || bytes_eq name n)
 any_with names n name = chosen (list_any (bytes_eq n) names) refl (bytes_eq name n) refl
   where
     chosen : (b : Bool) → list_any (bytes_eq n) names ≡ b → (same : Bool) → bytes_eq name n ≡ same →
@@ -136,7 +139,8 @@ chosen_more p ms i m take_it old new within is told was now =
     ap (map name_in) (take_more ms i m within ∙ ap (λ x. take i ms ++ x ∷ []) (sym is)) ∙ map-append name_in (take i ms) (m ∷ []) in
     let kept : filter p (map name_in (take (i + 1) ms)) ≡ filter p (map name_in (take i ms)) ++ filter p (m.name ∷ []) =
     ap (filter p) all ∙ filter-append p (map name_in (take i ms)) (m.name ∷ []) in
-    now ∙ ap (λ o. if take_it then with_name o m.name else o) was ∙ ap (λ b. if b then with_name (so_far p ms i) m.name else so_far p ms i) told
+    now ∙ ap (λ o. if take_it then with_name o m.name else o) was ∙ ap (λ b. if b then with_name (so_far p ms i) m.name else so_far p ms
+    i) told
     ∙ chosen (p m.name) ∙ sym (ap (once []) kept)
   where
     nothing_more : (xs : List Name) → once [] xs ≡ once [] (xs ++ [])
@@ -162,7 +166,8 @@ and_regroup false b c = refl
 abbrev defines_it : Bool → Mention → Bool
 defines_it function m = m.defines && (if m.function then function else no function)
 
-pub defined_more : (function : Bool) (ms : List Mention) (i : ℕ) (m : Mention) (take_it : Bool) (old new : List Name) (name : Name) → i < length ms →
+pub defined_more : (function : Bool) (ms : List Mention) (i : ℕ) (m : Mention) (take_it : Bool) (old new : List Name) (name : Name) →
+    i < length ms →
     m ≡ get_or ms i m → take_it ≡ defines_it function m → list_any (bytes_eq name) old ≡ defined_as function (take i ms) name →
     new ≡ (if take_it then with_name old m.name else old) → list_any (bytes_eq name) new ≡ defined_as function (take (i + 1) ms) name
 defined_more function ms i m take_it old new name within is told was now =
@@ -170,12 +175,15 @@ defined_more function ms i m take_it old new name within is told was now =
     ap (list_any (bytes_eq name)) now ∙ chosen take_it
     ∙ ap (λ b. list_any (bytes_eq name) old || (b && take_it)) (nat_list_eq_equiv.symm name m.name)
     ∙ ap (λ b. list_any (bytes_eq name) old || (bytes_eq m.name name && b)) told
-    ∙ ap (λ b. list_any (bytes_eq name) old || b) (and_regroup (bytes_eq m.name name) m.defines (if m.function then function else no function))
+    ∙ ap (λ b. list_any (bytes_eq name) old || b) (and_regroup (bytes_eq m.name name) m.defines
+    (if m.function then function else no function))
     ∙ ap (λ b. b || test m) was ∙ ap (λ x. defined_as function (take i ms) name || test x) is ∙ sym (list_any_more test ms i m within)
   where
-    chosen : (b : Bool) → list_any (bytes_eq name) (if b then with_name old m.name else old) ≡ (list_any (bytes_eq name) old || (bytes_eq name m.name && b))
+    chosen : (b : Bool) → list_any (bytes_eq name) (if b then with_name old m.name else old) ≡
+        (list_any (bytes_eq name) old || (bytes_eq name m.name && b))
     chosen true = any_with old m.name name ∙ ap (λ b. list_any (bytes_eq name) old || b) (and_true (bytes_eq name m.name))
-    chosen false = sym (ap (λ b. list_any (bytes_eq name) old || b) (and_false (bytes_eq name m.name)) ∙ or_false (list_any (bytes_eq name) old))
+    chosen false = sym (ap (λ b. list_any (bytes_eq name) old || b) (and_false (bytes_eq name m.name)) ∙
+        or_false (list_any (bytes_eq name) old))
 
 -- ---- the order of first declarations
 

@@ -68,7 +68,8 @@ put_map {A} (n ∷ ns) m h a distinct = chosen (bytes_eq m n) refl (put_map ns m
     chosen true same rest =
         ap (λ l. Some a ∷ l) (unchanged ns m h a (ap (λ x. list_any (bytes_eq x) ns) ((bytes_eq-Decides m n).0 same) ∙ distinct.0))
     chosen false other rest =
-        ap (λ o. put (h n ∷ map h ns) o a) (shift (bytes_eq m) 0 ns) ∙ put_next (h n) (map h ns) (number_among ns m) a ∙ ap (λ l. h n ∷ l) rest
+        ap (λ o. put (h n ∷ map h ns) o a) (shift (bytes_eq m) 0 ns) ∙ put_next (h n) (map h ns) (number_among ns m) a ∙
+        ap (λ l. h n ∷ l) rest
 
 -- ---- all
 
@@ -79,7 +80,8 @@ placed_is name_of names (a ∷ rest) distinct =
     ap (λ places. put places (number_among names (name_of a)) a) (placed_is name_of names rest distinct)
     ∙ put_map names (name_of a) (λ n. find (λ a. bytes_eq (name_of a) n) rest) a distinct
 
-there_of : {A : Type 0} (names : List Name) (h : Name → Option A) → flat_map option_list (map h names) ≡ flat_map (λ n. option_list (h n)) names
+there_of : {A : Type 0} (names : List Name) (h : Name → Option A) → flat_map option_list (map h names) ≡
+    flat_map (λ n. option_list (h n)) names
 there_of [] h = refl
 there_of (n ∷ ns) h = ap (λ l. option_list (h n) ++ l) (there_of ns h)
 
@@ -87,7 +89,8 @@ pub ordered_is : {A : Type 0} (name_of : A → Name) (names : List Name) (all : 
     IsDistinct names → places ≡ placed name_of names (replicate (length names) None) all → made ≡ flat_map option_list places →
     made ≡ by_names name_of names all
 ordered_is {A} name_of names all places made distinct placed_so made_so =
-    made_so ∙ ap (flat_map option_list) (placed_so ∙ ap (λ l. placed name_of names l all) (blank_is A names) ∙ placed_is name_of names all distinct)
+    made_so ∙ ap (flat_map option_list) (placed_so ∙ ap (λ l. placed name_of names l all) (blank_is A names) ∙
+    placed_is name_of names all distinct)
     ∙ there_of names (λ n. find (λ a. bytes_eq (name_of a) n) all)
 
 -- from the last on

@@ -1,5 +1,6 @@
 -- What is kept of the declarations of a name decides the next one, and tells what another file defines.
-use Rattle.std.proofs.Common.{◌≡◌, refl, sym, ◌∙◌, ap, subst, ℕ, suc, ◌+◌, ◌<◌, Bool, true, false, ◌&&◌, ◌||◌, cond, List, [], ◌∷◌, flat_map, length, drop, get_or, ◌++◌}
+use Rattle.std.proofs.Common.{◌≡◌, refl, sym, ◌∙◌, ap, subst, ℕ, suc, ◌+◌, ◌<◌, Bool, true, false, ◌&&◌, ◌||◌, cond, List, [], ◌∷◌}
+use Rattle.std.proofs.Common.{flat_map, length, drop, get_or, ◌++◌}
 use Rattle.std.proofs.Common.{Option, Some, None}
 use Rattle.std.specs.Prelude.{if◌then◌else◌}
 use Rattle.std.specs.List.{list_all, find}
@@ -16,8 +17,10 @@ use Rattle.c_type_stmt.specs.Declarations.{no}
 use Rattle.c_types.specs.declared.redeclared.Earlier.{Earlier}
 use Rattle.c_types.specs.declared.redeclared.Redeclared.{Redeclared}
 use Rattle.c_types.specs.Ordered.{option_list, extern_of, externs_by}
-use Rattle.c_types.specs.Recalled.{nothing, or_nothing, differs, with_kind, with_declared, kept, recalled, Recalls, fits_type, fits_kind, fits, told_of}
-use Rattle.c_types.specs.Redeclarations.{Kind, AnObject, AFunction, Declared, same_types, same_signature, same_kind, equal, agree, may_stand, agrees_with_library}
+use Rattle.c_types.specs.Recalled.{nothing, or_nothing, differs, with_kind, with_declared, kept, recalled, Recalls, fits_type, fits_kind}
+use Rattle.c_types.specs.Recalled.{fits, told_of}
+use Rattle.c_types.specs.Redeclarations.{Kind, AnObject, AFunction, Declared, same_types, same_signature, same_kind, equal, agree}
+use Rattle.c_types.specs.Redeclarations.{may_stand, agrees_with_library}
 use Rattle.c_types.specs.Files.{FileNames}
 use Rattle.c_types.proofs.SameLaws.{type_is, signature_is}
 
@@ -80,7 +83,8 @@ kind_step e (AFunction (Some f)) (AFunction (Some g)) =
     and_front (same_signature f g) (no e.objects) (fits_type e.mixed same_signature (Some f) e.signature)
     ∙ ap (λ b. no e.objects && b) (type_step same_signature signature_is e.mixed e.signature f g)
 
-local_step : (d x shared local : Bool) → (equal d x && (if d then no shared else no local)) ≡ (if d then no (shared || no x) else no (local || x))
+local_step : (d x shared local : Bool) → (equal d x && (if d then no shared else no local)) ≡
+    (if d then no (shared || no x) else no (local || x))
 local_step true true true local = refl
 local_step true true false local = refl
 local_step true false true local = refl
@@ -200,9 +204,16 @@ latest name e d named = chosen d.kind
   where
     chosen : (k : Kind) → option_list (told_of name (with_declared e (record d { kind = k }))) ≡ extern_of (record d { kind = k })
     chosen (AnObject None) = refl
-    chosen (AnObject (Some t)) = ap (λ n. extern_of (record { name = n; kind = AnObject (Some t); local = d.local; defined = d.defined })) (sym named)
+    chosen (AnObject (Some t)) = ap (λ n. extern_of (record { name = n; kind = AnObject (Some t); local = d.local; defined = d.defined }))
+        (sym named)
     chosen (AFunction None) = refl
-    chosen (AFunction (Some s)) = ap (λ n. extern_of (record { name = n; kind = AFunction (Some s); local = d.local; defined = d.defined })) (sym named)
+    chosen (AFunction (Some s)) = ap (λ n. extern_of (record {
+      name = n;
+      kind = AFunction (Some s);
+      local = d.local;
+      defined =
+          d.defined;
+    })) (sym named)
 
 abbrev first_named : Name → List Declared → List ExternInfo
 first_named name ds = flat_map extern_of (option_list (find (λ d. bytes_eq d.name name) ds))
