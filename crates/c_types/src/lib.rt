@@ -7,6 +7,7 @@ mod functions;
 mod names;
 mod objects;
 mod ordered;
+mod parameters;
 mod parts;
 mod program;
 mod redeclared;

@@ -1,5 +1,5 @@
 use Rattle.c_types.proofs.ParameterLaws.{asked_four}
-use Rattle.c_types.proofs.functions.ask_parameter.Goals as goal
+use Rattle.c_types.proofs.parameters.ask_parameter.Goals as goal
 
 pub returns-else-complete-clause-blames : goal.returns-else-complete-clause-blames
 returns-else-complete-clause-blames c =

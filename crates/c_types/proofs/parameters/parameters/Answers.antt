@@ -1,7 +1,7 @@
 use Rattle.std.proofs.Common.{sym}
 use Rattle.c_type_expr.specs.Laws.EachLaws.{as_known, walked_next}
 use Rattle.c_types.specs.Functions.{parameter}
-use Rattle.c_types.proofs.functions.parameters.Goals as goal
+use Rattle.c_types.proofs.parameters.parameters.Goals as goal
 
 pub loop-d-preserved : goal.loop-d-preserved
 loop-d-preserved c =

@@ -2,7 +2,7 @@ use Rattle.std.proofs.Common.{map, take}
 use Rattle.c_type_expr.specs.Outcomes.{each}
 use Rattle.c_type_expr.specs.Walked.{Walked}
 use Rattle.c_types.specs.Functions.{parameter}
-use Rattle.c_types.proofs.functions.parameters.Given as goal
+use Rattle.c_types.proofs.parameters.parameters.Given as goal
 
 -- the walk has passed the parameters so far
 abbrev pub invariant-loop-d : goal.invariant-loop-d

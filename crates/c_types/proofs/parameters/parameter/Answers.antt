@@ -1,6 +1,6 @@
 use Rattle.std.proofs.lemmas.Result.{IfOk-weaker}
 use Rattle.c_types.proofs.ParameterLaws.{parameter_walked}
-use Rattle.c_types.proofs.functions.parameter.Goals as goal
+use Rattle.c_types.proofs.parameters.parameter.Goals as goal
 
 pub returns : goal.returns
 returns c =

@@ -1,6 +1,6 @@
 use Rattle.std.proofs.Common.{rules}
 use Rattle.c_types.proofs.ParameterLaws.{parameter_known}
-use Rattle.c_types.proofs.functions.declare_parameter.Goals as goal
+use Rattle.c_types.proofs.parameters.declare_parameter.Goals as goal
 
 pub returns-in_ok-bind_local-in-Some : goal.returns-in_ok-bind_local-in-Some
 returns-in_ok-bind_local-in-Some c =
