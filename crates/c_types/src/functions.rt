@@ -50,6 +50,7 @@ fn result_type(walk: &mut Walk, alloc: Global, f: &Function) -> Result<Option<Ty
     ensures { IfOk result (λ t. (j : Judgement) → Stands walk.old j → Passed (spec.result_type f.now) j walk.new t) }
 {
     let t = whole_type(walk, alloc, &f.result, f.span)?;
+    // At file scope there are no locals.
     walk.locals = Items::new(alloc);
     Ok(t)
 }

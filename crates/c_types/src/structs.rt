@@ -64,6 +64,7 @@ fn body(
     ensures { OnOk result ((j : Judgement) → Stands walk.old j → Stands walk.new (said.with_body j d.now (Some number) decls.now)) }
 {
     let members = members(walk, alloc, decls)?;
+    // At file scope there are no locals.
     walk.locals = Items::new(alloc);
     let name = d.name.copy(alloc)?;
     let info = struct_with(alloc, walk.structs.as_slice(), name, members)?;
