@@ -3,3 +3,4 @@ pub mod OperandLaws
 pub mod CallLaws
 pub mod ScopeLaws
 pub mod ArmLaws
+pub mod PlaceLaws

@@ -6,3 +6,4 @@ pub mod EachLaws
 pub mod RowLaws
 pub mod NodeLaws
 pub mod GivenTrees
+pub mod NamedMapLaws

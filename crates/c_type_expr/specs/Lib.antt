@@ -7,6 +7,7 @@ pub mod Postfix
 pub mod Expressions
 pub mod Names
 pub mod Scoping
+pub mod Places
 pub mod Least
 pub mod Walked
 pub mod Parts

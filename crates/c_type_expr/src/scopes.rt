@@ -1,6 +1,7 @@
 //! What names stand for, by scopes (C11 6.2.1).
 
-ghost use Rattle.std.specs.Prelude.{◌≡◌, [], ◌∷◌, OnOk, option_copied, reverse};
+ghost use Rattle.std.specs.Prelude.{◌≡◌, [], ◌∷◌, ◌++◌, List, OnOk, option_copied};
+ghost use Rattle.c_type_expr.specs.declared.scopes.Binding.{Binding as Bound};
 ghost use Rattle.c_type_expr.specs.Environment.{in_scope, in_scopes, with_innermost};
 ghost use Rattle.c_type_expr.specs.Scoping.{no_names, with_binding, opened_names, closed_names};
 
@@ -8,6 +9,7 @@ use c_ast::Name;
 use c_type_base::{Callee, Ty};
 use sqlite_items::{Items, at};
 use std::alloc::{AllocError, Global};
+use std::collections::HashMap;
 use std::marker::Model;
 use std::mem;
 
@@ -52,11 +54,85 @@ pub struct Binding {
     pub means: Meaning,
 }
 
+/// The declarations of one scope: contracts see them, the latest first.
+#[derive(Drop)]
+struct Scope {
+    alloc: Global,
+    /// The earliest first.
+    bindings: Items<Binding>,
+    /// By name the place of the latest.
+    places: HashMap<Vec<u8>, usize>,
+}
+
+impl Model for Scope {
+    ghost use Rattle.std.specs.Prelude.{List};
+    ghost use Rattle.std.specs.Coded.{codes};
+    ghost use Rattle.c_type_base.specs.contracts.ty.Ty as t;
+    ghost use Rattle.c_type_expr.specs.declared.scopes.Binding.{Binding as Bound};
+
+    ghost Value = { List Bound };
+
+    ghost coded = { Prim.hlevel (codes, t.the_row.coded) };
+
+    ghost use Rattle.std.specs.Prelude.{reverse};
+    ghost use Rattle.c_type_expr.specs.Places.{HasPlaces};
+
+    ghost view = { λ s. reverse s.bindings };
+
+    ghost invariant = { λ s. HasPlaces s.places (λ k. k.items) s.bindings };
+}
+
+impl Scope {
+    /// Without names.
+    fn new(alloc: Global) -> Scope
+        ensures { result ≡ [] }
+    {
+        Scope {
+            alloc,
+            bindings: Items::new(alloc),
+            places: HashMap::new(alloc),
+        }
+    }
+
+    /// The latest declaration of a name.
+    fn find(&self, name: &[u8]) -> Option<&Binding>
+        ensures { option_copied result ≡ in_scope name.now self.now }
+    {
+        match self.places.get(name) {
+            None => None,
+            Some(place) => at(self.bindings.as_slice(), *place),
+        }
+    }
+
+    /// Declares a name.
+    fn add(&mut self, binding: Binding) -> Result<(), AllocError>
+        ensures { OnOk result (self.new ≡ binding ∷ self.old) }
+    {
+        let key = Vec::from_slice(self.alloc, binding.name.as_slice())?;
+        let place = self.bindings.len();
+        self.bindings.push(binding)?;
+        match self.places.insert(key, place) {
+            Ok(_) => Ok(()),
+            Err(_) => {
+                drop_last(&mut self.bindings);
+                Err(AllocError)
+            }
+        }
+    }
+}
+
+/// Without the last one.
+fn drop_last(bindings: &mut Items<Binding>)
+    ensures { (kept : List Bound) (last : Bound) → bindings.old ≡ kept ++ last ∷ [] → bindings.new ≡ kept }
+{
+    let _ = bindings.pop();
+}
+
 /// The declarations in scope: contracts see the innermost scope, and the others from the inside out, each with the latest first.
 #[derive(Drop)]
 pub struct Scopes {
-    inner: Items<Binding>,
-    outer: Items<Items<Binding>>,
+    inner: Scope,
+    outer: Items<Scope>,
 }
 
 impl Model for Scopes {
@@ -68,9 +144,9 @@ impl Model for Scopes {
 
     ghost coded = { Prim.hlevel (codes, t.the_row.coded) };
 
-    ghost use Rattle.std.specs.Prelude.{reverse, map};
+    ghost use Rattle.std.specs.Prelude.{reverse};
 
-    ghost view = { λ s. record { inner = reverse s.inner; outer = reverse (map reverse s.outer) } };
+    ghost view = { λ s. record { inner = s.inner; outer = reverse s.outer } };
 }
 
 impl Scopes {
@@ -79,7 +155,7 @@ impl Scopes {
         ensures { result ≡ no_names }
     {
         Scopes {
-            inner: Items::new(alloc),
+            inner: Scope::new(alloc),
             outer: Items::new(alloc),
         }
     }
@@ -88,14 +164,14 @@ impl Scopes {
     pub fn find(&self, name: &[u8]) -> Option<&Binding>
         ensures { option_copied result ≡ in_scopes name.now (self.now.inner ∷ self.now.outer) }
     {
-        if let Some(found) = last_named(self.inner.as_slice(), name) {
+        if let Some(found) = self.inner.find(name) {
             return Some(found);
         }
         let mut left = self.outer.len();
         while left > 0 {
             left -= 1;
             if let Some(scope) = at(self.outer.as_slice(), left) {
-                if let Some(found) = last_named(scope.as_slice(), name) {
+                if let Some(found) = scope.find(name) {
                     return Some(found);
                 }
             }
@@ -107,15 +183,14 @@ impl Scopes {
     pub fn find_inner(&self, name: &[u8]) -> Option<&Binding>
         ensures { option_copied result ≡ in_scope name.now self.now.inner }
     {
-        last_named(self.inner.as_slice(), name)
+        self.inner.find(name)
     }
 
     /// Declares a name.
     pub fn add(&mut self, binding: Binding) -> Result<(), AllocError>
         ensures { OnOk result (self.new ≡ with_binding self.old binding) }
     {
-        self.inner.push(binding)?;
-        Ok(())
+        self.inner.add(binding)
     }
 
     /// Declares a name in the scope around the innermost.
@@ -125,12 +200,12 @@ impl Scopes {
     {
         match self.outer.pop() {
             Some(mut scope) => {
-                scope.push(binding)?;
+                scope.add(binding)?;
                 self.outer.push(scope)
             }
             None => {
-                let mut scope = Items::new(alloc);
-                scope.push(binding)?;
+                let mut scope = Scope::new(alloc);
+                scope.add(binding)?;
                 self.outer.push(scope)
             }
         }
@@ -140,7 +215,7 @@ impl Scopes {
     pub fn open(&mut self, alloc: Global) -> Result<(), AllocError>
         ensures { OnOk result (self.new ≡ opened_names self.old) }
     {
-        let scope = mem::replace(&mut self.inner, Items::new(alloc));
+        let scope = mem::replace(&mut self.inner, Scope::new(alloc));
         self.outer.push(scope)
     }
 
@@ -150,14 +225,7 @@ impl Scopes {
     {
         self.inner = match self.outer.pop() {
             Some(scope) => scope,
-            None => Items::new(alloc),
+            None => Scope::new(alloc),
         };
     }
-}
-
-/// The latest declaration of a name among some, of which the first is the earliest.
-fn last_named<'a>(bindings: &'a [Binding], name: &[u8]) -> Option<&'a Binding>
-    ensures { option_copied result ≡ in_scope name.now (reverse bindings.now) }
-{
-    bindings.iter().rev().find(|b| b.name.as_slice() == name)
 }

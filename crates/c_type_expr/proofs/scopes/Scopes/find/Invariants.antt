@@ -1,4 +1,4 @@
-use Rattle.std.proofs.Common.{◌≡◌, ◌≤◌, ◌∷◌, reverse, map, take, length}
+use Rattle.std.proofs.Common.{◌≡◌, ◌≤◌, ◌∷◌, reverse, take, length}
 use Rattle.c_type_expr.specs.Environment.{in_scopes}
 use Rattle.c_type_expr.proofs.scopes.Scopes.find.Given as goal
 
@@ -6,8 +6,8 @@ use Rattle.c_type_expr.proofs.scopes.Scopes.find.Given as goal
 abbrev pub invariant-loop-left : goal.invariant-loop-left
 invariant-loop-left l = record {
   within : l.left ≤ length l.self-inside.outer;
-  passed : in_scopes l.name (reverse l.self-inside.inner ∷ reverse (map reverse l.self-inside.outer)) ≡
-      in_scopes l.name (reverse (map reverse (take l.left l.self-inside.outer)));
+  passed : in_scopes l.name (l.self-inside.inner ∷ reverse l.self-inside.outer) ≡
+      in_scopes l.name (reverse (take l.left l.self-inside.outer));
 }
 
 abbrev pub decreases-loop-left : goal.decreases-loop-left
