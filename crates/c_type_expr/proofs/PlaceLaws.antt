@@ -22,7 +22,8 @@ before_last (x ∷ xs) b (suc n) within = before_last xs b n (omega (arith, with
 -- one declaration more
 pub one_more : {K S : Type 0} (key : K) (name_of : K → List ℕ) (m n : HashMap K ℕ S) (bs more : List Binding) (b : Binding) (place : ℕ) →
     name_of key ≡ b.name → place ≡ length bs → more ≡ bs ++ b ∷ [] → HasPlaces m name_of bs →
-    UpdatesBy (λ x y. bytes_eq (name_of x) (name_of y)) (λ k. bytes_eq (name_of key) (name_of k)) m n (Some place) → HasPlaces n name_of more
+    UpdatesBy (λ x y. bytes_eq (name_of x) (name_of y)) (λ k. bytes_eq (name_of key) (name_of k)) m n (Some place) →
+    HasPlaces n name_of more
 one_more {K} {S} key name_of m n bs more b place named placed is before put =
     subst (λ l. HasPlaces n name_of l) (sym is) (record { finds = finds; within = within })
   where
@@ -46,7 +47,8 @@ one_more {K} {S} key name_of m n bs more b place named placed is before put =
 
     finds : (name : List ℕ) → at_place (bs ++ b ∷ []) (get_by (λ k. bytes_eq name (name_of k)) n) ≡ in_scope name (reverse (bs ++ b ∷ []))
     finds name =
-        ap (at_place (bs ++ b ∷ [])) (now_is name) ∙ chosen name (bytes_eq b.name name) ∙ sym (ap (in_scope name) (reverse-append bs (b ∷ [])))
+        ap (at_place (bs ++ b ∷ [])) (now_is name) ∙ chosen name (bytes_eq b.name name) ∙
+        sym (ap (in_scope name) (reverse-append bs (b ∷ [])))
 
     longer : (o : Option ℕ) → IfSome o (λ k. k < length bs) → IfSome o (λ k. k < length (bs ++ b ∷ []))
     longer None in_range = tt

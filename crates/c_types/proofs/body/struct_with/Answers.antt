@@ -13,7 +13,8 @@ pub loop-member-preserved : goal.loop-member-preserved
 loop-member-preserved c = record {
   placing = placing_turn c.args.structs.now c.args.members.items c.loop-member.member-iterator.rest.items c.next.new.self.rest.items
       c.in-Some.member c.loop-member.placed c.push.new.self c.loop-member.end c.loop-member.align c.rounded-offset.result
-      c.saturating_add-end.result c.align_of-unit.result c.capped_size.result c.max-align.result c.loop-member.invariant.placing c.in-Some.ensures.steps.0
+      c.saturating_add-end.result c.align_of-unit.result c.capped_size.result c.max-align.result c.loop-member.invariant.placing
+      c.in-Some.ensures.steps.0
       c.align_of-unit.ensures c.rounded-offset.ensures c.capped_size.ensures c.saturating_add-end.ensures c.max-align.ensures
       c.in_ok-push.ensures.ok;
   count = search rules;

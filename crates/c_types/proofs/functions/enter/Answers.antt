@@ -11,6 +11,7 @@ returns c =
     let f = c.args.f.now in
     let w = c.args.walk.now in
     IfOk-weaker c.parameters.result _ _
-    (λ ts walked. entered (each (map (parameter (is_there f.body)) f.params)) w (record w { scopes = c.open.new.self }) c.parameters.new.walk ts
+    (λ ts walked. entered (each (map (parameter (is_there f.body)) f.params)) w (record w { scopes = c.open.new.self })
+    c.parameters.new.walk ts
     (ap (λ s. record w { scopes = s }) c.in_ok-open.ensures) walked)
     (rw (c.defines.ensures, c.as_slice.ensures) at c.parameters.ensures)

@@ -14,7 +14,8 @@ returns c = λ j stands.
     let made = rw c.as_ref.ensures.value at c.in_ok-signature.ensures in
     let this = rw c.as_ref-2.ensures.value at c.in_ok-this.ensures in
     record {
-      inside = head_inside names f j c.result_type.new.walk c.enter.new.walk c.ask_head.new.walk c.declare_name.new.walk c.in_ok-returns.returns
+      inside = head_inside names f j c.result_type.new.walk c.enter.new.walk c.ask_head.new.walk c.declare_name.new.walk
+          c.in_ok-returns.returns
           c.in_ok-params.params c.in_ok-signature.signature c.may_stand-agrees.result passed entered made
           (c.may_stand-agrees.ensures j.declared stands.recalls ∙ ap (may_stand names j.declared) this)
           (rw c.as_ref-3.ensures.value at c.ask_head.ensures) c.in_ok-declare_name.ensures;
