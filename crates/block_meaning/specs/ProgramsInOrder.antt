@@ -1,5 +1,5 @@
 -- When typed files are in order together as a program (ISO C11 5.1.2.2.1, 6.7.9, 6.9). Such a program has a meaning (law `has_meaning`).
-use Rattle.std.specs.Prelude.{◌≡◌, ◌<◌, ℕ, true, ◌+◌, ◌||◌, List, [], ◌∷◌, ◌++◌, take, length, codes, slice_get, Option, Some, None}
+use Rattle.std.specs.Prelude.{◌≡◌, ◌<◌, ℕ, true, ◌+◌, ◌||◌, List, [], ◌∷◌, ◌++◌, take, length, codes, slice_get, Some}
 use Rattle.std.specs.List.{All}
 use Rattle.c_type_base.specs.declared.typed.Typed.{Typed}
 use Rattle.c_type_base.specs.declared.typed.GlobalInfo.{GlobalInfo}
@@ -16,7 +16,7 @@ use Rattle.c_type_base.specs.declared.statement.TStmt.{out-TStmt}
 use Rattle.c_type_base.specs.Layout.{LaidOut}
 use Rattle.c_type_base.specs.Types.{is_scalar, is_void}
 use Rattle.block_meaning.specs.ExpressionsInOrder.{Scope}
-use Rattle.block_meaning.specs.Linkage.{AFunction, defined, function_of, function_named}
+use Rattle.block_meaning.specs.Linkage.{AFunction, defined, function_named}
 use Rattle.block_meaning.specs.Meaning.{frame_bytes}
 use Rattle.block_meaning.specs.Running.{Function, Program}
 use Rattle.block_meaning.specs.Statements.{declared}

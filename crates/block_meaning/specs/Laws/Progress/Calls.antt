@@ -1,6 +1,6 @@
 -- Calls are safe where the bound is at least the work that is left and the levels that the bodies of all functions need.
-use Rattle.std.proofs.Common.{◌≡◌, refl, sym, subst, ap, ◌∙◌, ℕ, zero, suc, ◌+◌, ◌≤◌, ◌<◌, arith, Bool, true, false, ◌||◌, leb, List, []}
-use Rattle.std.proofs.Common.{◌∷◌, ◌++◌, length, map, take, Option, Some, None, nat_eq}
+use Rattle.std.proofs.Common.{◌≡◌, refl, sym, subst, ◌∙◌, ℕ, zero, suc, ◌+◌, ◌≤◌, ◌<◌, arith, Bool, true, false, ◌||◌, leb, List, []}
+use Rattle.std.proofs.Common.{◌∷◌, ◌++◌, length, take, Option, Some, None, nat_eq}
 use Rattle.std.specs.Prelude.{slice_get, if◌then◌else◌}
 use Rattle.std.specs.List.{All}
 use Rattle.std.proofs.lemmas.List.{length-map}
@@ -14,25 +14,23 @@ use Rattle.c_type_base.specs.declared.typed.Typed.{Typed}
 use Rattle.c_type_base.specs.declared.typed.LocalInfo.{LocalInfo}
 use Rattle.c_type_base.specs.declared.typed.TFunction.{TFunction}
 use Rattle.c_type_base.specs.Types.{is_void, is_scalar}
-use Rattle.block_meaning.specs.Blocks.{Kind, Local, Block, block_of, ended}
+use Rattle.block_meaning.specs.Blocks.{Local, Block, block_of, ended}
 use Rattle.block_meaning.specs.Expressions.{Calls}
-use Rattle.block_meaning.specs.ExpressionsInOrder.{Scope}
-use Rattle.block_meaning.specs.ProgramsInOrder.{numbered, body_scope, FunctionInOrder, FileInOrder, HasFrame, InOrder}
-use Rattle.block_meaning.specs.StatementsInOrder.{Items}
+use Rattle.block_meaning.specs.ProgramsInOrder.{numbered, body_scope, FunctionInOrder, InOrder}
 use Rattle.block_meaning.specs.Laws.Progress.Fits.{Fits, ValueWithin, within-more, cells_of-within, missing-fits}
 use Rattle.block_meaning.specs.Laws.Progress.Linked.{all_blocks}
-use Rattle.block_meaning.specs.Laws.Progress.Locals.{safe-assoc, safe-some_first, new_block-safe, with_local-kept, with_local-new, HasLocal}
+use Rattle.block_meaning.specs.Laws.Progress.Locals.{safe-assoc, new_block-safe, with_local-kept, with_local-new}
+use Rattle.block_meaning.specs.Laws.Progress.Locals.{HasLocal}
 use Rattle.block_meaning.specs.Laws.Progress.Locals.{new_locals-safe}
-use Rattle.block_meaning.specs.Laws.Progress.Safe.{CellWithin, BlockWithin, BlocksWithin, Kept, Went, further, Ends, Safe, Any, safe-gives}
+use Rattle.block_meaning.specs.Laws.Progress.Safe.{CellWithin, BlockWithin, BlocksWithin, Went, further, Safe, Any, safe-gives}
 use Rattle.block_meaning.specs.Laws.Progress.Safe.{safe-stops, safe-then, safe-choice, safe-some, Changes, safe-with_blocks}
-use Rattle.block_meaning.specs.Laws.Progress.Scenes.{LocalAt, LocalsWithin, inside_of, Passed, SafeCalls, Scene, calls-less}
+use Rattle.block_meaning.specs.Laws.Progress.Scenes.{LocalAt, LocalsWithin, inside_of, Passed, SafeCalls, Scene}
 use Rattle.block_meaning.specs.Laws.Progress.Statements.{FlowFits, flow-more, ItemsSafe, items-safe, items-there}
 use Rattle.block_meaning.specs.Linkage.{function_in, function_named, parameter_types, type_of_local}
-use Rattle.block_meaning.specs.Locals.{latest}
 use Rattle.block_meaning.specs.Meaning.{open_bytes, new_call, new_parameter, with_arguments, is_of_call, end_call, result_of, body_node}
-use Rattle.block_meaning.specs.Meaning.{body_of, unless_deep, call_of, calls_at, frame_bytes, outside_of_calls}
-use Rattle.block_meaning.specs.Running.{Deep, Function, Call, Program, Context, State, Run, gives, and_then, with_some, with_blocks}
-use Rattle.block_meaning.specs.Statements.{Flow, Next, Broke, Continued, Returned, StmtParts, declared, items, statements_at}
+use Rattle.block_meaning.specs.Meaning.{body_of, calls_at}
+use Rattle.block_meaning.specs.Running.{Deep, Function, Call, Program, Context, State, Run, gives, and_then, with_blocks}
+use Rattle.block_meaning.specs.Statements.{Flow, Returned, StmtParts, declared, items, statements_at}
 use Rattle.block_meaning.specs.Values.{Value, Number, Address, Struct, NoValue, cells_of}
 
 -- ---- parameters
@@ -53,12 +51,14 @@ arguments_safe {n = n} f program unit c opened some k (l ∷ ls) (v ∷ vs) as_m
     let cells = cells_of-within l.ty n v some (All-head (ValueWithin n) v vs all) in
     let next : Context → Run Context = λ inner. with_arguments inner (k + 1) ls vs in
     let rest : Context → Run _ = λ inner. and_then (next inner) f in
-    safe-assoc (new_parameter here k l v) next f (new_block-safe rest here k (block_of (Local c.number k) (cells_of l.ty v)) cells (λ m more block within.
+    let new : Block = block_of (Local c.number k) (cells_of l.ty v) in
+    safe-assoc (new_parameter here k l v) next f (new_block-safe rest here k new cells (λ m more block within.
     let inner : ℕ → Option ℕ = λ j. (if nat_eq j k then Some block else local j) in
     let of_before = with_local-kept n m more local k block within before of_before in
-    let new = All-cons (LocalAt m inner) k before (with_local-new m local k block within) of_before in
+    let of_new = All-cons (LocalAt m inner) k before (with_local-new m local k block within) of_before in
     let of_rest = All-weaker (ValueWithin n) (ValueWithin m) (within-more n m more) vs (All-tail (ValueWithin n) v vs all) in
-    arguments_safe f program unit c opened (omega (arith, some, more)) (k + 1) ls vs (omega (arith, as_many)) of_rest inner (k ∷ before) new
+    arguments_safe f program unit c opened (omega (arith, some, more)) (k + 1) ls vs (omega (arith, as_many)) of_rest inner (k ∷ before)
+    of_new
     (λ j further last of_ks of_all. each j (omega (arith, more, further)) last
     (All-cons (LocalAt j last) k (numbered (k + 1) ls) (All-head (LocalAt j last) k before of_all) of_ks)
     (All-tail (LocalAt j last) k before of_all))))
@@ -74,7 +74,7 @@ end_changes call blocks all =
     let count : ℕ = length blocks in
     let same : length (end_call call blocks) ≡ count = length-map blocks _ in
     let within = All-map (BlockWithin count) (λ (b : Block). (if is_of_call call b.kind then ended b else b)) blocks
-        (λ k d less. ended_or_not count call _ (is_of_call call _) (all k d less)) in
+    (λ k d less. ended_or_not count call _ (is_of_call call _) (all k d less)) in
     record { longer = omega (arith, same); within = subst (λ n. BlocksWithin n (end_call call blocks)) (sym same) within }
 
 result_fits : (t : Ty) (n : ℕ) (flow : Flow) → 0 < n → (is_void t || is_scalar t) ≡ true → FlowFits t n flow → Fits t n (result_of t flow)
@@ -93,13 +93,13 @@ pub record BodySafe (program : Program) (unit : ℕ) (f : TFunction) (depth : �
       Passed (parameter_types f) n vs →
       Safe n w (body_of (statements_at calls levels) f vs (inside_of program unit (c ∷ opened) (λ k. None))) (Fits f.result)
 
-node_safe : {program : Program} {unit : ℕ} {f : TFunction} (is : List TItem) (part : ItemsSafe (body_scope program unit f (declared is)) is) →
-    All (HasLocal f) (declared is) → {n w : ℕ} (calls : Calls) → SafeCalls program w calls → (levels : ℕ) → part.depth + w ≤ levels →
+node_safe : {program : Program} {unit : ℕ} {f : TFunction} (is : List TItem)
+    (part : ItemsSafe (body_scope program unit f (declared is)) is) → All (HasLocal f) (declared is) → {n w : ℕ} (calls : Calls) → SafeCalls program w calls → (levels : ℕ) → part.depth + w ≤ levels →
     all_blocks program.units ≤ n → (c : Call) (opened : List Call) → function_named program.units c.function ≡ Some f →
     (local : ℕ → Option ℕ) → LocalsWithin n local (numbered 0 (take f.params f.locals)) →
     Safe n w (body_node (statements_at calls levels) (inside_of program unit (c ∷ opened) local) (TStmt-F.Block is)) (FlowFits f.result)
-node_safe {program = program} {unit = unit} {f = f} is part has {n = n} {w = w} calls of_calls levels deep enough c opened function_is local
-    of_params =
+node_safe {program = program} {unit = unit} {f = f} is part has {n = n} {w = w} calls of_calls levels deep enough c opened function_is
+    local of_params =
     let params = numbered 0 (take f.params f.locals) in
     let scene : Scene (body_scope program unit f []) n w = record {
       calls = calls;
@@ -112,7 +112,8 @@ node_safe {program = program} {unit = unit} {f = f} is part has {n = n} {w = w} 
       of_calls = of_calls;
       enough = enough;
     } in
-    new_locals-safe scene (λ inner. items (statements_at calls levels) inner is) (declared is) has local params of_params (λ m more inner of_new of_old.
+    let next : Context → Run Flow = λ inner. items (statements_at calls levels) inner is in
+    new_locals-safe scene next (declared is) has local params of_params (λ m more inner of_new of_old.
     let body : Scene (body_scope program unit f (declared is)) m w = record {
       calls = calls;
       opened = c ∷ opened;

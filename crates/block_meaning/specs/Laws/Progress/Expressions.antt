@@ -1,8 +1,8 @@
 -- An expression in order is safe where it has the levels that it needs, and gives a value of its type.
-use Rattle.std.proofs.Common.{◌≡◌, refl, sym, subst, ap, ◌∙◌, ℕ, zero, suc, ◌+◌, ◌*◌, ◌%◌, ◌≤◌, ◌<◌, arith, Bool, true, false, ◌||◌, not}
-use Rattle.std.proofs.Common.{List, [], ◌∷◌, map, length, Option, Some, None}
-use Rattle.std.specs.Prelude.{slice_get, if◌then◌else◌}
-use Rattle.std.specs.List.{All, Contains}
+use Rattle.std.proofs.Common.{◌≡◌, refl, sym, subst, ap, ◌∙◌, ℕ, zero, suc, ◌+◌, ◌≤◌, ◌<◌, arith, Bool, true, false, not}
+use Rattle.std.proofs.Common.{List, [], ◌∷◌, map, Option, Some, None}
+use Rattle.std.specs.Prelude.{if◌then◌else◌}
+use Rattle.std.specs.List.{Contains}
 use Rattle.std.proofs.lemmas.List.Elements.{All-nil, All-cons, All-weaker, All-contains}
 use Rattle.c_ast.specs.declared.token.Span.{Span}
 use Rattle.c_ast.specs.declared.int_type.IntType.{IntType}
@@ -25,27 +25,30 @@ use Rattle.c_type_base.specs.declared.typed.ExternInfo.{ExternInfo}
 use Rattle.c_type_base.specs.declared.typed.GlobalInfo.{GlobalInfo}
 use Rattle.c_type_base.specs.Types.{TyLayer, is_integer, is_scalar, is_void, target_of}
 use Rattle.block_meaning.specs.Blocks.{Pointer, moved}
-use Rattle.block_meaning.specs.Expressions.{NodeLayer, ExprParts, Site, value_of, number_known, unary_node, same_truth, logical_node, binary_node}
-use Rattle.block_meaning.specs.Expressions.{written, assigned, take_byte, put_byte, first_number, if_agrees, call_extern, call_effect, start_of}
+use Rattle.block_meaning.specs.Expressions.{NodeLayer, Site, value_of, number_known, same_truth, logical_node}
+use Rattle.block_meaning.specs.Expressions.{written, assigned, take_byte, put_byte, first_number, if_agrees, call_effect}
+use Rattle.block_meaning.specs.Expressions.{start_of}
 use Rattle.block_meaning.specs.Expressions.{assign_node, starts, member_place}
 use Rattle.block_meaning.specs.Expressions.{element_at, member_in, member_of, place_node, value_node, parts_at}
 use Rattle.block_meaning.specs.ExpressionsInOrder as order
-use Rattle.block_meaning.specs.ExpressionsInOrder.{Scope, Group, Logical, group_of, is_sign, BinaryTypes, CompoundTypes, Converts, Callable}
+use Rattle.block_meaning.specs.ExpressionsInOrder.{Scope, Group, Logical, group_of, is_sign, BinaryTypes, CompoundTypes, Converts}
+use Rattle.block_meaning.specs.ExpressionsInOrder.{Callable}
 use Rattle.block_meaning.specs.ExpressionsInOrder.{HasMember, IsDefined, HasValue, Designates, Arguments, int_type}
-use Rattle.block_meaning.specs.Laws.Progress.Fits.{FitsLevel, Fits, ValueWithin, PlaceWithin, IsNumber, IsAddress, fits-within, fits-more}
+use Rattle.block_meaning.specs.Laws.Progress.Fits.{FitsLevel, Fits, ValueWithin, PlaceWithin, fits-within, fits-more}
 use Rattle.block_meaning.specs.Laws.Progress.Fits.{within-more, number-fits, address-fits, int-is_integer, pointer-is_pointer}
 use Rattle.block_meaning.specs.Laws.Progress.Fits.{pointer_in-within, converted-fits, converted-void, cells_of-within}
-use Rattle.block_meaning.specs.Laws.Progress.Linked.{all_blocks, global-there, text-there, extern-there, called-as}
+use Rattle.block_meaning.specs.Laws.Progress.Linked.{global-there, text-there, extern-there, called-as}
 use Rattle.block_meaning.specs.Laws.Progress.Memory.{read_scalar-safe, read-safe, write-safe, copy-safe}
 use Rattle.block_meaning.specs.Laws.Progress.Operators.{truth-safe, operated-safe, combined-safe, stepped-fits}
-use Rattle.block_meaning.specs.Laws.Progress.Safe.{Kept, Went, Ends, Safe, Any, safe-gives, safe-undefined, safe-then, safe-weaker, safe-unit}
+use Rattle.block_meaning.specs.Laws.Progress.Safe.{Kept, Ends, Safe, safe-gives, safe-undefined, safe-then, safe-weaker}
+use Rattle.block_meaning.specs.Laws.Progress.Safe.{safe-unit}
 use Rattle.block_meaning.specs.Laws.Progress.Safe.{safe-choice, safe-some}
 use Rattle.block_meaning.specs.Laws.Progress.Scenes.{LocalAt, Passed, Scene, here_of, later, lower}
 use Rattle.block_meaning.specs.Linkage.{Definition, function_of, extern_at, called_as}
 use Rattle.block_meaning.specs.Locals.{text_of}
-use Rattle.block_meaning.specs.Memory.{object, bytes_of}
+use Rattle.block_meaning.specs.Memory.{object}
 use Rattle.block_meaning.specs.Operators.{operand, operated, number_of_truth, gives_old, stepped}
-use Rattle.block_meaning.specs.Running.{Function, State, Run, gives, and_then, unit_then, unit_gives, all_of}
+use Rattle.block_meaning.specs.Running.{Function, State, gives, and_then, unit_then, unit_gives, all_of}
 use Rattle.block_meaning.specs.Values.{Value, Number, Address, Struct, pointer_in, converted_to}
 
 -- ---- what is proved of a node
@@ -224,8 +227,8 @@ written_safe {n = n} scene at same span t p v within fits =
     safe-then (write-safe at.here span (object t p) v within (cells_of-within t n v (some-block scene) (fits-within t n v fits)))
     (λ k more a any. safe-gives v (λ j further. fits-more t n j (omega (arith, more, further)) v fits))
 
-assigned_by : {s : Scope} {n w : ℕ} (scene : Scene s n w) (levels : ℕ) (span around : Span) (t : Ty) (a b : TExpr) (p : Pointer) (v : Value) →
-    p.block < n → Fits a.ty n v → Safe n w (assigned (site_of scene levels span around t) a b p v) (Fits a.ty)
+assigned_by : {s : Scope} {n w : ℕ} (scene : Scene s n w) (levels : ℕ) (span around : Span) (t : Ty) (a b : TExpr) (p : Pointer)
+    (v : Value) → p.block < n → Fits a.ty n v → Safe n w (assigned (site_of scene levels span around t) a b p v) (Fits a.ty)
 assigned_by {n = n} scene levels span around t a b p (Struct q) within fits =
     safe-then (copy-safe (here_of scene) _ (fits-within a.ty n (Struct q) fits) within) (λ k more c any.
     safe-gives (Struct p) (λ j further. struct_level n j (out-Ty a.ty) p q fits (omega (arith, within, more, further))))
@@ -429,7 +432,8 @@ text_safe {s = s} k bytes is = record {
       place_given _ (omega (arith, scene.enough, text-there s.program.units s.unit k bytes is));
 }
 
-global_safe : {s : Scope} {t : Ty} (k : ℕ) (g : GlobalInfo) → order.global_of (order.file_of s) k ≡ Some g → PlaceSafe s t (TNode-F.Global k)
+global_safe : {s : Scope} {t : Ty} (k : ℕ) (g : GlobalInfo) → order.global_of (order.file_of s) k ≡ Some g →
+    PlaceSafe s t (TNode-F.Global k)
 global_safe {s = s} k g is = record {
   depth = 0;
   safe = λ scene levels deep span around.
@@ -484,8 +488,8 @@ index_safe {a = a} {i = i} of_a of_i = record {
       (fits-within a.ty j v (fits-more a.ty k j further v fits)) (fits-within i.ty j x fits_too))));
 }
 
-found_safe : {s : Scope} {n w : ℕ} (scene : Scene s n w) (t : Ty) (k : ℕ) (m : MemberInfo) (p : Pointer) → HasMember s t k m → p.block < n →
-    Safe n w (member_of (here_of scene) (Some t) k p) PlaceWithin
+found_safe : {s : Scope} {n w : ℕ} (scene : Scene s n w) (t : Ty) (k : ℕ) (m : MemberInfo) (p : Pointer) → HasMember s t k m →
+    p.block < n → Safe n w (member_of (here_of scene) (Some t) k p) PlaceWithin
 found_safe scene t k m p has within =
     safe-some _ m (ap (λ o. member_in (here_of scene) o k) has.is_struct ∙ has.member)
     (safe-gives (moved p m.offset) (λ j more. omega (arith, within, more)))
@@ -527,8 +531,8 @@ struct_safe : {s : Scope} {a b : TExpr} → PlacePart s a → ValuePart s b → 
 struct_safe {a = a} {b = b} of_a of_b same = record {
   depth = suc (of_a.depth + of_b.depth);
   safe = λ scene levels deep span around.
-      safe-then (assign_value a b of_a of_b same scene levels (omega (arith, deep)) (omega (arith, deep)) span around a.ty) (λ k more v fits.
-      safe-gives (pointer_in v) (λ j further. pointer_in-within j v (some-block (later j (omega (arith, more, further)) scene))
+      safe-then (assign_value a b of_a of_b same scene levels (omega (arith, deep)) (omega (arith, deep)) span around a.ty)
+      (λ k more v fits. safe-gives (pointer_in v) (λ j further. pointer_in-within j v (some-block (later j (omega (arith, more, further)) scene))
       (fits-within a.ty j v (fits-more a.ty k j further v fits))));
 }
 

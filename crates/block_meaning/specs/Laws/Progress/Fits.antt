@@ -1,27 +1,26 @@
 -- Which values fit a type: numbers integers, addresses of blocks that exist pointers, and structs that stand in such blocks structs.
-use Rattle.std.proofs.Common.{◌≡◌, refl, sym, subst, ◌∙◌, ℕ, zero, suc, ◌+◌, ◌/◌, ◌%◌, ◌≤◌, ◌<◌, arith, Bool, true, false, ◌||◌}
-use Rattle.std.proofs.Common.{List, [], ◌∷◌, length, Option, Some, None}
+use Rattle.std.proofs.Common.{◌≡◌, refl, ℕ, zero, suc, ◌/◌, ◌%◌, ◌≤◌, ◌<◌, arith, Bool, true, false, ◌||◌}
+use Rattle.std.proofs.Common.{List, [], ◌∷◌, Option, Some, None}
 use Rattle.std.specs.Prelude.{if◌then◌else◌}
-use Rattle.std.specs.List.{All}
 use Rattle.std.specs.List.{list_any}
 use Rattle.std.proofs.lemmas.List.Elements.{All-nil, All-cons, All-head, All-from_recursion}
 use Rattle.c_ast.specs.declared.int_type.IntType.{IntType}
-use Rattle.c_ast.specs.declared.int_type.IntType.TheVariants as int
 use Rattle.c_type_base.specs.Laws.Opened.{given_types}
 use Rattle.c_type_base.specs.declared.ty.Ty.{Ty, out-Ty}
 use Rattle.c_type_base.specs.declared.ty.Ty.TheVariants as ty
 use Rattle.c_type_base.specs.declared.ty.Ty.TheOpen.{Ty-F}
 use Rattle.c_type_base.specs.Conversions.{wrap}
 use Rattle.c_type_base.specs.Sizes.{int_bytes}
-use Rattle.c_type_base.specs.Types.{TyLayer, is_there, int_of_level, target_of_level, struct_of_level, is_void_level, is_integer}
-use Rattle.c_type_base.specs.Types.{is_pointer, is_scalar, is_void, target_of}
+use Rattle.c_type_base.specs.Types.{TyLayer, is_there, int_of_level, target_of_level, is_void_level, is_integer}
+use Rattle.c_type_base.specs.Types.{is_pointer, is_scalar, is_void}
 use Rattle.block_meaning.specs.declared.reason.Reason.{Reason}
 use Rattle.block_meaning.specs.Access.{Access, ReadResult, ReadsAs, UndefinedBy, whole_or_part, scalar_in, unless_reason, read_in}
 use Rattle.block_meaning.specs.Access.{reason_against}
-use Rattle.block_meaning.specs.Blocks.{Cell, Nothing, Byte, Part, Block, Pointer, pointer, null, moved, cells_in}
-use Rattle.block_meaning.specs.ExpressionsInOrder.{Converts, integers, pointers, null_constant, int_type}
-use Rattle.block_meaning.specs.Laws.Progress.Safe.{CellWithin, CellsWithin, BlockWithin}
-use Rattle.block_meaning.specs.Values.{Value, Number, Address, Struct, NoValue, pointer_in, number_in, number_cells, part_of, pointer_cells}
+use Rattle.block_meaning.specs.Blocks.{Cell, Byte, Part, Block, Pointer, pointer, cells_in}
+use Rattle.block_meaning.specs.ExpressionsInOrder.{Converts, integers, pointers, null_constant}
+use Rattle.block_meaning.specs.Laws.Progress.Safe.{CellWithin, CellsWithin}
+use Rattle.block_meaning.specs.Values.{Value, Number, Address, Struct, NoValue, pointer_in, number_in, number_cells}
+use Rattle.block_meaning.specs.Values.{pointer_cells}
 use Rattle.block_meaning.specs.Values.{scalar_cells, cells_of, number_of_cells, are_parts, pointer_of_cells, number_value, address_value}
 use Rattle.block_meaning.specs.Values.{scalar_of_cells, value_of_cells, is_nothing, value_as, converted_to, zero_as, missing_result}
 

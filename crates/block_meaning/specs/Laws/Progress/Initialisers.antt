@@ -1,7 +1,7 @@
 -- Initialisers and declarations in order are safe.
-use Rattle.std.proofs.Common.{◌≡◌, refl, sym, subst, ap, ◌∙◌, ℕ, zero, suc, ◌+◌, ◌*◌, ◌≤◌, ◌<◌, arith, Bool, true, false, ◌||◌, List, []}
-use Rattle.std.proofs.Common.{◌∷◌, length, map, take, Option, Some, None}
-use Rattle.std.specs.Prelude.{slice_get, if◌then◌else◌, IfSome}
+use Rattle.std.proofs.Common.{◌≡◌, sym, subst, ap, ◌∙◌, ℕ, zero, suc, ◌+◌, ◌≤◌, ◌<◌, arith, Bool, true, false, ◌||◌, List, []}
+use Rattle.std.proofs.Common.{◌∷◌, map, take, Option, Some, None}
+use Rattle.std.specs.Prelude.{slice_get, IfSome}
 use Rattle.std.specs.List.{All, Contains}
 use Rattle.std.proofs.lemmas.Option.{same_Some}
 use Rattle.std.proofs.lemmas.List.Elements.{All-head, All-tail, All-map, All-contains}
@@ -19,26 +19,26 @@ use Rattle.c_type_base.specs.declared.typed.MemberInfo.{MemberInfo}
 use Rattle.c_type_base.specs.Layout.{members_of}
 use Rattle.c_type_base.specs.Types.{TyLayer, is_there, int_of_level, target_of_level, element_of_level, struct_of_level}
 use Rattle.c_type_base.specs.Types.{is_struct, is_array, is_scalar, is_integer, element_of, struct_of}
-use Rattle.block_meaning.specs.Blocks.{Byte, Pointer, pointer, moved, stored}
+use Rattle.block_meaning.specs.Blocks.{Byte, Pointer, pointer}
 use Rattle.block_meaning.specs.Expressions.{NodeLayer, ExprParts, value_of, parts_at}
 use Rattle.block_meaning.specs.ExpressionsInOrder.{Scope, HasValue, file_of}
 use Rattle.block_meaning.specs.StatementsInOrder as order
 use Rattle.block_meaning.specs.StatementsInOrder.{Initialises, Elements, Members, DeclarationInOrder}
-use Rattle.block_meaning.specs.Laws.Progress.Fits.{Fits, fits-within, cells_of-within, pointer_in-within}
+use Rattle.block_meaning.specs.Laws.Progress.Fits.{fits-within, cells_of-within, pointer_in-within}
 use Rattle.block_meaning.specs.Laws.Progress.Memory.{stored-safe, write-safe, copy-safe}
 use Rattle.block_meaning.specs.Laws.Progress.Safe.{CellWithin, CellsWithin, Safe, Any, safe-gives, safe-then, safe-unit, safe-some}
 use Rattle.block_meaning.specs.Laws.Progress.Scenes.{LocalAt, Scene, here_of, later, lower}
 use Rattle.block_meaning.specs.Laws.Progress.Expressions.{ValuePart, part-value, value-safe, some-block}
 use Rattle.block_meaning.specs.Laws.Progress.Locals.{info-is}
 use Rattle.block_meaning.specs.Laws.Progress.Zero.{zero_cells-within}
-use Rattle.block_meaning.specs.Locals.{InitParts, text_of, text_at, only_run, fill_array, fill_struct, fill_one, fill_elements, fill_members}
-use Rattle.block_meaning.specs.Locals.{fill_list, fill_node, fill_at, is_list, after_zero, initialised, init_local, declared_with, declaration}
+use Rattle.block_meaning.specs.Locals.{InitParts, text_of, only_run, fill_array, fill_struct, fill_one, fill_elements}
+use Rattle.block_meaning.specs.Locals.{fill_members}
+use Rattle.block_meaning.specs.Locals.{fill_list, fill_node, fill_at, is_list, after_zero, declared_with}
+use Rattle.block_meaning.specs.Locals.{declaration}
 use Rattle.block_meaning.specs.Locals.{declarations}
 use Rattle.block_meaning.specs.Linkage.{structs_of}
-use Rattle.block_meaning.specs.Memory.{Object, object, write, copy_struct}
-use Rattle.block_meaning.specs.Opening.{zero_cells}
-use Rattle.block_meaning.specs.Running.{Run, and_then, with_blocks, Context}
-use Rattle.block_meaning.specs.Values.{Value, pointer_in, cells_of}
+use Rattle.block_meaning.specs.Memory.{Object, object, write}
+use Rattle.block_meaning.specs.Running.{Run, and_then, Context}
 
 -- how initialisers run, with so many levels of expressions, and of initialisers, below them
 abbrev pub init_parts : {s : Scope} {n w : ℕ} → Scene s n w → ℕ → ℕ → InitParts
@@ -130,8 +130,8 @@ text_safe {t = t} {element = element} {e = e} k bytes is node_is there = record 
 }
 
 -- the 0 of `{0}`
-zero_array : {s : Scope} {n w : ℕ} {t : Ty} (init : InitParts) (count : ℕ) (p : Pointer) (e : TExpr) (node : NodeLayer) → HasValue s t node →
-    Safe n w (only_run init.parts e) Any → Safe n w (fill_array init count p e node) Any
+zero_array : {s : Scope} {n w : ℕ} {t : Ty} (init : InitParts) (count : ℕ) (p : Pointer) (e : TExpr) (node : NodeLayer) →
+    HasValue s t node → Safe n w (only_run init.parts e) Any → Safe n w (fill_array init count p e node) Any
 zero_array init count p e (TNode-F.Text k) d safe = elim d [ ]
 zero_array init count p e _ d safe = safe
 

@@ -1,5 +1,5 @@
 -- What numbers name is there: blocks of objects, texts and functions among those of a program, and functions that are called.
-use Rattle.std.proofs.Common.{◌≡◌, refl, sym, subst, ap, ◌∙◌, ℕ, zero, suc, ◌+◌, ◌≤◌, ◌<◌, arith, Bool, true, false, ◌&&◌, nat_eq}
+use Rattle.std.proofs.Common.{◌≡◌, refl, sym, subst, ap, ◌∙◌, ℕ, zero, suc, ◌+◌, ◌≤◌, ◌<◌, arith, Bool, true, false, ◌&&◌}
 use Rattle.std.proofs.Common.{List, [], ◌∷◌, length, take, Option, Some, None}
 use Rattle.std.specs.Prelude.{slice_get, if◌then◌else◌}
 use Rattle.std.specs.List.{position_from}
@@ -17,10 +17,10 @@ use Rattle.c_type_base.specs.declared.typed.TFunction.{TFunction}
 use Rattle.c_type_base.specs.Types.{TyLayer}
 use Rattle.block_meaning.specs.ExpressionsInOrder.{global_of, IsDefined}
 use Rattle.block_meaning.specs.Laws.Progress.Fits.{FitsLevel, Fits}
-use Rattle.block_meaning.specs.Linkage.{function_of, blocks_of, blocks_in, first_block, objects_in, objects_and_texts_in, object_block}
+use Rattle.block_meaning.specs.Linkage.{function_of, blocks_of, blocks_in, objects_in, objects_and_texts_in, object_block}
 use Rattle.block_meaning.specs.Linkage.{text_block, code_block, Definition, AnObject, AFunction, is_object_named, is_function_named}
 use Rattle.block_meaning.specs.Linkage.{or_definition, object_at, function_at, defined_in, defined_from, defined, extern_at, definition_of}
-use Rattle.block_meaning.specs.Linkage.{block_of_definition, extern_block, function_in, function_named, structs_of, same_across_level}
+use Rattle.block_meaning.specs.Linkage.{block_of_definition, extern_block, function_named, structs_of, same_across_level}
 use Rattle.block_meaning.specs.Linkage.{same_across, all_same_across, parameter_types, agrees_with, called_as}
 use Rattle.block_meaning.specs.Locals.{text_of}
 use Rattle.block_meaning.specs.Running.{Function}
@@ -241,9 +241,9 @@ module _ (units : List Typed) (unit : ℕ) (e : ExternInfo) where
       let these = structs_of units unit in
       let those = structs_of units f.unit in
       let result = and_first (same_across these those e.result g.result)
-          (all_same_across these those e.params (parameter_types g)) agrees in
+      (all_same_across these those e.params (parameter_types g)) agrees in
       let params = and_second (same_across these those e.result g.result)
-          (all_same_across these those e.params (parameter_types g)) agrees in
+      (all_same_across these those e.params (parameter_types g)) agrees in
       record {
         function = g;
         function_is = is;

@@ -1,6 +1,6 @@
 -- Blocks of locals come and go safely.
-use Rattle.std.proofs.Common.{◌≡◌, refl, sym, subst, ap, ◌∙◌, ℕ, zero, suc, ◌+◌, ◌≤◌, ◌<◌, arith, Bool, true, false, List, [], ◌∷◌, ◌++◌}
-use Rattle.std.proofs.Common.{length, map, replicate, Option, Some, None, nat_eq}
+use Rattle.std.proofs.Common.{◌≡◌, refl, sym, subst, ap, ◌∙◌, ℕ, suc, ◌+◌, ◌≤◌, ◌<◌, arith, Bool, true, false, List, [], ◌∷◌, ◌++◌}
+use Rattle.std.proofs.Common.{length, Option, Some, nat_eq}
 use Rattle.std.specs.Prelude.{slice_get, if◌then◌else◌}
 use Rattle.std.specs.List.{All}
 use Rattle.std.proofs.lemmas.Bool.{eq-eqb}
@@ -8,17 +8,16 @@ use Rattle.std.proofs.lemmas.List.{length_push}
 use Rattle.std.proofs.lemmas.List.Elements.{All-nil, All-cons, All-head, All-tail, All-append, All-push, All-replicate, All-weaker}
 use Rattle.c_type_base.specs.declared.typed.LocalInfo.{LocalInfo}
 use Rattle.c_type_base.specs.declared.typed.TFunction.{TFunction}
-use Rattle.block_meaning.specs.Blocks.{Cell, Nothing, Local, Block, fresh, ended, with_block}
+use Rattle.block_meaning.specs.Blocks.{Nothing, Local, Block, fresh, ended, with_block}
 use Rattle.block_meaning.specs.ExpressionsInOrder.{Scope, within}
-use Rattle.block_meaning.specs.Laws.Progress.Linked.{all_blocks}
 use Rattle.block_meaning.specs.Laws.Progress.Memory.{cells-more, with_block-changes}
-use Rattle.block_meaning.specs.Laws.Progress.Safe.{CellWithin, CellsWithin, BlockWithin, BlocksWithin, Kept, Went, further, Ends, Safe, Any}
+use Rattle.block_meaning.specs.Laws.Progress.Safe.{CellWithin, BlockWithin, BlocksWithin, Went, further, Ends, Safe}
+use Rattle.block_meaning.specs.Laws.Progress.Safe.{Any}
 use Rattle.block_meaning.specs.Laws.Progress.Safe.{safe-gives, safe-then, safe-unit, safe-some, safe-with_blocks}
-use Rattle.block_meaning.specs.Laws.Progress.Scenes.{LocalAt, LocalsWithin, locals-more, inside_of, SafeCalls, Scene, here_of, calls-less}
-use Rattle.block_meaning.specs.Linkage.{function_named}
+use Rattle.block_meaning.specs.Laws.Progress.Scenes.{LocalAt, LocalsWithin, locals-more, inside_of, Scene, here_of}
 use Rattle.block_meaning.specs.Locals.{latest, local_in, local_info, with_local, new_block, new_local, new_locals, end_locals, scoped}
 use Rattle.block_meaning.specs.Memory.{bytes_of}
-use Rattle.block_meaning.specs.Running.{Call, State, Result, Goes, Stops, Run, gives, goes_on, and_then, with_some, Context}
+use Rattle.block_meaning.specs.Running.{State, Result, Goes, Stops, Run, gives, goes_on, and_then, with_some, Context}
 
 -- ---- one after another, in another order of brackets
 
@@ -52,7 +51,7 @@ new_block-safe {n = n} {P = P} f here k b new each = record {
       let longer : length (now.blocks ++ b ∷ []) ≡ suc count = omega (arith, pushed) in
       let more : State = record now { blocks = now.blocks ++ b ∷ [] } in
       let old = All-weaker (BlockWithin count) (BlockWithin (suc count)) (block_more count (suc count) (omega arith)) now.blocks
-          kept.within in
+      kept.within in
       let all = All-push (BlockWithin (suc count)) now.blocks b old (block_more n (suc count) (omega (arith, kept.blocks)) b new) in
       let within = subst (λ m. BlocksWithin m (now.blocks ++ b ∷ [])) (sym longer) all in
       let safe = each (suc count) (omega (arith, kept.blocks)) count (omega arith) in
@@ -110,7 +109,8 @@ new_locals-safe {s = s} scene {n = n} f (k ∷ ks) has local before of_before ea
     let next : Context → Run Context = λ inner. new_locals inner ks in
     let rest : Context → Run _ = λ inner. and_then (next inner) f in
     let info = info-is scene local k one.info one.is in
-    safe-assoc (with_some (latest scene.opened) (new_local here k)) next f (safe-some_first (new_local here k) rest scene.call scene.call_is
+    safe-assoc (with_some (latest scene.opened) (new_local here k)) next f
+    (safe-some_first (new_local here k) rest scene.call scene.call_is
     (safe-some_first (λ l. new_block here k (fresh (Local scene.call.number k) (bytes_of here l.ty))) rest one.info info
     (new_block-safe rest here k (fresh (Local scene.call.number k) bytes) cells (λ m more block within.
     let inner : ℕ → Option ℕ = λ j. (if nat_eq j k then Some block else local j) in
@@ -139,7 +139,8 @@ pub scoped-safe : {A : Type 0} {s : Scope} {n w : ℕ} {P : ℕ → A → Type 0
     Safe n w (scoped (here_of scene) ks body) P
 scoped-safe {n = n} {w = w} scene [] has lifts body each = each n w (omega arith) (omega arith) scene.local scene.of_locals
 scoped-safe {s = s} {n = n} {w = w} scene (k ∷ ks) has lifts body each = safe-unit (λ v less.
-    new_locals-safe scene (λ inner. and_then (body inner) (λ a. and_then (end_locals inner (k ∷ ks)) (λ _. gives a))) (k ∷ ks) has scene.local s.locals scene.of_locals (λ m more inner of_new of_old.
+    new_locals-safe scene (λ inner. and_then (body inner) (λ a. and_then (end_locals inner (k ∷ ks)) (λ _. gives a)))
+    (k ∷ ks) has scene.local s.locals scene.of_locals (λ m more inner of_new of_old.
     let all = All-append (LocalAt m inner) (k ∷ ks) s.locals of_new of_old in
     let here = inside_of s.program s.unit scene.opened inner in
     safe-then (each m v more (omega (arith, less)) inner all) (λ j further a value.

@@ -1,20 +1,19 @@
 -- A program in order has a meaning, whatever its input and its work are: the definition's own bound is never too small for ever.
-use Rattle.std.proofs.Common.{◌≡◌, ◌≢◌, refl, sym, subst, ap, ◌∙◌, ℕ, zero, suc, ◌+◌, ◌≤◌, ◌<◌, arith, List, [], take, length, map}
-use Rattle.std.proofs.Common.{Option, Some, None}
-use Rattle.std.specs.Prelude.{codes}
+use Rattle.std.proofs.Common.{◌≡◌, ◌≢◌, refl, sym, ap, ℕ, ◌+◌, arith, List, [], take, length, map}
+use Rattle.std.proofs.Common.{None}
 use Rattle.std.proofs.lemmas.List.Elements.{All-nil}
 use Rattle.c_type_base.specs.declared.typed.TFunction.{TFunction}
-use Rattle.block_meaning.specs.Laws.Progress.Calls.{Needs, all-needs, calls-safe}
+use Rattle.block_meaning.specs.Laws.Progress.Calls.{all-needs, calls-safe}
 use Rattle.block_meaning.specs.Laws.Progress.Fits.{Fits, ValueWithin}
 use Rattle.block_meaning.specs.Laws.Progress.Linked.{all_blocks}
 use Rattle.block_meaning.specs.Laws.Progress.Opening.{opening-count, opening-within}
 use Rattle.block_meaning.specs.Laws.Progress.Safe.{Kept, Ends, Safe, safe-some, safe-unit}
-use Rattle.block_meaning.specs.Laws.Progress.Scenes.{Passed}
-use Rattle.block_meaning.specs.Laws.Settled.{IsStop, IsWhole}
-use Rattle.block_meaning.specs.Linkage.{AFunction, defined, parameter_types, type_of_local}
-use Rattle.block_meaning.specs.Meaning.{call_main, before, run_program, End, Done, Stopped, end_of, Outcome, outcome_of, Meaning}
-use Rattle.block_meaning.specs.ProgramsInOrder.{MainInOrder, InOrder}
-use Rattle.block_meaning.specs.Running.{Program, State, Result, Goes, Stops, Stop, Stuck, Divide, Deep, More, IsUndefined}
+use Rattle.block_meaning.specs.Laws.Bound.Meaning.{one_meaning}
+use Rattle.block_meaning.specs.Laws.Settled.{IsWhole}
+use Rattle.block_meaning.specs.Linkage.{AFunction, parameter_types, type_of_local}
+use Rattle.block_meaning.specs.Meaning.{call_main, before, run_program, Stopped, end_of, Outcome, outcome_of, Meaning}
+use Rattle.block_meaning.specs.ProgramsInOrder.{InOrder}
+use Rattle.block_meaning.specs.Running.{Program, State, Result, Goes, Stops, Stuck}
 use Rattle.block_meaning.specs.Values.{Value}
 
 main_safe : {program : Program} (in_order : InOrder program) (work : ℕ) →
@@ -58,15 +57,16 @@ is_no_stop (Goes v now) whole = λ is. absurd cc
 is_no_stop (Stops Stuck now) whole = absurd whole
 is_no_stop (Stops _ now) whole = λ is. absurd cc
 
--- some outcome is the meaning; law `one_meaning` says that no other is
+-- one outcome is the meaning, and no other
 pub record HasMeaning (program : Program) (input : List ℕ) (work : ℕ) : Type 0 where
   pub outcome : Outcome
   pub means : Meaning program input work outcome
+  pub only : (other : Outcome) → Meaning program input work other → other ≡ outcome
 
 pub has_meaning : {program : Program} → InOrder program → (input : List ℕ) (work : ℕ) → HasMeaning program input work
 has_meaning {program = program} in_order input work =
     let bound : ℕ = (all-needs program in_order).depth + work in
-    let r = run_program bound program input work in record {
-      outcome = outcome_of r;
-      means = record { bound = bound; is = refl; suffices = is_no_stop r (never-stuck in_order input work) };
-    }
+    let r = run_program bound program input work in
+    let means : Meaning program input work (outcome_of r) =
+    record { bound = bound; is = refl; suffices = is_no_stop r (never-stuck in_order input work) } in
+    record { outcome = outcome_of r; means = means; only = λ other meaning. one_meaning meaning means }

@@ -1,6 +1,6 @@
 -- Memory and operators are safe: what they use exists, and what they give fits.
-use Rattle.std.proofs.Common.{◌≡◌, refl, sym, subst, ap, ◌∙◌, ℕ, zero, suc, ◌+◌, ◌*◌, ◌≤◌, ◌<◌, arith, Bool, true, false, ◌||◌, not}
-use Rattle.std.proofs.Common.{List, [], ◌∷◌, ◌++◌, length, take, drop, Option, Some, None, nat_eq}
+use Rattle.std.proofs.Common.{◌≡◌, refl, sym, subst, ℕ, ◌+◌, ◌≤◌, ◌<◌, arith, Bool, true, false}
+use Rattle.std.proofs.Common.{List, [], ◌∷◌, length, Option, Some, None}
 use Rattle.std.specs.Prelude.{slice_get, slice_set, if◌then◌else◌}
 use Rattle.std.specs.List.{All}
 use Rattle.std.proofs.lemmas.List.{length-set}
@@ -9,13 +9,15 @@ use Rattle.std.proofs.lemmas.List.Elements.{All-nil, All-append, All-take, All-d
 use Rattle.c_ast.specs.declared.token.Span.{Span}
 use Rattle.c_type_base.specs.declared.ty.Ty.{Ty, out-Ty}
 use Rattle.c_type_base.specs.declared.ty.Ty.TheOpen.{Ty-F}
-use Rattle.c_type_base.specs.Types.{TyLayer, is_there, int_of_level, target_of_level, struct_of_level, is_struct, is_scalar}
+use Rattle.c_type_base.specs.Types.{TyLayer, is_there, struct_of_level, is_struct}
 use Rattle.block_meaning.specs.declared.reason.Reason.{Reason}
 use Rattle.block_meaning.specs.Access.{Access, reason_against, ReadResult, ReadsAs, UndefinedBy, read_in, overlap}
-use Rattle.block_meaning.specs.Blocks.{Cell, Block, Pointer, cells_in, with_cells_in, with_cells, cells_at_block, cells_at, changed, with_block, stored}
-use Rattle.block_meaning.specs.Laws.Progress.Safe.{CellWithin, CellsWithin, BlockWithin, BlocksWithin, Safe, Any, safe-gives, safe-undefined}
-use Rattle.block_meaning.specs.Laws.Progress.Safe.{safe-then, safe-some, safe-blocks, Changes, safe-with_blocks, safe-weaker}
-use Rattle.block_meaning.specs.Laws.Progress.Fits.{FitsLevel, Fits, ValueWithin, ReadFits, read_in-fits, cells_of-within}
+use Rattle.block_meaning.specs.Blocks.{Cell, Block, Pointer, cells_in, with_cells_in, with_cells, cells_at_block, cells_at, changed}
+use Rattle.block_meaning.specs.Blocks.{with_block, stored}
+use Rattle.block_meaning.specs.Laws.Progress.Safe.{CellWithin, CellsWithin, BlockWithin, BlocksWithin, Safe, Any, safe-gives}
+use Rattle.block_meaning.specs.Laws.Progress.Safe.{safe-undefined}
+use Rattle.block_meaning.specs.Laws.Progress.Safe.{safe-then, safe-some, safe-blocks, Changes, safe-with_blocks}
+use Rattle.block_meaning.specs.Laws.Progress.Fits.{FitsLevel, Fits, ReadFits, read_in-fits}
 use Rattle.block_meaning.specs.Memory.{Object, access, in_block, unless_undefined, judged, what_is_read, read_scalar, read, write, Copy}
 use Rattle.block_meaning.specs.Memory.{unless_overlap, copied, copy_struct}
 use Rattle.block_meaning.specs.Running.{Run, gives, with_blocks, with_some, Context}

@@ -1,5 +1,5 @@
 -- Before the call of `main` there are the blocks of all files, and addresses in them name such blocks.
-use Rattle.std.proofs.Common.{◌≡◌, refl, sym, subst, ap, ◌∙◌, ℕ, zero, suc, ◌+◌, ◌≤◌, ◌<◌, arith, List, [], ◌∷◌, ◌++◌, length, map}
+use Rattle.std.proofs.Common.{◌≡◌, refl, sym, subst, ap, ℕ, suc, ◌+◌, ◌<◌, arith, List, [], ◌∷◌, ◌++◌, length, map}
 use Rattle.std.proofs.Common.{Option, Some, None}
 use Rattle.std.specs.Prelude.{slice_get}
 use Rattle.std.specs.List.{All}
@@ -15,17 +15,17 @@ use Rattle.c_type_base.specs.declared.typed.InitValue.{InitValue}
 use Rattle.c_type_base.specs.declared.typed.InitValue.TheVariants as initial
 use Rattle.c_type_base.specs.declared.typed.Target.{Target}
 use Rattle.c_type_base.specs.declared.typed.Target.TheVariants as target
-use Rattle.block_meaning.specs.Blocks.{Cell, Nothing, Byte, Part, Block, Global, Text, Code, pointer, null_block, block_of, with_cells}
+use Rattle.block_meaning.specs.Blocks.{Cell, Byte, Part, Block, Text, Code, pointer, null_block, block_of, with_cells}
 use Rattle.block_meaning.specs.Laws.Progress.Fits.{pointer_cells-within, number_cells-within}
-use Rattle.block_meaning.specs.Laws.Progress.Linked.{all_blocks, object-within, text-within, DefinedWithin, defined-within, definition-block}
+use Rattle.block_meaning.specs.Laws.Progress.Linked.{all_blocks, object-within, text-within, defined-within}
+use Rattle.block_meaning.specs.Laws.Progress.Linked.{definition-block}
 use Rattle.block_meaning.specs.Laws.Progress.Memory.{with_cells-within}
 use Rattle.block_meaning.specs.Laws.Progress.Safe.{CellWithin, CellsWithin, BlockWithin, BlocksWithin}
 use Rattle.block_meaning.specs.Laws.Progress.Zero.{zero_cells-within}
-use Rattle.block_meaning.specs.Linkage.{blocks_of, blocks_in, Definition, defined, definition_of, block_of_definition, extern_at, extern_block}
-use Rattle.block_meaning.specs.Opening.{zero_cells, unsigned, or_null, target_block, number_at, scalar_over, with_piece, with_pieces}
+use Rattle.block_meaning.specs.Linkage.{blocks_in, Definition, defined, definition_of, block_of_definition, extern_at}
+use Rattle.block_meaning.specs.Opening.{zero_cells, unsigned, or_null, target_block, number_at, scalar_over, with_pieces}
 use Rattle.block_meaning.specs.Opening.{objects_from, texts_from, codes_from, opening_from, opening}
 use Rattle.block_meaning.specs.ProgramsInOrder.{TargetInOrder, InitInOrder, PieceInOrder, ObjectInOrder}
-use Rattle.block_meaning.specs.Values.{number_cells, pointer_cells}
 
 -- ---- how many
 
@@ -82,7 +82,8 @@ module _ (units : List Typed) where
   extern_or_null None = omega arith
   extern_or_null (Some e) = defined_or_null e.name (defined units e.name) refl
 
-  target_within : (unit : ℕ) (u : Typed) (t : Target) → slice_get units unit ≡ Some u → TargetInOrder u t → target_block units unit t < count
+  target_within : (unit : ℕ) (u : Typed) (t : Target) → slice_get units unit ≡ Some u → TargetInOrder u t →
+      target_block units unit t < count
   target_within unit u (target.Global k) is less = object-within units unit u k is less
   target_within unit u (target.Extern k) is less = extern_or_null (extern_at units unit k)
   target_within unit u (target.Text k) is less = text-within units unit u k is less
@@ -126,8 +127,9 @@ module _ (units : List Typed) where
   codes_within unit k (f ∷ fs) = All-cons (BlockWithin count) (block_of (Code unit k) []) (codes_from unit (k + 1) fs)
       (All-nil (CellWithin count)) (codes_within unit (k + 1) fs)
 
-  files_within : ((unit : ℕ) (u : Typed) → slice_get units unit ≡ Some u → All (ObjectInOrder u) u.globals) → (unit : ℕ) (us : List Typed) →
-      ((k : ℕ) (u : Typed) → slice_get us k ≡ Some u → slice_get units (unit + k) ≡ Some u) → BlocksWithin count (opening_from units unit us)
+  files_within : ((unit : ℕ) (u : Typed) → slice_get units unit ≡ Some u → All (ObjectInOrder u) u.globals) →
+      (unit : ℕ) (us : List Typed) → ((k : ℕ) (u : Typed) → slice_get us k ≡ Some u → slice_get units (unit + k) ≡ Some u) →
+      BlocksWithin count (opening_from units unit us)
   files_within in_order unit [] rest = All-nil (BlockWithin count)
   files_within in_order unit (u ∷ us) rest =
       let same : unit + 0 ≡ unit = omega arith in

@@ -1,8 +1,7 @@
 -- Operators are safe on values that fit types which they take, and give values of the type that they have then.
-use Rattle.std.proofs.Common.{◌≡◌, refl, sym, subst, ap, ◌∙◌, ℕ, zero, suc, ◌+◌, ◌*◌, ◌≤◌, ◌<◌, arith, Bool, true, false, ◌||◌, not}
-use Rattle.std.proofs.Common.{Option, Some, None, nat_eq}
+use Rattle.std.proofs.Common.{◌≡◌, refl, subst, ap, ℕ, ◌+◌, ◌*◌, arith, Bool, true, ◌||◌}
+use Rattle.std.proofs.Common.{Option, Some, None}
 use Rattle.c_ast.specs.declared.token.Span.{Span}
-use Rattle.c_ast.specs.declared.int_type.IntType.{IntType}
 use Rattle.c_ast.specs.declared.int_type.IntType.TheVariants as int
 use Rattle.c_ast.specs.declared.operator.BinaryOperator.{BinaryOperator}
 use Rattle.c_ast.specs.declared.operator.BinaryOperator.TheVariants as binary
@@ -22,10 +21,11 @@ use Rattle.block_meaning.specs.Laws.Progress.Fits.{address-fits, int-is_integer,
 use Rattle.block_meaning.specs.Laws.Progress.Safe.{Safe, Any, safe-gives, safe-stops, safe-undefined, safe-then, safe-blocks, safe-weaker}
 use Rattle.block_meaning.specs.Operators as operators
 use Rattle.block_meaning.specs.Operators.{operand, int_in, is_true, number_of_truth, or_divide, difference_known, on_pointers, on_pointer}
-use Rattle.block_meaning.specs.Operators.{on_values, operated, binary_of, computing_type, numbers_combined, values_combined, combined, by_one}
+use Rattle.block_meaning.specs.Operators.{on_values, operated, binary_of, computing_type, numbers_combined, values_combined, combined}
+use Rattle.block_meaning.specs.Operators.{by_one}
 use Rattle.block_meaning.specs.Operators.{stepped, target_size}
 use Rattle.block_meaning.specs.Running.{Divide, gives, and_then, Context}
-use Rattle.block_meaning.specs.Values.{Value, Number, Address, converted_to, number_in}
+use Rattle.block_meaning.specs.Values.{Value, Number, Address, converted_to}
 
 comparison_safe : {n w : ℕ} (here : Context) (span : Span) (b : Option Bool) → Safe n w (operators.comparison here span b) Any
 comparison_safe here span None = safe-undefined here span None _
@@ -125,7 +125,8 @@ operated-safe {n = n} here span v x (distance {t} is) of_v of_x =
 divided_fits : {n w : ℕ} (s : Ty) (o : Option ℕ) → is_integer s ≡ true →
     Safe n w (and_then (or_divide o) (λ v. gives (converted_to s v)))
     (Fits s)
-divided_fits s o is = safe-then (divide_safe o) (λ k more v number. safe-gives (converted_to s v) (λ j further. converted-integer s j v is))
+divided_fits s o is = safe-then (divide_safe o) (λ k more v number.
+    safe-gives (converted_to s v) (λ j further. converted-integer s j v is))
 
 numbers_combined_safe : {n w : ℕ} (here : Context) (span : Span) (o : BinaryOperator) (s t : Ty) (v x : Value) → is_integer s ≡ true →
     IsNumber n v → IsNumber n x → Safe n w (values_combined here span o s t v x) (Fits s)

@@ -1,12 +1,12 @@
 -- Runs that are not stuck: they use blocks that exist, keep all blocks, and leave pointers to such blocks alone.
-use Rattle.std.proofs.Common.{◌≡◌, refl, sym, subst, ℕ, zero, suc, ◌≤◌, ◌<◌, arith, Bool, true, false, List, length, Option, Some, None}
+use Rattle.std.proofs.Common.{◌≡◌, refl, sym, subst, ℕ, zero, suc, ◌≤◌, ◌<◌, arith, Bool, true, false, List, length, Option, Some}
 use Rattle.std.specs.List.{All}
 use Rattle.c_ast.specs.declared.token.Span.{Span}
 use Rattle.block_meaning.specs.declared.reason.Reason.{Reason}
 use Rattle.block_meaning.specs.Access.{Access}
 use Rattle.block_meaning.specs.Blocks.{Cell, Part, Block}
 use Rattle.block_meaning.specs.Laws.Settled.{IsStop}
-use Rattle.block_meaning.specs.Running.{Divide, Stop, State, Result, Goes, Stops, Run, gives, stops, goes_on, and_then, one_of, unit_then}
+use Rattle.block_meaning.specs.Running.{Stop, State, Result, Goes, Stops, Run, gives, stops, goes_on, and_then, one_of, unit_then}
 use Rattle.block_meaning.specs.Running.{choice, with_some, by_blocks, with_blocks, Context, undefined}
 
 -- ---- pointers in memory name blocks that exist, of so many

@@ -1,21 +1,20 @@
--- A statement in order is safe where the bound is at least the levels that it needs and the work that is left: each turn of a loop spends a
--- unit, and a loop may have as many turns as the bound of its level says.
-use Rattle.std.proofs.Common.{◌≡◌, refl, sym, subst, ap, ◌∙◌, ℕ, zero, suc, ◌+◌, ◌≤◌, ◌<◌, arith, Bool, true, false, ◌||◌, List, [], ◌∷◌, ◌++◌}
+-- A statement in order is safe where the bound is at least the levels that it needs and the work that is left: each turn of a loop spends
+-- a unit, and a loop may have as many turns as the bound of its level says.
+use Rattle.std.proofs.Common.{◌≡◌, refl, sym, subst, ℕ, zero, suc, ◌+◌, ◌≤◌, ◌<◌, arith, true, List, [], ◌∷◌}
+use Rattle.std.proofs.Common.{◌++◌}
 use Rattle.std.proofs.Common.{map, Option, Some, None}
-use Rattle.std.specs.Prelude.{slice_get, IfSome}
+use Rattle.std.specs.Prelude.{IfSome}
 use Rattle.std.specs.List.{All}
 use Rattle.std.proofs.lemmas.List.Elements.{All-nil, All-cons, All-head, All-tail, All-append}
 use Rattle.c_ast.specs.declared.token.Span.{Span}
 use Rattle.c_type_base.specs.declared.ty.Ty.{Ty}
 use Rattle.c_type_base.specs.declared.expr.TExpr.{TExpr}
-use Rattle.c_type_base.specs.declared.expr.TNode.{out-TNode}
 use Rattle.c_type_base.specs.declared.statement.TDecl.{TDecl}
 use Rattle.c_type_base.specs.declared.statement.TItem.{TItem, out-TItem}
 use Rattle.c_type_base.specs.declared.statement.TItem.TheOpen.{TItem-F, TStmt-F}
 use Rattle.c_type_base.specs.declared.statement.TStmt.{TStmt, out-TStmt}
-use Rattle.c_type_base.specs.declared.typed.TFunction.{TFunction}
-use Rattle.c_type_base.specs.Types.{is_void, is_scalar}
-use Rattle.block_meaning.specs.Expressions.{Calls, parts_at, value_of}
+use Rattle.c_type_base.specs.Types.{is_void}
+use Rattle.block_meaning.specs.Expressions.{Calls, value_of}
 use Rattle.block_meaning.specs.ExpressionsInOrder.{Scope, within, ConditionInOrder, ValueInOrder}
 use Rattle.block_meaning.specs.StatementsInOrder as order
 use Rattle.block_meaning.specs.StatementsInOrder.{DeclarationInOrder, StatementInOrder, ItemInOrder, Items}
@@ -32,7 +31,7 @@ use Rattle.block_meaning.specs.Running.{Run, gives, and_then, unit_then, choice,
 use Rattle.block_meaning.specs.Statements.{StmtLayer, ItemLayer, Flow, Next, Broke, Continued, Returned, StmtParts, on_next, in_order}
 use Rattle.block_meaning.specs.Statements.{local_of, declared_by, declared, item_node, items, condition, condition_or_true, effect, Turn}
 use Rattle.block_meaning.specs.Statements.{Again, Leaves, after_body, around, loop, if_again, while_turn, do_turn, Heading, for_turn}
-use Rattle.block_meaning.specs.Statements.{for_node, if_node, returned, stmt_node, statements_at}
+use Rattle.block_meaning.specs.Statements.{if_node, stmt_node, statements_at}
 use Rattle.block_meaning.specs.Values.{Value, NoValue}
 
 -- a value that is returned fits the result
@@ -408,7 +407,8 @@ return_safe {s = s} is = record {
   safe = λ scene levels deep. safe-gives (Returned NoValue) (λ k more. void-fits s.function.result k is);
 }
 
-then_returned : {n w : ℕ} {m : Run Value} (t u : Ty) → u ≡ t → Safe n w m (Fits u) → Safe n w (and_then m (λ v. gives (Returned v))) (FlowFits t)
+then_returned : {n w : ℕ} {m : Run Value} (t u : Ty) → u ≡ t → Safe n w m (Fits u) →
+    Safe n w (and_then m (λ v. gives (Returned v))) (FlowFits t)
 then_returned t u same safe = safe-then safe (λ k more v fits.
     safe-gives (Returned v) (λ j further. fits-more t k j further v (subst (λ t. Fits t k v) same fits)))
 

@@ -1,12 +1,9 @@
 -- The cells of an object that is zero point to the null block alone.
-use Rattle.std.proofs.Common.{◌≡◌, refl, sym, subst, ap, ◌∙◌, ℕ, zero, suc, ◌≤◌, ◌<◌, arith, List, [], ◌∷◌, ◌++◌, length, replicate}
-use Rattle.std.proofs.Common.{Option, Some, None}
+use Rattle.std.proofs.Common.{◌≡◌, sym, subst, ℕ, zero, suc, ◌<◌, List, [], ◌∷◌, length, replicate}
 use Rattle.std.specs.Prelude.{slice_get}
 use Rattle.std.proofs.lemmas.List.Elements.{All-nil, All-append, All-replicate}
-use Rattle.c_ast.specs.declared.int_type.IntType.{IntType}
 use Rattle.c_type_base.specs.Laws.Opened.{given_types}
 use Rattle.c_type_base.specs.declared.ty.Ty.{Ty, roll-Ty, map-Ty}
-use Rattle.c_type_base.specs.declared.ty.Ty.TheVariants as ty
 use Rattle.c_type_base.specs.declared.ty.Ty.TheOpen.{Ty-F}
 use Rattle.c_type_base.specs.declared.ty.Ty.TheFolds.{ind-Ty, fold-roll-Ty}
 use Rattle.c_type_base.specs.declared.typed.StructInfo.{StructInfo}
@@ -18,7 +15,6 @@ use Rattle.block_meaning.specs.Laws.Progress.Fits.{pointer_cells-within}
 use Rattle.block_meaning.specs.Laws.Progress.Memory.{with_cells-within}
 use Rattle.block_meaning.specs.Laws.Progress.Safe.{CellWithin, CellsWithin}
 use Rattle.block_meaning.specs.Opening.{repeated, zero_step, zero_by, zero_members, zero_in_struct, zero_cells}
-use Rattle.block_meaning.specs.Values.{pointer_cells}
 
 module _ (n : ℕ) (some : 0 < n) where
   repeated_within : (k : ℕ) (cells : List Cell) → CellsWithin n cells → CellsWithin n (repeated k cells)
@@ -58,7 +54,8 @@ module _ (n : ℕ) (some : 0 < n) where
       CellsWithin n cells → CellsWithin n (zero_members zeros ms cells)
   members_within zeros each [] cells all = all
   members_within zeros each (m ∷ ms) cells all =
-      members_within zeros each ms (with_cells m.offset (zeros m.ty) cells) (with_cells-within n m.offset (zeros m.ty) cells (each m.ty) all)
+      members_within zeros each ms (with_cells m.offset (zeros m.ty) cells)
+      (with_cells-within n m.offset (zeros m.ty) cells (each m.ty) all)
 
   struct_within : (depth : ℕ) (structs : List StructInfo) (k : ℕ) → CellsWithin n (zero_in_struct depth structs k)
   struct_within zero structs k = All-nil (CellWithin n)
