@@ -7,10 +7,15 @@ pub mod Memory
 pub mod Operators
 pub mod Linked
 pub mod Scenes
+pub mod Nodes
+pub mod Values
+pub mod Arguments
+pub mod Places
 pub mod Expressions
 pub mod Zero
 pub mod Locals
 pub mod Initialisers
+pub mod Turns
 pub mod Statements
 pub mod Calls
 pub mod Opening

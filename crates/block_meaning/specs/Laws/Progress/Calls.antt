@@ -25,7 +25,8 @@ use Rattle.block_meaning.specs.Laws.Progress.Locals.{new_locals-safe}
 use Rattle.block_meaning.specs.Laws.Progress.Safe.{CellWithin, BlockWithin, BlocksWithin, Went, further, Safe, Any, safe-gives}
 use Rattle.block_meaning.specs.Laws.Progress.Safe.{safe-stops, safe-then, safe-choice, safe-some, Changes, safe-with_blocks}
 use Rattle.block_meaning.specs.Laws.Progress.Scenes.{LocalAt, LocalsWithin, inside_of, Passed, SafeCalls, Scene}
-use Rattle.block_meaning.specs.Laws.Progress.Statements.{FlowFits, flow-more, ItemsSafe, items-safe, items-there}
+use Rattle.block_meaning.specs.Laws.Progress.Statements.{ItemsSafe, items-safe, items-there}
+use Rattle.block_meaning.specs.Laws.Progress.Turns.{FlowFits, flow-more}
 use Rattle.block_meaning.specs.Linkage.{function_in, function_named, parameter_types, type_of_local}
 use Rattle.block_meaning.specs.Meaning.{open_bytes, new_call, new_parameter, with_arguments, is_of_call, end_call, result_of, body_node}
 use Rattle.block_meaning.specs.Meaning.{body_of, calls_at}
@@ -94,7 +95,8 @@ pub record BodySafe (program : Program) (unit : ℕ) (f : TFunction) (depth : �
       Safe n w (body_of (statements_at calls levels) f vs (inside_of program unit (c ∷ opened) (λ k. None))) (Fits f.result)
 
 node_safe : {program : Program} {unit : ℕ} {f : TFunction} (is : List TItem)
-    (part : ItemsSafe (body_scope program unit f (declared is)) is) → All (HasLocal f) (declared is) → {n w : ℕ} (calls : Calls) → SafeCalls program w calls → (levels : ℕ) → part.depth + w ≤ levels →
+    (part : ItemsSafe (body_scope program unit f (declared is)) is) → All (HasLocal f) (declared is) →
+    {n w : ℕ} (calls : Calls) → SafeCalls program w calls → (levels : ℕ) → part.depth + w ≤ levels →
     all_blocks program.units ≤ n → (c : Call) (opened : List Call) → function_named program.units c.function ≡ Some f →
     (local : ℕ → Option ℕ) → LocalsWithin n local (numbered 0 (take f.params f.locals)) →
     Safe n w (body_node (statements_at calls levels) (inside_of program unit (c ∷ opened) local) (TStmt-F.Block is)) (FlowFits f.result)

@@ -28,7 +28,8 @@ use Rattle.block_meaning.specs.Laws.Progress.Fits.{fits-within, cells_of-within,
 use Rattle.block_meaning.specs.Laws.Progress.Memory.{stored-safe, write-safe, copy-safe}
 use Rattle.block_meaning.specs.Laws.Progress.Safe.{CellWithin, CellsWithin, Safe, Any, safe-gives, safe-then, safe-unit, safe-some}
 use Rattle.block_meaning.specs.Laws.Progress.Scenes.{LocalAt, Scene, here_of, later, lower}
-use Rattle.block_meaning.specs.Laws.Progress.Expressions.{ValuePart, part-value, value-safe, some-block}
+use Rattle.block_meaning.specs.Laws.Progress.Expressions.{value-safe}
+use Rattle.block_meaning.specs.Laws.Progress.Nodes.{ValuePart, part-value, some-block}
 use Rattle.block_meaning.specs.Laws.Progress.Locals.{info-is}
 use Rattle.block_meaning.specs.Laws.Progress.Zero.{zero_cells-within}
 use Rattle.block_meaning.specs.Locals.{InitParts, text_of, only_run, fill_array, fill_struct, fill_one, fill_elements}
