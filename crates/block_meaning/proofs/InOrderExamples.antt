@@ -149,7 +149,8 @@ files_in_order : (unit : ℕ) (u : Typed) → slice_get (file ∷ []) unit ≡ S
 files_in_order zero u is = subst (FileInOrder program 0) (same_Some file u is) file_in_order
 files_in_order (suc unit) u is = absurd cc
 
-frames_in_order : (unit k : ℕ) (g : TFunction) → function_named (file ∷ []) (function_of unit k) ≡ Some g → HasFrame program (function_of unit k)
+frames_in_order : (unit k : ℕ) (g : TFunction) → function_named (file ∷ []) (function_of unit k) ≡ Some g →
+    HasFrame program (function_of unit k)
 frames_in_order zero zero g is = record { bytes = 64; is = refl }
 frames_in_order zero (suc zero) g is = record { bytes = 32; is = refl }
 frames_in_order zero (suc (suc k)) g is = absurd cc

@@ -73,8 +73,8 @@ put_safe k = record {
   };
 }
 
-pub agrees_safe : {s : Scope} {n w v : ℕ} (scene : Scene s n w) (levels : ℕ) (span around : Span) (t : Ty) (e : ExternInfo) (d : Definition)
-    (vs : List Value) → v < w → Passed e.params n vs → (o : Option Function) → called_as s.program.units s.unit e d ≡ o →
+pub agrees_safe : {s : Scope} {n w v : ℕ} (scene : Scene s n w) (levels : ℕ) (span around : Span) (t : Ty) (e : ExternInfo)
+    (d : Definition) (vs : List Value) → v < w → Passed e.params n vs → (o : Option Function) → called_as s.program.units s.unit e d ≡ o →
     Safe n v (if_agrees (site_of scene levels span around t) vs o) (Fits e.result)
 agrees_safe scene levels span around t e d vs less passed None is = safe-undefined (here_of scene) span None _
 agrees_safe {s = s} scene levels span around t e d vs less passed (Some f) is =
