@@ -1,3 +1,4 @@
 mod Trees
+mod InOrderExamples
 mod MeaningExamples
 mod AccessExamples

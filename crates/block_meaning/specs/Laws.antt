@@ -2,3 +2,4 @@ pub mod Settled
 pub mod Bound
 pub mod Steady
 pub mod MoreWork
+pub mod Progress

@@ -11,4 +11,7 @@ pub mod Expressions
 pub mod Locals
 pub mod Statements
 pub mod Meaning
+pub mod ExpressionsInOrder
+pub mod StatementsInOrder
+pub mod ProgramsInOrder
 pub mod Laws

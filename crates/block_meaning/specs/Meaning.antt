@@ -134,8 +134,9 @@ pub record Outcome : Type 0 where
 abbrev pub outcome_of : Result Value → Outcome
 outcome_of r = record { end = end_of r; output = (state_of r).output; rest = (state_of r).input }
 
--- What a program means with this input and at most this work: some bound is large enough, and a larger one gives the same (law
--- `one_meaning`). Its names are linked: each that is used is defined in its file or, once, for all files, as is a function `main`.
+-- What a program means with this input and at most this work: some bound is large enough, as for a program in order (law `has_meaning`),
+-- and a larger one gives the same (law `one_meaning`). Its names are linked: each that is used is defined in its file or, once, for all
+-- files, as is a function `main`.
 pub record Meaning (program : Program) (input : List ℕ) (work : ℕ) (outcome : Outcome) : Type 0 where
   pub bound : ℕ
   pub is : outcome ≡ outcome_of (run_program bound program input work)
