@@ -5,8 +5,11 @@ use Rattle.std.specs.List.{list_any}
 use Rattle.c_type_base.specs.declared.ty.Ty.{Ty}
 use Rattle.block_meaning.specs.declared.reason.Reason.{Reason}
 use Rattle.block_meaning.specs.declared.reason.Reason.TheVariants.{Misaligned, Null, Dead, Outside, ReadOnly, Indeterminate, Part}
-use Rattle.block_meaning.specs.Blocks.{Cell, Kind, NullBlock, Text, Block, Pointer, cells_in}
-use Rattle.block_meaning.specs.Values.{Value, is_nothing, value_of_cells}
+use Rattle.block_meaning.specs.declared.cell.Cell.{Cell}
+use Rattle.block_meaning.specs.declared.value.Pointer.{Pointer}
+use Rattle.block_meaning.specs.Blocks.{Kind, NullBlock, Text, Block, cells_in}
+use Rattle.block_meaning.specs.declared.value.Value.{Value}
+use Rattle.block_meaning.specs.Values.{is_nothing, value_of_cells}
 
 -- what is accessed, and how
 pub record Access : Type 0 where

@@ -15,7 +15,9 @@ use Rattle.block_meaning.specs.Opening.{opening}
 use Rattle.block_meaning.specs.Running.{Function, Call, Program, Context, State, Result, Goes, Stops, Run, Stop, Deep, Stuck, gives, stops}
 use Rattle.block_meaning.specs.Running.{stuck, and_then, unit_then, choice, with_some, with_blocks}
 use Rattle.block_meaning.specs.Statements.{StmtLayer, Flow, Returned, StmtParts, statements_at, declared, items}
-use Rattle.block_meaning.specs.Values.{Value, NoValue, number_in, cells_of, missing_result}
+use Rattle.block_meaning.specs.declared.value.Value.{Value}
+use Rattle.block_meaning.specs.declared.value.Value.TheVariants.{NoValue}
+use Rattle.block_meaning.specs.Values.{number_in, cells_of, missing_result}
 
 -- ---- calls
 

@@ -15,14 +15,16 @@ use Rattle.c_type_base.specs.declared.typed.ExternInfo.{ExternInfo}
 use Rattle.c_type_base.specs.Arithmetic.{unary_value}
 use Rattle.c_type_base.specs.Types.{target_of}
 use Rattle.block_meaning.specs.declared.reason.Reason.TheVariants.{Signature}
-use Rattle.block_meaning.specs.Blocks.{Pointer}
+use Rattle.block_meaning.specs.declared.value.Pointer.{Pointer}
 use Rattle.block_meaning.specs.Expressions.{NodeLayer, Site, number_known, same_truth, assign_effect, take_byte, put_byte}
 use Rattle.block_meaning.specs.Expressions.{first_number, start_of, starts, element_at, member_of}
 use Rattle.block_meaning.specs.Linkage.{function_of, object_block, text_block, extern_block, extern_at, definition_of, called_as}
 use Rattle.block_meaning.specs.Memory.{object, bytes_of, read, read_scalar, write}
 use Rattle.block_meaning.specs.Operators.{operand, int_in, is_true, number_of_truth, operated, gives_old, stepped}
 use Rattle.block_meaning.specs.Running.{Function, Run, gives, stuck, and_then, unit_gives, with_some, Context, undefined}
-use Rattle.block_meaning.specs.Values.{Value, Number, Address, pointer_in, number_in, converted_to}
+use Rattle.block_meaning.specs.declared.value.Value.{Value}
+use Rattle.block_meaning.specs.declared.value.Value.TheVariants.{Number, Address}
+use Rattle.block_meaning.specs.Values.{pointer_in, number_in, converted_to}
 use Rattle.mean_machine.specs.Frames.{Evaluate, Locate, OperandFrame, Unary, LogicalFirst, LogicalSecond, BinaryLeft, BinaryRight}
 use Rattle.mean_machine.specs.Frames.{AssignRight, Condition, CastTo, ConvertTo, Argument, PointerIn, Dereferenced, IndexLeft, IndexRight}
 use Rattle.mean_machine.specs.Frames.{ArrowTo, PlaceFrame, Addressed, AssignLeft, Stepped, ReadFrom, Decayed, MemberAt, MemberRead}

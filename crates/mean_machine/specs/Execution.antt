@@ -15,7 +15,9 @@ use Rattle.c_type_base.specs.declared.typed.MemberInfo.{MemberInfo}
 use Rattle.c_type_base.specs.declared.typed.TFunction.{TFunction}
 use Rattle.c_type_base.specs.Layout.{members_of}
 use Rattle.c_type_base.specs.Types.{TyLayer, is_struct, is_array}
-use Rattle.block_meaning.specs.Blocks.{Byte, Pointer, pointer, moved, stored}
+use Rattle.block_meaning.specs.declared.cell.Cell.TheVariants.{Byte}
+use Rattle.block_meaning.specs.declared.value.Pointer.{Pointer}
+use Rattle.block_meaning.specs.Blocks.{pointer, moved, stored}
 use Rattle.block_meaning.specs.Expressions.{NodeLayer}
 use Rattle.block_meaning.specs.Linkage.{function_named}
 use Rattle.block_meaning.specs.Locals.{latest, local_info, new_locals, end_locals, text_at, is_list, after_zero}
@@ -25,7 +27,9 @@ use Rattle.block_meaning.specs.Operators.{is_true}
 use Rattle.block_meaning.specs.Running.{Function, Call, Run, gives, stuck, and_then, with_blocks, with_some, Context}
 use Rattle.block_meaning.specs.Statements.{StmtLayer, ItemLayer, Flow, Next, Broke, Continued, Returned, local_of, declared}
 use Rattle.block_meaning.specs.Statements.{Turn, Again, Leaves, after_body, Heading}
-use Rattle.block_meaning.specs.Values.{Value, NoValue, pointer_in}
+use Rattle.block_meaning.specs.declared.value.Value.{Value}
+use Rattle.block_meaning.specs.declared.value.Value.TheVariants.{NoValue}
+use Rattle.block_meaning.specs.Values.{pointer_in}
 use Rattle.mean_machine.specs.Frames.{Loop, While, DoWhile, For, Evaluate, Execute, Declare, Fill, ValueFrame, Effect, Drop, IfTest}
 use Rattle.mean_machine.specs.Frames.{Test, ThenTurn, Return, FillStruct, FillScalar, FlowFrame, Items, Scope, Body, Called, DoneFrame}
 use Rattle.mean_machine.specs.Frames.{Declared, AfterDeclarations, ForDeclared, Elements, Members, Frame, OnValue, OnFlow, OnDone, Runs}

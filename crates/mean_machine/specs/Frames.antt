@@ -13,11 +13,11 @@ use Rattle.c_type_base.specs.declared.statement.TDecl.{TDecl}
 use Rattle.c_type_base.specs.declared.statement.TItem.{TItem}
 use Rattle.c_type_base.specs.declared.statement.TStmt.{TStmt}
 use Rattle.c_type_base.specs.declared.typed.MemberInfo.{MemberInfo}
-use Rattle.block_meaning.specs.Blocks.{Pointer}
+use Rattle.block_meaning.specs.declared.value.Pointer.{Pointer}
 use Rattle.block_meaning.specs.Memory.{Object}
 use Rattle.block_meaning.specs.Running.{Call, Context, State, Stop}
 use Rattle.block_meaning.specs.Statements.{Flow, Heading}
-use Rattle.block_meaning.specs.Values.{Value}
+use Rattle.block_meaning.specs.declared.value.Value.{Value}
 
 pub data Loop : Type 0 where
   While : TExpr → TStmt → Loop

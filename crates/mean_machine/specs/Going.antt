@@ -1,9 +1,9 @@
 -- How the machine goes on after a run of the meaning (this project's own).
 use Rattle.std.specs.Prelude.{ℕ, zero, suc, Bool, true, false, List}
-use Rattle.block_meaning.specs.Blocks.{Pointer}
+use Rattle.block_meaning.specs.declared.value.Pointer.{Pointer}
 use Rattle.block_meaning.specs.Running.{More, Stuck, State, Result, Goes, Stops, Run, Context}
 use Rattle.block_meaning.specs.Statements.{Flow}
-use Rattle.block_meaning.specs.Values.{Value}
+use Rattle.block_meaning.specs.declared.value.Value.{Value}
 use Rattle.mean_machine.specs.Frames.{GivesValue, GivesPlace, GivesFlow, Finished, Frame, Machine, Runs, Ended}
 
 -- how the machine stands, by the state

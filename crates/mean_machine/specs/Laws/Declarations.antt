@@ -12,7 +12,8 @@ use Rattle.c_type_base.specs.declared.statement.TDecl.{TDecl}
 use Rattle.c_type_base.specs.declared.typed.MemberInfo.{MemberInfo}
 use Rattle.c_type_base.specs.Layout.{members_of}
 use Rattle.c_type_base.specs.Types.{TyLayer, is_struct, is_array}
-use Rattle.block_meaning.specs.Blocks.{Pointer, pointer, stored}
+use Rattle.block_meaning.specs.declared.value.Pointer.{Pointer}
+use Rattle.block_meaning.specs.Blocks.{pointer, stored}
 use Rattle.block_meaning.specs.Expressions.{NodeLayer, ExprParts, value_of}
 use Rattle.block_meaning.specs.Locals.{InitParts, latest, local_info, fill_array, fill_struct, fill_one, fill_elements, fill_members}
 use Rattle.block_meaning.specs.Locals.{fill_list, fill_node, fill_at, is_list, after_zero, init_local, declared_with}
@@ -20,11 +21,12 @@ use Rattle.block_meaning.specs.Locals.{declarations, only_run}
 use Rattle.block_meaning.specs.Memory.{Object, object, structs_at}
 use Rattle.block_meaning.specs.Opening.{zero_cells}
 use Rattle.block_meaning.specs.Running.{Run, gives, and_then, with_blocks, with_some, Context}
-use Rattle.block_meaning.specs.Values.{Value}
+use Rattle.block_meaning.specs.declared.value.Value.{Value}
 use Rattle.mean_machine.specs.Frames.{Declare, Fill, ValueFrame, Drop, FillStruct, FillScalar, Declared, Elements, Members, Frame}
 use Rattle.mean_machine.specs.Frames.{OnValue, OnDone, Runs}
 use Rattle.mean_machine.specs.Going.{Stand, by, either, finished}
-use Rattle.mean_machine.specs.Execution.{value_first, declared_object, zeroed, declare_with, fill_text, elements, members, fill, value_given}
+use Rattle.mean_machine.specs.Execution.{value_first, declared_object, zeroed, declare_with, fill_text, elements, members, fill}
+use Rattle.mean_machine.specs.Execution.{value_given}
 use Rattle.mean_machine.specs.Laws.Computes.{Computes, computes-by, computes-stuck, computes-next, computes-then, computes-unit}
 use Rattle.mean_machine.specs.Laws.Computes.{computes-some}
 use Rattle.mean_machine.specs.Laws.Evaluation.{PartsCompute}

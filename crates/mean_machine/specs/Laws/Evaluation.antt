@@ -12,13 +12,14 @@ use Rattle.c_type_base.specs.declared.expr.TNode.{out-TNode}
 use Rattle.c_type_base.specs.declared.expr.TNode.TheOpen.{TNode-F}
 use Rattle.c_type_base.specs.declared.expr.Callee.{Callee}
 use Rattle.c_type_base.specs.declared.expr.Callee.TheVariants as callee
-use Rattle.block_meaning.specs.Blocks.{Pointer}
+use Rattle.block_meaning.specs.declared.value.Pointer.{Pointer}
 use Rattle.block_meaning.specs.Expressions.{NodeLayer, ExprParts, Calls, Site, site, value_of, unary_node, logical_node, same_truth}
 use Rattle.block_meaning.specs.Expressions.{binary_node, cond_node, assign_node, if_agrees, call_effect, place_node, value_node}
 use Rattle.block_meaning.specs.Expressions.{parts_at}
 use Rattle.block_meaning.specs.Linkage.{extern_at, definition_of, called_as}
 use Rattle.block_meaning.specs.Running.{Function, Result, Goes, Stops, Run, goes_on, gives, and_then, unit_then, all_of, Context}
-use Rattle.block_meaning.specs.Values.{Value, pointer_in}
+use Rattle.block_meaning.specs.declared.value.Value.{Value}
+use Rattle.block_meaning.specs.Values.{pointer_in}
 use Rattle.mean_machine.specs.Frames.{Evaluate, Locate, OperandFrame, Unary, LogicalFirst, LogicalSecond, BinaryLeft, BinaryRight}
 use Rattle.mean_machine.specs.Frames.{AssignRight, Condition, CastTo, ConvertTo, Argument, PointerIn, Dereferenced, IndexLeft, IndexRight}
 use Rattle.mean_machine.specs.Frames.{ArrowTo, PlaceFrame, Addressed, AssignLeft, Stepped, ReadFrom, Decayed, MemberAt, MemberRead}
@@ -126,7 +127,8 @@ arguments_compute s k f [] done = subst
     (λ vs. Computes (unit_then (call_effect (site_of s) f vs)) (arguments enter s.here k s.e.span f done []) (value s.here k))
     (sym (append-nil done)) (computes-unit (call_computes s k f done))
 arguments_compute s k f (e ∷ es) done = computes-as
-    (λ now. all_put (value_of s.parts e now) (all_of (map (value_of s.parts) es)) (λ vs. unit_then (call_effect (site_of s) f (done ++ vs))))
+    (λ now. all_put (value_of s.parts e now) (all_of (map (value_of s.parts) es))
+    (λ vs. unit_then (call_effect (site_of s) f (done ++ vs))))
     (operand_computes s k e (Argument s.e.span f done es) (λ v. computes-as
     (λ now. λ i. goes_on (all_of (map (value_of s.parts) es) now)
     (λ vs. unit_then (call_effect (site_of s) f ((sym (append_assoc done (v ∷ []) vs)) i))))

@@ -14,7 +14,8 @@ use Rattle.block_meaning.specs.Statements.{statements_at}
 use Rattle.mean_machine.specs.Frames.{Loop, While, DoWhile, For, Execute, Declare, Effect, IfTest, Test, ThenTurn, Return, Items, Scope}
 use Rattle.mean_machine.specs.Frames.{Body, AfterDeclarations, ForDeclared, Frame, OnFlow, OnDone, Runs}
 use Rattle.mean_machine.specs.Going.{Stand, either, flow}
-use Rattle.mean_machine.specs.Execution.{value_first, item, sequence, scope, test, turn, holding, effect_then_turn, by_turn, execute, after_item}
+use Rattle.mean_machine.specs.Execution.{value_first, item, sequence, scope, test, turn, holding, effect_then_turn, by_turn, execute}
+use Rattle.mean_machine.specs.Execution.{after_item}
 use Rattle.mean_machine.specs.Laws.Computes.{Computes, computes-by, computes-stuck, computes-next, computes-then, computes-unit}
 use Rattle.mean_machine.specs.Laws.Computes.{computes-either}
 use Rattle.mean_machine.specs.Laws.Evaluation.{CallsCompute, PartsCompute, parts_compute}
@@ -143,7 +144,8 @@ if_computes : {s : StmtParts} → StmtsCompute s → (here : Context) (k : List 
     Computes (if_node s here e st other) (value_first here k e (IfTest e st other)) (flow here k)
 if_computes of here k e st None = computes-then (value_computes (of.expr here) k e (IfTest e st None) (λ v. computes-by _ _))
     (λ holds. computes-either holds (of.run here st k) (computes-by _ _))
-if_computes of here k e st (Some other) = computes-then (value_computes (of.expr here) k e (IfTest e st (Some other)) (λ v. computes-by _ _))
+if_computes of here k e st (Some other) =
+    computes-then (value_computes (of.expr here) k e (IfTest e st (Some other)) (λ v. computes-by _ _))
     (λ holds. computes-either holds (of.run here st k) (of.run here other k))
 
 stmt_computes : {s : StmtParts} → StmtsCompute s → (here : Context) (k : List Frame) (st : StmtLayer) →

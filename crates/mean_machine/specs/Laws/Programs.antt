@@ -14,7 +14,7 @@ use Rattle.block_meaning.specs.Meaning.{calls_at, outside_of_calls, call_main, b
 use Rattle.block_meaning.specs.Running.{Function, Call, Program, Context, State, Result, Deep, Run, gives, and_then}
 use Rattle.block_meaning.specs.Running.{with_blocks, with_some}
 use Rattle.block_meaning.specs.Statements.{StmtLayer, Flow, StmtParts, declared, items, statements_at}
-use Rattle.block_meaning.specs.Values.{Value}
+use Rattle.block_meaning.specs.declared.value.Value.{Value}
 use Rattle.mean_machine.specs.Frames.{Called, Frame, OnFlow}
 use Rattle.mean_machine.specs.Going.{go_by, by, value}
 use Rattle.mean_machine.specs.Execution.{entered_body, entered_call, start_body}
@@ -29,8 +29,8 @@ abbrev leaves_call : Call → Ty → Flow → Run Value
 leaves_call c t f = and_then (with_blocks (end_call c.number)) (λ u. gives (result_of t f))
 
 body_computes : {s : StmtParts} → StmtsCompute s → (here : Context) (k : List Frame) (c : Call) (t : Ty) (ready : Context)
-    (body : StmtLayer) → Computes (and_then (body_node s ready body) (leaves_call c t)) (by (entered_body c ready body) (start_body here k t))
-    (value here k)
+    (body : StmtLayer) → Computes (and_then (body_node s ready body) (leaves_call c t))
+    (by (entered_body c ready body) (start_body here k t)) (value here k)
 body_computes {s = s} of here k c t ready (TStmt-F.Block is) =
     computes-grouped (new_locals ready (declared is)) (λ inner. items s inner is) (leaves_call c t)
     (computes-with (new_locals ready (declared is)) _ (start_body here k t) (λ inner.
@@ -41,8 +41,8 @@ body_computes of here k c t ready _ = computes-stuck _ _
 
 inside_computes : {s : StmtParts} → StmtsCompute s → (here : Context) (k : List Frame) (vs : List Value) (g : TFunction) (c : Call) →
     Computes (body_of s g vs (inside here c)) (by (entered_call vs g (inside here c) c) (start_body here k g.result)) (value here k)
-inside_computes of here k vs g c = computes-with (with_arguments (inside here c) 0 (take g.params g.locals) vs) _ (start_body here k g.result)
-    (λ ready. body_computes of here k c g.result ready (out-TStmt g.body))
+inside_computes of here k vs g c =
+    computes-with (with_arguments (inside here c) 0 (take g.params g.locals) vs) _ (start_body here k g.result) (λ ready. body_computes of here k c g.result ready (out-TStmt g.body))
 
 abbrev the_call : Function → ℕ → State → Call
 the_call f place now = record { number = length now.calls; function = f; place = place }
