@@ -4,16 +4,9 @@ use Rattle.std.specs.Prelude.{ℕ, Bool, true, false, ◌+◌, ◌%◌, ◌^◌,
 use Rattle.std.specs.Prelude.{Option, Some, None}
 use Rattle.block_meaning.specs.declared.cell.Cell.{Cell}
 use Rattle.block_meaning.specs.declared.cell.Cell.TheVariants.{Nothing}
+use Rattle.block_meaning.specs.declared.kind.Kind.{Kind}
+use Rattle.block_meaning.specs.declared.kind.Kind.TheVariants.{NullBlock}
 use Rattle.block_meaning.specs.declared.value.Pointer.{Pointer}
-
--- What a block is. Objects, texts and functions of a file have its number and their own there. A parameter or local has the number of its
--- call, which is how many calls were made before, and its own in the function.
-pub data Kind : Type 0 where
-  NullBlock : Kind
-  Global : (unit number : ℕ) → Kind
-  Text : (unit number : ℕ) → Kind
-  Code : (unit number : ℕ) → Kind
-  Local : (call number : ℕ) → Kind
 
 pub record Block : Type 0 where
   pub kind : Kind

@@ -7,7 +7,9 @@ use Rattle.c_type_base.specs.declared.statement.TItem.TheOpen.{TStmt-F}
 use Rattle.c_type_base.specs.declared.statement.TStmt.{out-TStmt}
 use Rattle.c_type_base.specs.declared.typed.TFunction.{TFunction}
 use Rattle.c_type_base.specs.declared.typed.LocalInfo.{LocalInfo}
-use Rattle.block_meaning.specs.Blocks.{Kind, Local, Block, block_of, ended}
+use Rattle.block_meaning.specs.declared.kind.Kind.{Kind}
+use Rattle.block_meaning.specs.declared.kind.Kind.TheVariants.{Local}
+use Rattle.block_meaning.specs.Blocks.{Block, block_of, ended}
 use Rattle.block_meaning.specs.Expressions.{Calls}
 use Rattle.block_meaning.specs.Linkage.{Definition, AnObject, AFunction, defined, function_named}
 use Rattle.block_meaning.specs.Locals.{latest, new_block, new_locals}

@@ -7,7 +7,8 @@ use Rattle.c_type_base.specs.Sizes.{size, align}
 use Rattle.c_type_base.specs.Types.{is_struct}
 use Rattle.block_meaning.specs.declared.reason.Reason.{Reason}
 use Rattle.block_meaning.specs.declared.reason.Reason.TheVariants.{Overlap}
-use Rattle.block_meaning.specs.Access.{Access, reason_against, ReadResult, ReadsAs, UndefinedBy, read_in, overlap}
+use Rattle.block_meaning.specs.declared.access.Access.{Access}
+use Rattle.block_meaning.specs.Access.{reason_against, ReadResult, ReadsAs, UndefinedBy, read_in, overlap}
 use Rattle.block_meaning.specs.declared.value.Pointer.{Pointer}
 use Rattle.block_meaning.specs.Blocks.{Block, cells_at, stored}
 use Rattle.block_meaning.specs.Linkage.{structs_of}

@@ -10,7 +10,8 @@ use Rattle.c_type_base.specs.Arithmetic.{binary_value}
 use Rattle.c_type_base.specs.Conversions.{wrap}
 use Rattle.c_type_base.specs.Types.{is_struct}
 use Rattle.block_meaning.specs.declared.reason.Reason.{Reason}
-use Rattle.block_meaning.specs.Access.{Access, ReadResult, ReadsAs, UndefinedBy, reason_against, read_in}
+use Rattle.block_meaning.specs.declared.access.Access.{Access}
+use Rattle.block_meaning.specs.Access.{ReadResult, ReadsAs, UndefinedBy, reason_against, read_in}
 use Rattle.block_meaning.specs.declared.value.Pointer.{Pointer}
 use Rattle.block_meaning.specs.Blocks.{Block}
 use Rattle.block_meaning.specs.Compare.{compared, pointer_truth, objects_between}

@@ -1,0 +1,39 @@
+-- The blocks that the slots of a memory stand for.
+use Rattle.std.specs.Prelude.{◌≡◌, ℕ, Bool, false, nat_eq, List, [], ◌∷◌, length, slice_get, Option, Some, None, Result, Ok, Err}
+use Rattle.std.specs.Prelude.{if◌then◌else◌}
+use Rattle.block_meaning.specs.declared.reason.Reason.{Reason}
+use Rattle.block_meaning.specs.declared.value.Value.{Value}
+use Rattle.block_meaning.specs.Access.{ReadResult, ReadsAs, UndefinedBy, is_null_block}
+use Rattle.block_meaning.specs.Blocks.{Block, block_of}
+use Rattle.mean_memory.specs.declared.slot.Slot.{Slot}
+
+-- the block of a slot
+abbrev pub block_in : Slot → Block
+block_in s = block_of s.kind s.cells.items
+
+abbrev pub slot_with : List Slot → ℕ → Option Slot
+slot_with [] n = None
+slot_with (s ∷ ss) n = (if nat_eq s.number n then Some s else slot_with ss n)
+
+-- a block whose life has ended
+pub record IsDead (b : Block) : Type 0 where
+  pub dead : b.live ≡ false
+  pub no_null : is_null_block b.kind ≡ false
+
+-- a slot, or none, for a block
+abbrev pub IsShown : Option Slot → Option Block → Type 0
+IsShown None None = Unit {0}
+IsShown None (Some b) = IsDead b
+IsShown (Some s) None = ⊥
+IsShown (Some s) (Some b) = b ≡ block_in s
+
+-- the slots have the numbers of the blocks that are alive, each once
+pub record Holds (slots : List Slot) (next : ℕ) (blocks : List Block) : Type 0 where
+  pub count : next ≡ length blocks
+  pub each : (n : ℕ) → IsShown (slot_with slots n) (slice_get blocks n)
+  pub once : (i : ℕ) (s : Slot) → slice_get slots i ≡ Some s → slot_with slots s.number ≡ Some s
+
+-- what a read gives
+abbrev pub read_as : Result Value Reason → ReadResult
+read_as (Ok v) = ReadsAs v
+read_as (Err why) = UndefinedBy why
