@@ -1,3 +1,4 @@
 pub mod Filled
 pub mod Ends
 pub mod Shown
+pub mod Laws

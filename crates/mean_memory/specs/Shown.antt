@@ -27,11 +27,26 @@ IsShown None (Some b) = IsDead b
 IsShown (Some s) None = ⊥
 IsShown (Some s) (Some b) = b ≡ block_in s
 
--- the slots have the numbers of the blocks that are alive, each once
+-- no two have one number
+abbrev pub Apart : List Slot → Type 0
+Apart [] = Unit {0}
+Apart (s ∷ ss) = (slot_with ss s.number ≡ None) × Apart ss
+
+-- the slots have the numbers of the blocks that are alive
 pub record Holds (slots : List Slot) (next : ℕ) (blocks : List Block) : Type 0 where
   pub count : next ≡ length blocks
   pub each : (n : ℕ) → IsShown (slot_with slots n) (slice_get blocks n)
-  pub once : (i : ℕ) (s : Slot) → slice_get slots i ≡ Some s → slot_with slots s.number ≡ Some s
+  pub apart : Apart slots
+
+-- a slot of a number stands at an index
+pub record StandsAt (slots : List Slot) (number index : ℕ) : Type 0 where
+  pub slot : Slot
+  pub is : slice_get slots index ≡ Some slot
+  pub named : slot.number ≡ number
+
+abbrev pub IsPosition : List Slot → ℕ → Option ℕ → Type 0
+IsPosition slots number None = slot_with slots number ≡ None
+IsPosition slots number (Some index) = StandsAt slots number index
 
 -- what a read gives
 abbrev pub read_as : Result Value Reason → ReadResult

@@ -1,0 +1,42 @@
+//! Where the slot of a block stands.
+
+ghost use Rattle.std.specs.Prelude.{◌≡◌};
+ghost use Rattle.std.specs.Prelude.{IsTrue};
+ghost use Rattle.mean_memory.specs.Shown.{IsPosition, StandsAt};
+
+use crate::slot::Slot;
+use sqlite_items::at;
+
+fn stands_at(slots: &[Slot], number: u64, index: usize) -> bool
+    ensures { IsTrue result → StandsAt slots.now number index }
+{
+    match at(slots, index) {
+        Some(slot) => slot.number == number,
+        None => false,
+    }
+}
+
+/// Looks from the latest on.
+fn last_position(slots: &[Slot], number: u64) -> Option<usize>
+    ensures { IsPosition slots.now number result }
+{
+    let mut index = slots.len();
+    while index > 0 {
+        index -= 1;
+        if slots[index].number == number {
+            return Some(index);
+        }
+    }
+    None
+}
+
+/// Where the slot of a block stands, if the block is alive: where a hint says, and else the slots are looked through.
+pub fn position(slots: &[Slot], number: u64, hint: usize) -> Option<usize>
+    ensures { IsPosition slots.now number result }
+{
+    if stands_at(slots, number, hint) {
+        Some(hint)
+    } else {
+        last_position(slots, number)
+    }
+}
