@@ -1,10 +1,12 @@
 -- The blocks that the slots of a memory stand for.
 use Rattle.std.specs.Prelude.{◌≡◌, ℕ, Bool, false, nat_eq, List, [], ◌∷◌, length, slice_get, Option, Some, None, Result, Ok, Err}
 use Rattle.std.specs.Prelude.{if◌then◌else◌}
+use Rattle.block_meaning.specs.declared.access.Access.{Access}
+use Rattle.block_meaning.specs.declared.cell.Cell.{Cell}
 use Rattle.block_meaning.specs.declared.reason.Reason.{Reason}
 use Rattle.block_meaning.specs.declared.value.Value.{Value}
 use Rattle.block_meaning.specs.Access.{ReadResult, ReadsAs, UndefinedBy, is_null_block}
-use Rattle.block_meaning.specs.Blocks.{Block, block_of}
+use Rattle.block_meaning.specs.Blocks.{Block, block_of, with_cells_in, stored}
 use Rattle.mean_memory.specs.declared.slot.Slot.{Slot}
 
 -- the block of a slot
@@ -52,3 +54,13 @@ IsPosition slots number (Some index) = StandsAt slots number index
 abbrev pub read_as : Result Value Reason → ReadResult
 read_as (Ok v) = ReadsAs v
 read_as (Err why) = UndefinedBy why
+
+-- the blocks after a write, by the reason against it
+abbrev pub written_or_kept : Access → List Cell → List Block → Option Reason → List Block
+written_or_kept a cells blocks None = stored a.at cells blocks
+written_or_kept a cells blocks (Some why) = blocks
+
+-- likewise the block
+abbrev pub written_block : Access → List Cell → Block → Option Reason → Block
+written_block a cells b None = with_cells_in a.at.offset cells b
+written_block a cells b (Some why) = b

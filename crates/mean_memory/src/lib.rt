@@ -4,6 +4,7 @@
 mod compare;
 mod judge;
 mod lookup;
+mod memory;
 mod reading;
 mod slot;
 mod values;
@@ -11,7 +12,7 @@ mod writing;
 
 pub use compare::{Ends, difference};
 pub use judge::{read_in, reason_after, reason_against, scalar_in};
-pub use lookup::position;
+pub use memory::Memory;
 pub use reading::{number_of_cells, pointer_of_cells, value_of_cells};
 pub use slot::Slot;
 pub use values::{converted_to, missing_result, moved, null, number_in, pointer_in};

@@ -6,11 +6,15 @@ use Rattle.std.proofs.lemmas.List.{length-set, length-append}
 use Rattle.std.proofs.lemmas.Option.{slice_get_past}
 use Rattle.std.specs.Prelude.{slice_get, slice_set}
 use Rattle.block_meaning.specs.Access.{is_null_block}
-use Rattle.block_meaning.specs.Blocks.{Block, ended, changed, with_block}
+use Rattle.block_meaning.specs.declared.access.Access.{Access}
+use Rattle.block_meaning.specs.declared.reason.Reason.{Reason}
+use Rattle.block_meaning.specs.declared.cell.Cell.{Cell}
+use Rattle.block_meaning.specs.declared.value.Pointer.{Pointer}
+use Rattle.block_meaning.specs.Blocks.{Block, ended, changed, with_block, with_cells_in, stored}
 use Rattle.mean_memory.specs.declared.slot.Slot.{Slot}
-use Rattle.mean_memory.specs.Laws.Places.{get_new, get_old, get_set_same, get_set_other}
+use Rattle.mean_memory.specs.Laws.Places.{some_same, set_there, get_new, get_old, get_set_same, get_set_other}
 use Rattle.mean_memory.specs.Laws.Slots.{stands_with, set_other, set_same, set_apart, push_other, push_same, push_apart, front_apart}
-use Rattle.mean_memory.specs.Shown.{block_in, slot_with, IsDead, IsShown, Apart, Holds}
+use Rattle.mean_memory.specs.Shown.{block_in, slot_with, IsDead, IsShown, Apart, Holds, written_block, written_or_kept}
 
 data Decision (m n : ℕ) : Type 0 where
   Same : m ≡ n → Decision m n
@@ -102,3 +106,36 @@ holds_pop {next = next} {blocks = blocks} front s holds no_null =
       each = λ n. pop_shown front s holds no_null at n (decision s.number n);
       apart = (front_apart front s holds.apart).0;
     })
+
+pub holds_as : {slots slots' : List Slot} {next next' : ℕ} {blocks : List Block} → slots' ≡ slots → next' ≡ next → Holds slots next blocks →
+    Holds slots' next' blocks
+holds_as {slots = slots} {next' = next'} {blocks = blocks} of_slots of_next holds =
+    subst (λ l. Holds l next' blocks) (sym of_slots) (subst (λ n. Holds slots n blocks) (sym of_next) holds)
+
+-- cells of a block change, in its slot too
+pub holds_stored : {slots : List Slot} {next : ℕ} {blocks : List Block} → Holds slots next blocks → (p : Pointer) (cells : List Cell)
+    (i : ℕ) (s s' : Slot) → slice_get slots i ≡ Some s → s.number ≡ p.block → s'.number ≡ s.number →
+    block_in s' ≡ with_cells_in p.offset cells (block_in s) → Holds (slice_set slots i s') next (stored p cells blocks)
+holds_stored {slots = slots} {next = next} {blocks = blocks} holds p cells i s s' at place named is =
+    let f : Block → Block = with_cells_in p.offset cells in
+    let there : slice_get blocks s.number ≡ Some (block_in s) = block_at holds i s at in
+    let same : slice_set blocks s.number (block_in s') ≡ changed f (slice_get blocks s.number) s.number blocks =
+    ap (slice_set blocks s.number) is ∙ ap (λ o. changed f o s.number blocks) (sym there) in
+    subst (λ n. Holds (slice_set slots i s') next (changed f (slice_get blocks n) n blocks)) place
+    (subst (Holds (slice_set slots i s') next) same (holds_set holds i s s' at named))
+
+-- the block of a slot is the one of its number
+pub block_found : {slots : List Slot} {next : ℕ} {blocks : List Block} → Holds slots next blocks → (i n : ℕ) (s : Slot) (b : Block) →
+    slice_get slots i ≡ Some s → s.number ≡ n → slice_get blocks n ≡ Some b → b ≡ block_in s
+block_found {blocks = blocks} holds i n s b at named is =
+    some_same (sym is ∙ ap (slice_get blocks) (sym named) ∙ block_at holds i s at)
+
+-- after a write, by the reason against it
+pub holds_written : {slots : List Slot} {next : ℕ} {blocks : List Block} → Holds slots next blocks → (a : Access) (cells : List Cell)
+    (i : ℕ) (s s' : Slot) (answer : Option Reason) → slice_get slots i ≡ Some s → s.number ≡ a.at.block → s'.number ≡ s.number →
+    block_in s' ≡ written_block a cells (block_in s) answer → Holds (slice_set slots i s') next (written_or_kept a cells blocks answer)
+holds_written holds a cells i s s' None at place named is = holds_stored holds a.at cells i s s' at place named is
+holds_written {slots = slots} {next = next} {blocks = blocks} holds a cells i s s' (Some why) at place named is =
+    let there : slice_get blocks s.number ≡ Some (block_in s) = block_at holds i s at in
+    subst (Holds (slice_set slots i s') next)
+    (ap (slice_set blocks s.number) is ∙ set_there blocks s.number (block_in s) there) (holds_set holds i s s' at named)

@@ -1,5 +1,5 @@
 -- Elements of lists by their places, after a change and after a new one at the end.
-use Rattle.std.proofs.Common.{◌≡◌, ◌≢◌, refl, ap, ℕ, zero, suc, List, [], ◌∷◌, ◌++◌, length, Option, Some, None}
+use Rattle.std.proofs.Common.{◌≡◌, ◌≢◌, refl, sym, ap, ℕ, zero, suc, List, [], ◌∷◌, ◌++◌, length, Option, Some, None}
 use Rattle.std.specs.Prelude.{slice_get, slice_set}
 
 pub none_not_some : {A : Type 0} {a : A} → None ≡ Some a → ⊥
@@ -33,3 +33,8 @@ get_set_other (z ∷ zs) zero zero y differs = absurd (differs refl)
 get_set_other (z ∷ zs) zero (suc n) y differs = refl
 get_set_other (z ∷ zs) (suc m) zero y differs = refl
 get_set_other (z ∷ zs) (suc m) (suc n) y differs = get_set_other zs m n y (λ e. differs (ap suc e))
+
+pub set_there : {A : Type 0} (xs : List A) (n : ℕ) (x : A) → slice_get xs n ≡ Some x → slice_set xs n x ≡ xs
+set_there [] n x at = refl
+set_there (z ∷ zs) zero x at = ap (λ y. y ∷ zs) (sym (some_same at))
+set_there (z ∷ zs) (suc n) x at = ap (λ ys. z ∷ ys) (set_there zs n x at)

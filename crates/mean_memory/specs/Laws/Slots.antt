@@ -1,11 +1,12 @@
 -- Slots by their numbers, after a change, after a new one, and without the latest.
 use Rattle.std.proofs.Common.{◌≡◌, ◌≢◌, refl, sym, subst, ap, ◌∙◌, ℕ, zero, suc, Bool, nat_eq, List, [], ◌∷◌, ◌++◌, Option, Some, None}
-use Rattle.std.proofs.Common.{if◌then◌else◌}
+use Rattle.std.proofs.Common.{get_or, if◌then◌else◌}
 use Rattle.std.proofs.lemmas.Bool.{eq-eqb, ne_eqb}
+use Rattle.std.proofs.lemmas.Option.{get_or_from_slice_get}
 use Rattle.std.specs.Prelude.{slice_get, slice_set}
 use Rattle.mean_memory.specs.declared.slot.Slot.{Slot}
 use Rattle.mean_memory.specs.Laws.Places.{none_not_some, some_same}
-use Rattle.mean_memory.specs.Shown.{slot_with, Apart}
+use Rattle.mean_memory.specs.Shown.{slot_with, Apart, StandsAt}
 
 abbrev chosen : Slot → Option Slot → Bool → Option Slot
 chosen x o b = (if b then Some x else o)
@@ -92,3 +93,16 @@ front_apart (x ∷ xs) s apart =
     let below : Apart xs × (slot_with xs s.number ≡ None) = front_apart xs s apart.1 in
     let differs : x.number ≢ s.number = two_differ (xs ++ s ∷ []) x.number s.number s apart.0 (push_same xs s below.1) in
     ((sym (push_other xs s x.number (λ e. differs (sym e))) ∙ apart.0, below.0), with_other x xs s.number differs ∙ below.1)
+
+-- what stands where a slot of a number was found
+pub stands_found : (slots : List Slot) (n i : ℕ) → StandsAt slots n i → Apart slots → slice_get slots i ≡ slot_with slots n
+stands_found slots n i stands apart =
+    stands.is ∙ sym (stands_with slots i stands.slot apart stands.is) ∙ ap (slot_with slots) stands.named
+
+-- what is read at an index where a slot of a number stands
+pub read_there : {slots whole : List Slot} (n i : ℕ) (s : Slot) → slots ≡ whole → StandsAt slots n i → s ≡ get_or whole i s →
+    (slice_get whole i ≡ Some s) × (s.number ≡ n)
+read_there {whole = whole} n i s same stands is =
+    let at : slice_get whole i ≡ Some stands.slot = ap (λ l. slice_get l i) (sym same) ∙ stands.is in
+    let there : s ≡ stands.slot = is ∙ get_or_from_slice_get whole i stands.slot s at in
+    (at ∙ ap Some (sym there), ap (λ t. t.number) there ∙ stands.named)
