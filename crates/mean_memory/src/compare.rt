@@ -55,14 +55,18 @@ pub struct Ends {
     pub second: Option<u64>,
 }
 
-fn is_inside(p: Pointer, end: Option<u64>) -> bool {
+fn is_inside(p: Pointer, end: Option<u64>) -> bool
+    ensures { (blocks : List Block) → end ≡ end_in blocks p.block → result ≡ spec.is_inside blocks p }
+{
     match end {
         Some(size) => p.offset < size,
         None => false,
     }
 }
 
-fn is_at_most_at_end(p: Pointer, end: Option<u64>) -> bool {
+fn is_at_most_at_end(p: Pointer, end: Option<u64>) -> bool
+    ensures { (blocks : List Block) → end ≡ end_in blocks p.block → result ≡ spec.is_at_most_at_end blocks p }
+{
     match end {
         Some(size) => p.offset <= size,
         None => false,
@@ -70,8 +74,34 @@ fn is_at_most_at_end(p: Pointer, end: Option<u64>) -> bool {
 }
 
 /// Two pointers of different blocks that are known to differ.
-fn known_to_differ(p: Pointer, q: Pointer, ends: Ends) -> bool {
+fn known_to_differ(p: Pointer, q: Pointer, ends: Ends) -> bool
+    ensures { (blocks : List Block) → ends.first ≡ end_in blocks p.block → ends.second ≡ end_in blocks q.block
+        → result ≡ spec.known_to_differ blocks p q }
+{
     is_inside(p, ends.first) && is_inside(q, ends.second)
         || is_null(p) && is_at_most_at_end(q, ends.second)
         || is_null(q) && is_at_most_at_end(p, ends.first)
+}
+
+/// A comparison of pointers to different blocks.
+fn of_different(operator: BinaryOperator, differ: bool) -> Option<bool>
+    ensures { result ≡ spec.of_different operator differ }
+{
+    match operator {
+        BinaryOperator::Equal if differ => Some(false),
+        BinaryOperator::NotEqual if differ => Some(true),
+        _ => None,
+    }
+}
+
+/// A comparison of two pointers, by the sizes of their blocks.
+pub fn compared_by(operator: BinaryOperator, p: Pointer, q: Pointer, ends: Ends) -> Option<bool>
+    ensures { (blocks : List Block) → ends.first ≡ end_in blocks p.block → ends.second ≡ end_in blocks q.block
+        → result ≡ spec.compared blocks operator p q }
+{
+    if p.block == q.block {
+        within_block(operator, p, q)
+    } else {
+        of_different(operator, known_to_differ(p, q, ends))
+    }
 }

@@ -2,11 +2,14 @@
 
 ghost use Rattle.std.specs.Prelude.{◌≡◌, ◌≢◌, ◌≤◌, ◌+◌, ◌++◌, List, [], ◌∷◌, length, slice_get, Some, None, IfOk};
 
+use crate::compare::{Ends, compared_by};
 use crate::judge::{read_in, reason_after, reason_against};
 use crate::lookup::{found, located};
 use crate::slot::Slot;
+use crate::values::null;
 use crate::writing::write_slot;
-use block_meaning::{Access, Cell, Kind, Reason, Value};
+use block_meaning::{Access, Cell, Kind, Pointer, Reason, Value};
+use c_ast::BinaryOperator;
 use c_type_base::Ty;
 use std::alloc::{AllocError, Global};
 
@@ -24,6 +27,7 @@ pub struct Memory {
 impl Memory {
     ghost use Rattle.block_meaning.specs.Access as spec;
     ghost use Rattle.block_meaning.specs.Blocks.{Block, block_of};
+    ghost use Rattle.block_meaning.specs.Compare as compare;
     ghost use Rattle.block_meaning.specs.Values.{cells_of};
     ghost use Rattle.mean_memory.specs.Ends.{end_in};
     ghost use Rattle.mean_memory.specs.Filled.{Fills};
@@ -94,5 +98,23 @@ impl Memory {
             return Some(reason_after(a));
         };
         write_slot(&mut self.slots[index], ty, a, v)
+    }
+
+    /// Compares two pointers; none is a comparison that is undefined.
+    pub fn compared(&mut self, operator: BinaryOperator, p: Pointer, q: Pointer) -> Option<bool>
+        ensures is { (blocks : List Block) → IsMemory self.old blocks → result ≡ compare.compared blocks operator p q }
+        ensures kept { (blocks : List Block) → IsMemory self.old blocks → IsMemory self.new blocks }
+    {
+        let first = self.end_of(p.block);
+        let second = self.end_of(q.block);
+        compared_by(operator, p, q, Ends { first, second })
+    }
+
+    /// A pointer as a condition.
+    pub fn pointer_truth(&mut self, p: Pointer) -> Option<bool>
+        ensures is { (blocks : List Block) → IsMemory self.old blocks → result ≡ compare.pointer_truth blocks p }
+        ensures kept { (blocks : List Block) → IsMemory self.old blocks → IsMemory self.new blocks }
+    {
+        self.compared(BinaryOperator::NotEqual, p, null())
     }
 }
