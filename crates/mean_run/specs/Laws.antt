@@ -1,1 +1,3 @@
+-- Answers of the code, and what the definition's runs are in its words.
 pub mod Giving
+pub mod Comparing

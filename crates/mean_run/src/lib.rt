@@ -4,7 +4,11 @@
 mod effects;
 mod here;
 mod now;
+mod operators;
+mod sizes;
 
 pub use effects::{comparison, is_true, spend};
 pub use here::Here;
+pub use operators::{Both, Operation, on_values, second_effect, unary_effect};
+pub use sizes::{exact_size, target_size};
 pub use now::{Ending, Now};

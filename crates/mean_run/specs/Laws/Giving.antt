@@ -74,3 +74,18 @@ pub gives-stop : {A B : Type 0} {middle n : Now} {start : State} (m : meaning.Re
 gives-stop {n = n} {start = start} (meaning.Goes b after) f ending.NoMemory first = gives-free n start (f b after)
 gives-stop (meaning.Goes b after) f _ first = absurd first.told
 gives-stop (meaning.Stops why after) f e first = record { told = first.told }
+
+-- by what the code found: the first part was done
+pub done-then : {A B : Type 0} {middle n : Now} {start : State} {a : A} {first : Result A Ending} {r : Result B Ending}
+    (m : meaning.Result A) (f : A → Run B) → first ≡ Ok a → Gives middle start first m →
+    ((now : State) → IsNow middle now → Gives n now r (f a now)) → Gives n start r (goes_on m f)
+done-then {middle = middle} {start = start} m f is gives each = gives-then m f (subst (λ r. Gives middle start r m) is gives) each
+
+-- the first part stopped
+pub stopped-then : {A B : Type 0} {middle n : Now} {start : State} {e : Ending} {first : Result A Ending} (m : meaning.Result A)
+    (f : A → Run B) → first ≡ Err e → Gives middle start first m → Gives {A = B} n start (Err e) (goes_on m f)
+stopped-then {middle = middle} {start = start} {e = e} m f is gives = gives-stop m f e (subst (λ r. Gives middle start r m) is gives)
+
+-- a value
+pub gives-value : {A : Type 0} {n : Now} {now : State} {a b : A} → a ≡ b → IsNow n now → Gives n now (Ok a) (meaning.Goes b now)
+gives-value {now = now} same shown = record { told = record { same = same; shown = shown; quiet = quiet-itself now } }
