@@ -13,7 +13,7 @@ quiet-itself s = record { input = refl; output = refl }
 pub quiet-through : {a b c : State} → Quiet a b → Quiet b c → Quiet a c
 quiet-through first second = record { input = second.input ∙ first.input; output = second.output ∙ first.output }
 
-ends_later : (e : Ending) (why : Stop) (a b c : State) → Quiet a b → EndsAs e why b c → EndsAs e why a c
+pub ends_later : (e : Ending) (why : Stop) (a b c : State) → Quiet a b → EndsAs e why b c → EndsAs e why a c
 ends_later ending.NoMemory why a b c first ends = tt
 ends_later ending.Divide Stuck a b c first ends = tt
 ends_later ending.Divide Divide a b c first ends = quiet-through first ends
@@ -28,7 +28,7 @@ ends_later (ending.Undefined why file span) Stuck a b c first ends = tt
 ends_later (ending.Undefined why file span) (IsUndefined u) a b c first ends = (ends.0, ends.1, ends.2, quiet-through first ends.3)
 ends_later (ending.Undefined why file span) _ a b c first ends = absurd ends
 
-ends_stuck : (e : Ending) (a b : State) → EndsAs e Stuck a b
+pub ends_stuck : (e : Ending) (a b : State) → EndsAs e Stuck a b
 ends_stuck ending.NoMemory a b = tt
 ends_stuck _ a b = tt
 
