@@ -7,11 +7,16 @@ use Rattle.c_ast.specs.declared.operator.BinaryOperator.TheVariants as binary
 use Rattle.c_type_base.specs.Laws.Opened.{given_types}
 use Rattle.c_type_base.specs.declared.ty.Ty.TheVariants as ty
 use Rattle.block_meaning.specs.declared.reason.Reason.TheVariants.{Misaligned, Null, Dead, Outside, ReadOnly, Indeterminate, Part}
-use Rattle.block_meaning.specs.Access.{Access, reason_against, ReadsAs, UndefinedBy, scalar_in, overlap}
-use Rattle.block_meaning.specs.Blocks.{Block, Nothing, Byte, Global, Text, Local, Pointer, pointer, null, null_block, block_of, fresh}
+use Rattle.block_meaning.specs.declared.access.Access.{Access}
+use Rattle.block_meaning.specs.Access.{reason_against, ReadsAs, UndefinedBy, scalar_in, overlap}
+use Rattle.block_meaning.specs.declared.cell.Cell.TheVariants.{Nothing, Byte}
+use Rattle.block_meaning.specs.declared.value.Pointer.{Pointer}
+use Rattle.block_meaning.specs.declared.kind.Kind.TheVariants.{Global, Text, Local}
+use Rattle.block_meaning.specs.Blocks.{Block, pointer, null, null_block, block_of, fresh}
 use Rattle.block_meaning.specs.Blocks.{ended}
 use Rattle.block_meaning.specs.Compare.{compared, pointer_truth, objects_between}
-use Rattle.block_meaning.specs.Values.{Number, Address, number_cells, pointer_cells}
+use Rattle.block_meaning.specs.declared.value.Value.TheVariants.{Number, Address}
+use Rattle.block_meaning.specs.Values.{number_cells, pointer_cells}
 
 abbrev blocks : List Block
 blocks =

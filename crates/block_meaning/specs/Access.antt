@@ -3,20 +3,16 @@
 use Rattle.std.specs.Prelude.{ℕ, ◌+◌, ◌-◌, ◌%◌, Bool, true, false, ◌&&◌, ltb, nat_eq, List, [], ◌∷◌, Option, Some, None, if◌then◌else◌, not}
 use Rattle.std.specs.List.{list_any}
 use Rattle.c_type_base.specs.declared.ty.Ty.{Ty}
+use Rattle.block_meaning.specs.declared.access.Access.{Access}
 use Rattle.block_meaning.specs.declared.reason.Reason.{Reason}
 use Rattle.block_meaning.specs.declared.reason.Reason.TheVariants.{Misaligned, Null, Dead, Outside, ReadOnly, Indeterminate, Part}
-use Rattle.block_meaning.specs.Blocks.{Cell, Kind, NullBlock, Text, Block, Pointer, cells_in}
-use Rattle.block_meaning.specs.Values.{Value, is_nothing, value_of_cells}
-
--- what is accessed, and how
-pub record Access : Type 0 where
-  pub at : Pointer
-  -- in bytes
-  pub size : ℕ
-  pub align : ℕ
-  pub writes : Bool
-  -- a scalar, and else a struct
-  pub scalar : Bool
+use Rattle.block_meaning.specs.declared.cell.Cell.{Cell}
+use Rattle.block_meaning.specs.declared.value.Pointer.{Pointer}
+use Rattle.block_meaning.specs.declared.kind.Kind.{Kind}
+use Rattle.block_meaning.specs.declared.kind.Kind.TheVariants.{NullBlock, Text}
+use Rattle.block_meaning.specs.Blocks.{Block, cells_in}
+use Rattle.block_meaning.specs.declared.value.Value.{Value}
+use Rattle.block_meaning.specs.Values.{is_nothing, value_of_cells}
 
 abbrev pub is_null_block : Kind → Bool
 is_null_block NullBlock = true

@@ -2,22 +2,11 @@
 -- project's own).
 use Rattle.std.specs.Prelude.{ℕ, Bool, true, false, ◌+◌, ◌%◌, ◌^◌, List, [], ◌++◌, take, drop, length, replicate, slice_get, slice_set}
 use Rattle.std.specs.Prelude.{Option, Some, None}
-
--- what a byte of a block holds
-pub data Cell : Type 0 where
-  Nothing : Cell
-  Byte : ℕ → Cell
-  -- byte k, from 0 to 7, of a pointer to an offset in a block
-  Part : (k block offset : ℕ) → Cell
-
--- What a block is. Objects, texts and functions of a file have its number and their own there. A parameter or local has the number of its
--- call, which is how many calls were made before, and its own in the function.
-pub data Kind : Type 0 where
-  NullBlock : Kind
-  Global : (unit number : ℕ) → Kind
-  Text : (unit number : ℕ) → Kind
-  Code : (unit number : ℕ) → Kind
-  Local : (call number : ℕ) → Kind
+use Rattle.block_meaning.specs.declared.cell.Cell.{Cell}
+use Rattle.block_meaning.specs.declared.cell.Cell.TheVariants.{Nothing}
+use Rattle.block_meaning.specs.declared.kind.Kind.{Kind}
+use Rattle.block_meaning.specs.declared.kind.Kind.TheVariants.{NullBlock}
+use Rattle.block_meaning.specs.declared.value.Pointer.{Pointer}
 
 pub record Block : Type 0 where
   pub kind : Kind
@@ -27,11 +16,7 @@ pub record Block : Type 0 where
   -- as many as the size; a dead block has none
   pub cells : List Cell
 
--- an offset is a number below 2^64
-pub record Pointer : Type 0 where
-  pub block : ℕ
-  pub offset : ℕ
-
+-- an offset is below 2^64
 abbrev pub pointer : ℕ → ℕ → Pointer
 pointer block offset = record { block = block; offset = offset }
 

@@ -7,7 +7,8 @@ use Rattle.c_ast.specs.declared.operator.BinaryOperator.{BinaryOperator}
 use Rattle.c_ast.specs.declared.operator.BinaryOperator.TheVariants as binary
 use Rattle.c_ast.specs.declared.int_type.IntType.TheVariants as int
 use Rattle.c_type_base.specs.Arithmetic.{is_negative, quotient}
-use Rattle.block_meaning.specs.Blocks.{Block, Pointer, null}
+use Rattle.block_meaning.specs.declared.value.Pointer.{Pointer}
+use Rattle.block_meaning.specs.Blocks.{Block, null}
 
 -- the difference of two offsets, modulo 2^64: a number of type long
 abbrev pub difference : Pointer → Pointer → ℕ

@@ -23,13 +23,16 @@ use Rattle.c_type_base.specs.Layout.{members_of}
 use Rattle.c_type_base.specs.Types.{target_of, struct_of}
 use Rattle.c_type_base.specs.Arithmetic.{unary_value}
 use Rattle.block_meaning.specs.declared.reason.Reason.TheVariants.{Signature}
-use Rattle.block_meaning.specs.Blocks.{Pointer, pointer, moved}
+use Rattle.block_meaning.specs.declared.value.Pointer.{Pointer}
+use Rattle.block_meaning.specs.Blocks.{pointer, moved}
 use Rattle.block_meaning.specs.Linkage.{function_of, object_block, text_block, extern_block, extern_at, definition_of, called_as}
 use Rattle.block_meaning.specs.Memory.{Object, object, structs_at, bytes_of, read, read_scalar, write, copy_struct}
 use Rattle.block_meaning.specs.Operators.{operand, int_in, is_true, number_of_truth, operated, combined, gives_old, stepped}
 use Rattle.block_meaning.specs.Running.{Function, Goes, Run, gives, stuck, and_then, unit_then, unit_gives, choice, with_some, all_of}
 use Rattle.block_meaning.specs.Running.{Context, undefined}
-use Rattle.block_meaning.specs.Values.{Value, Number, Address, Struct, pointer_in, number_in, converted_to}
+use Rattle.block_meaning.specs.declared.value.Value.{Value}
+use Rattle.block_meaning.specs.declared.value.Value.TheVariants.{Number, Address, Struct}
+use Rattle.block_meaning.specs.Values.{pointer_in, number_in, converted_to}
 
 -- one level of an expression
 abbrev pub NodeLayer : Type 0

@@ -16,7 +16,10 @@ use Rattle.c_type_base.specs.declared.typed.LocalInfo.{LocalInfo}
 use Rattle.c_type_base.specs.declared.typed.MemberInfo.{MemberInfo}
 use Rattle.c_type_base.specs.Types.{TyLayer, is_struct, is_array}
 use Rattle.c_type_base.specs.Layout.{members_of}
-use Rattle.block_meaning.specs.Blocks.{Byte, Local, Block, Pointer, pointer, moved, fresh, ended, with_block, stored}
+use Rattle.block_meaning.specs.declared.cell.Cell.TheVariants.{Byte}
+use Rattle.block_meaning.specs.declared.value.Pointer.{Pointer}
+use Rattle.block_meaning.specs.declared.kind.Kind.TheVariants.{Local}
+use Rattle.block_meaning.specs.Blocks.{Block, pointer, moved, fresh, ended, with_block, stored}
 use Rattle.block_meaning.specs.Expressions.{NodeLayer, ExprParts, value_of}
 use Rattle.block_meaning.specs.Linkage.{function_named}
 use Rattle.block_meaning.specs.Memory.{Object, object, structs_at, bytes_of, write, copy_struct}

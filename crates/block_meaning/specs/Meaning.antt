@@ -7,7 +7,9 @@ use Rattle.c_type_base.specs.declared.statement.TItem.TheOpen.{TStmt-F}
 use Rattle.c_type_base.specs.declared.statement.TStmt.{out-TStmt}
 use Rattle.c_type_base.specs.declared.typed.TFunction.{TFunction}
 use Rattle.c_type_base.specs.declared.typed.LocalInfo.{LocalInfo}
-use Rattle.block_meaning.specs.Blocks.{Kind, Local, Block, block_of, ended}
+use Rattle.block_meaning.specs.declared.kind.Kind.{Kind}
+use Rattle.block_meaning.specs.declared.kind.Kind.TheVariants.{Local}
+use Rattle.block_meaning.specs.Blocks.{Block, block_of, ended}
 use Rattle.block_meaning.specs.Expressions.{Calls}
 use Rattle.block_meaning.specs.Linkage.{Definition, AnObject, AFunction, defined, function_named}
 use Rattle.block_meaning.specs.Locals.{latest, new_block, new_locals}
@@ -15,7 +17,9 @@ use Rattle.block_meaning.specs.Opening.{opening}
 use Rattle.block_meaning.specs.Running.{Function, Call, Program, Context, State, Result, Goes, Stops, Run, Stop, Deep, Stuck, gives, stops}
 use Rattle.block_meaning.specs.Running.{stuck, and_then, unit_then, choice, with_some, with_blocks}
 use Rattle.block_meaning.specs.Statements.{StmtLayer, Flow, Returned, StmtParts, statements_at, declared, items}
-use Rattle.block_meaning.specs.Values.{Value, NoValue, number_in, cells_of, missing_result}
+use Rattle.block_meaning.specs.declared.value.Value.{Value}
+use Rattle.block_meaning.specs.declared.value.Value.TheVariants.{NoValue}
+use Rattle.block_meaning.specs.Values.{number_in, cells_of, missing_result}
 
 -- ---- calls
 

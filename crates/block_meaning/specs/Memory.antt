@@ -7,11 +7,15 @@ use Rattle.c_type_base.specs.Sizes.{size, align}
 use Rattle.c_type_base.specs.Types.{is_struct}
 use Rattle.block_meaning.specs.declared.reason.Reason.{Reason}
 use Rattle.block_meaning.specs.declared.reason.Reason.TheVariants.{Overlap}
-use Rattle.block_meaning.specs.Access.{Access, reason_against, ReadResult, ReadsAs, UndefinedBy, read_in, overlap}
-use Rattle.block_meaning.specs.Blocks.{Block, Pointer, cells_at, stored}
+use Rattle.block_meaning.specs.declared.access.Access.{Access}
+use Rattle.block_meaning.specs.Access.{reason_against, ReadResult, ReadsAs, UndefinedBy, read_in, overlap}
+use Rattle.block_meaning.specs.declared.value.Pointer.{Pointer}
+use Rattle.block_meaning.specs.Blocks.{Block, cells_at, stored}
 use Rattle.block_meaning.specs.Linkage.{structs_of}
 use Rattle.block_meaning.specs.Running.{Run, gives, and_then, by_blocks, with_blocks, with_some, Context, undefined}
-use Rattle.block_meaning.specs.Values.{Value, Struct, cells_of}
+use Rattle.block_meaning.specs.declared.value.Value.{Value}
+use Rattle.block_meaning.specs.declared.value.Value.TheVariants.{Struct}
+use Rattle.block_meaning.specs.Values.{cells_of}
 
 -- what stands at a place
 pub record Object : Type 0 where

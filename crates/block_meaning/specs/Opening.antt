@@ -17,7 +17,10 @@ use Rattle.c_type_base.specs.declared.typed.Target.{Target}
 use Rattle.c_type_base.specs.declared.typed.Target.TheVariants as target
 use Rattle.c_type_base.specs.Sizes.{int_bytes, bytes_of_struct}
 use Rattle.c_type_base.specs.Layout.{members_of}
-use Rattle.block_meaning.specs.Blocks.{Cell, Byte, Part, Block, Global, Text, Code, pointer, null, null_block, block_of, with_cells}
+use Rattle.block_meaning.specs.declared.cell.Cell.{Cell}
+use Rattle.block_meaning.specs.declared.cell.Cell.TheVariants.{Byte, Part}
+use Rattle.block_meaning.specs.declared.kind.Kind.TheVariants.{Global, Text, Code}
+use Rattle.block_meaning.specs.Blocks.{Block, pointer, null, null_block, block_of, with_cells}
 use Rattle.block_meaning.specs.Linkage.{object_block, text_block, extern_block}
 use Rattle.block_meaning.specs.Values.{number_cells, pointer_cells}
 

@@ -14,11 +14,14 @@ use Rattle.c_type_base.specs.Types.{int_of, target_of}
 use Rattle.c_type_base.specs.Conversions.{promoted, wrap}
 use Rattle.c_type_base.specs.Arithmetic.{negated, truth, binary_value}
 use Rattle.block_meaning.specs.declared.reason.Reason.TheVariants.{Compare}
-use Rattle.block_meaning.specs.Blocks.{Pointer, moved}
+use Rattle.block_meaning.specs.declared.value.Pointer.{Pointer}
+use Rattle.block_meaning.specs.Blocks.{moved}
 use Rattle.block_meaning.specs.Compare.{compared, pointer_truth, objects_between}
 use Rattle.block_meaning.specs.Memory.{bytes_of}
 use Rattle.block_meaning.specs.Running.{Divide, Run, gives, stops, stuck, and_then, by_blocks, Context, undefined}
-use Rattle.block_meaning.specs.Values.{Value, Number, Address, number_in, converted_to}
+use Rattle.block_meaning.specs.declared.value.Value.{Value}
+use Rattle.block_meaning.specs.declared.value.Value.TheVariants.{Number, Address}
+use Rattle.block_meaning.specs.Values.{number_in, converted_to}
 
 -- a value and its type
 pub record Operand : Type 0 where

@@ -3,7 +3,7 @@ use Rattle.std.specs.Prelude.{ℕ, zero, suc, List, [], ◌∷◌, Option, Bool,
 use Rattle.c_ast.specs.declared.token.Span.{Span}
 use Rattle.c_type_base.specs.declared.typed.Typed.{Typed}
 use Rattle.block_meaning.specs.declared.reason.Reason.{Reason}
-use Rattle.block_meaning.specs.Access.{Access}
+use Rattle.block_meaning.specs.declared.access.Access.{Access}
 use Rattle.block_meaning.specs.Blocks.{Block}
 
 -- a function, by the number of its file and its own there

@@ -9,7 +9,8 @@ use Rattle.block_meaning.specs.Expressions.{ExprParts, Calls, value_of, parts_at
 use Rattle.block_meaning.specs.Operators.{is_true}
 use Rattle.block_meaning.specs.Locals.{scoped, declarations, only_run}
 use Rattle.block_meaning.specs.Running.{Run, gives, stuck, and_then, unit_then, choice, Context}
-use Rattle.block_meaning.specs.Values.{Value, NoValue}
+use Rattle.block_meaning.specs.declared.value.Value.{Value}
+use Rattle.block_meaning.specs.declared.value.Value.TheVariants.{NoValue}
 
 -- one level of a statement, and of a part of a block
 abbrev pub StmtLayer : Type 0

@@ -6,16 +6,12 @@ use Rattle.c_type_base.specs.declared.ty.Ty.TheOpen.{Ty-F}
 use Rattle.c_type_base.specs.Sizes.{int_bytes}
 use Rattle.c_type_base.specs.Types.{TyLayer}
 use Rattle.c_type_base.specs.Conversions.{wrap}
-use Rattle.block_meaning.specs.Blocks.{Cell, Nothing, Byte, Part, Pointer, pointer, null}
-
-pub data Value : Type 0 where
-  -- an integer modulo 2^64: a negative number n is 2^64 + n
-  Number : ℕ → Value
-  Address : Pointer → Value
-  -- a struct, by where it stands: it is read where it is assigned or is an initialiser, and nowhere else
-  Struct : Pointer → Value
-  -- that of a void call
-  NoValue : Value
+use Rattle.block_meaning.specs.declared.value.Value.{Value}
+use Rattle.block_meaning.specs.declared.value.Value.TheVariants.{Number, Address, Struct, NoValue}
+use Rattle.block_meaning.specs.declared.cell.Cell.{Cell}
+use Rattle.block_meaning.specs.declared.cell.Cell.TheVariants.{Nothing, Byte, Part}
+use Rattle.block_meaning.specs.declared.value.Pointer.{Pointer}
+use Rattle.block_meaning.specs.Blocks.{pointer, null}
 
 -- where a value points to, or where the struct stands
 abbrev pub pointer_in : Value → Pointer

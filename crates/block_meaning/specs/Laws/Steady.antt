@@ -3,7 +3,7 @@ use Rattle.std.proofs.Common.{◌≡◌, refl, sym, subst, ap, ◌∙◌, arith,
 use Rattle.std.proofs.Common.{append_assoc, append-nil, Option, Some, None}
 use Rattle.c_ast.specs.declared.token.Span.{Span}
 use Rattle.block_meaning.specs.declared.reason.Reason.{Reason}
-use Rattle.block_meaning.specs.Access.{Access}
+use Rattle.block_meaning.specs.declared.access.Access.{Access}
 use Rattle.block_meaning.specs.Blocks.{Block}
 use Rattle.block_meaning.specs.Running.{Divide, Deep, More, State, Result, Goes, Stops, Run, gives, stops, goes_on, and_then, one_of}
 use Rattle.block_meaning.specs.Running.{unit_then, choice, stuck, with_some, by_blocks, with_blocks, all_of, Context, undefined}

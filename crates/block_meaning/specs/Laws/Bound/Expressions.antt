@@ -19,7 +19,7 @@ use Rattle.block_meaning.specs.Laws.Settled.{settles-some, settles-all}
 use Rattle.block_meaning.specs.Linkage.{extern_at, definition_of, called_as}
 use Rattle.block_meaning.specs.Statements.{around}
 use Rattle.block_meaning.specs.Running.{Function, Context}
-use Rattle.block_meaning.specs.Values.{Value}
+use Rattle.block_meaning.specs.declared.value.Value.{Value}
 
 pub record PartsSettle (p q : ExprParts) : Type 0 where
   pub value : (around : Span) (e : TExpr) → Settles (p.value_in around e) (q.value_in around e)

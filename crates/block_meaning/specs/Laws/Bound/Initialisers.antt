@@ -14,7 +14,8 @@ use Rattle.c_type_base.specs.declared.statement.TDecl.{TDecl}
 use Rattle.c_type_base.specs.declared.typed.MemberInfo.{MemberInfo}
 use Rattle.c_type_base.specs.Types.{TyLayer, is_struct, is_array}
 use Rattle.c_type_base.specs.Layout.{members_of}
-use Rattle.block_meaning.specs.Blocks.{Pointer, pointer, stored}
+use Rattle.block_meaning.specs.declared.value.Pointer.{Pointer}
+use Rattle.block_meaning.specs.Blocks.{pointer, stored}
 use Rattle.block_meaning.specs.Opening.{zero_cells}
 use Rattle.block_meaning.specs.Memory.{Object, object, structs_at}
 use Rattle.block_meaning.specs.Locals.{InitParts, latest, local_info, only_run, fill_array, fill_struct, fill_one, fill_elements}

@@ -13,7 +13,7 @@ use Rattle.c_type_base.specs.declared.statement.TItem.TheOpen.{TStmt-F}
 use Rattle.c_type_base.specs.declared.statement.TStmt.{out-TStmt}
 use Rattle.c_type_base.specs.declared.typed.TFunction.{TFunction}
 use Rattle.block_meaning.specs.Running.{Function, Program, Result, Goes, Stops, Stuck, Context}
-use Rattle.block_meaning.specs.Values.{Value}
+use Rattle.block_meaning.specs.declared.value.Value.{Value}
 use Rattle.block_meaning.specs.Laws.Bound.Expressions.{CallsSettle}
 use Rattle.block_meaning.specs.Laws.Bound.Statements.{StmtsSettle, items_settle, statements_settle}
 

@@ -16,7 +16,7 @@ use Rattle.c_type_base.specs.declared.expr.Callee.{Callee}
 use Rattle.c_type_base.specs.declared.expr.Callee.TheVariants as callee
 use Rattle.c_type_base.specs.Arithmetic.{unary_value}
 use Rattle.c_type_base.specs.Types.{target_of, struct_of}
-use Rattle.block_meaning.specs.Blocks.{Pointer}
+use Rattle.block_meaning.specs.declared.value.Pointer.{Pointer}
 use Rattle.block_meaning.specs.Expressions.{NodeLayer, ExprParts, Calls, Site, site, value_of, number_known, unary_node, logical_node}
 use Rattle.block_meaning.specs.Expressions.{same_truth, binary_node, cond_node, written, assigned, assign_effect, assign_node, step_node}
 use Rattle.block_meaning.specs.Expressions.{take_byte, put_byte, if_agrees, call_effect, call_node, starts, member_in, member_of}
@@ -28,7 +28,9 @@ use Rattle.block_meaning.specs.Linkage.{extern_at, extern_block, definition_of, 
 use Rattle.block_meaning.specs.Memory.{Object, object}
 use Rattle.block_meaning.specs.Operators.{binary_of, int_in, stepped}
 use Rattle.block_meaning.specs.Running.{Function, State, Context}
-use Rattle.block_meaning.specs.Values.{Value, Struct, number_in}
+use Rattle.block_meaning.specs.declared.value.Value.{Value}
+use Rattle.block_meaning.specs.declared.value.Value.TheVariants.{Struct}
+use Rattle.block_meaning.specs.Values.{number_in}
 use Rattle.block_meaning.specs.Laws.MoreWork.Values.{scalar_steady, read_steady, write_steady, copy_steady, truth_steady, values_steady}
 use Rattle.block_meaning.specs.Laws.MoreWork.Values.{combined_values}
 

@@ -13,7 +13,8 @@ use Rattle.c_type_base.specs.declared.statement.TInit.TheOpen.{TInit-F}
 use Rattle.c_type_base.specs.declared.typed.MemberInfo.{MemberInfo}
 use Rattle.c_type_base.specs.Layout.{members_of}
 use Rattle.c_type_base.specs.Types.{TyLayer, is_struct, is_array}
-use Rattle.block_meaning.specs.Blocks.{Block, Pointer, pointer, stored}
+use Rattle.block_meaning.specs.declared.value.Pointer.{Pointer}
+use Rattle.block_meaning.specs.Blocks.{Block, pointer, stored}
 use Rattle.block_meaning.specs.Expressions.{NodeLayer, ExprParts}
 use Rattle.block_meaning.specs.Laws.Steady.{begins-itself, Steady, steady-gives}
 use Rattle.block_meaning.specs.Laws.Steady.{steady-stuck, steady-with_blocks, steady-then, steady-unit}

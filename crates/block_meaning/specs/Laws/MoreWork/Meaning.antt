@@ -17,7 +17,7 @@ use Rattle.block_meaning.specs.Meaning.{open_bytes, new_call, with_arguments, bo
 use Rattle.block_meaning.specs.Meaning.{outside_of_calls, call_main, before, run_program, Stopped, Outcome, outcome_of, Meaning}
 use Rattle.block_meaning.specs.Running.{Function, More, Result, Goes, Stops, Program, Context}
 use Rattle.block_meaning.specs.Statements.{StmtLayer, StmtParts, declared}
-use Rattle.block_meaning.specs.Values.{Value}
+use Rattle.block_meaning.specs.declared.value.Value.{Value}
 use Rattle.block_meaning.specs.Laws.MoreWork.Expressions.{SteadyCalls}
 use Rattle.block_meaning.specs.Laws.MoreWork.Locals.{new_block_steady, new_locals_steady}
 use Rattle.block_meaning.specs.Laws.MoreWork.Statements.{SteadyStmts, items_steady, statements_steady}

@@ -10,8 +10,10 @@ use Rattle.c_type_base.specs.Arithmetic.{binary_value}
 use Rattle.c_type_base.specs.Conversions.{wrap}
 use Rattle.c_type_base.specs.Types.{is_struct}
 use Rattle.block_meaning.specs.declared.reason.Reason.{Reason}
-use Rattle.block_meaning.specs.Access.{Access, ReadResult, ReadsAs, UndefinedBy, reason_against, read_in}
-use Rattle.block_meaning.specs.Blocks.{Block, Pointer}
+use Rattle.block_meaning.specs.declared.access.Access.{Access}
+use Rattle.block_meaning.specs.Access.{ReadResult, ReadsAs, UndefinedBy, reason_against, read_in}
+use Rattle.block_meaning.specs.declared.value.Pointer.{Pointer}
+use Rattle.block_meaning.specs.Blocks.{Block}
 use Rattle.block_meaning.specs.Compare.{compared, pointer_truth, objects_between}
 use Rattle.block_meaning.specs.Laws.Steady.{Steady, steady-gives, steady-divide}
 use Rattle.block_meaning.specs.Laws.Steady.{steady-stuck, steady-undefined, steady-with_blocks, steady-then}
@@ -21,7 +23,8 @@ use Rattle.block_meaning.specs.Memory.{read, write, Copy, unless_overlap, copy_s
 use Rattle.block_meaning.specs.Operators.{comparison, is_true, or_divide, difference_known, on_pointers, on_pointer, on_values}
 use Rattle.block_meaning.specs.Operators.{values_combined, computing_type, int_in}
 use Rattle.block_meaning.specs.Running.{Run, gives, Context}
-use Rattle.block_meaning.specs.Values.{Value, Number, Address, Struct}
+use Rattle.block_meaning.specs.declared.value.Value.{Value}
+use Rattle.block_meaning.specs.declared.value.Value.TheVariants.{Number, Address, Struct}
 
 unless_steady : (here : Context) (span : Span) (a : Access) (why : Option Reason) → Steady (unless_undefined here span a why)
 unless_steady here span a None = steady-gives tt

@@ -1,0 +1,4 @@
+-- What stays shown where slots and blocks change together.
+pub mod Places
+pub mod Slots
+pub mod Holding

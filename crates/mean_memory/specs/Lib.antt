@@ -1,0 +1,5 @@
+pub mod Filled
+pub mod Ends
+pub mod Shown
+pub mod Standing
+pub mod Laws
