@@ -1,0 +1,7 @@
+-- Laws of links, for later proofs, and examples.
+pub mod FieldExamples
+pub mod Examples
+pub mod OneFault
+pub mod Sizes
+pub mod OneOrder
+pub mod OneImage
