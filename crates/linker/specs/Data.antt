@@ -1,11 +1,10 @@
 -- The data of an image: what is only read, the filled bytes with the table before them, and the zero bytes.
-use Rattle.std.specs.Prelude.{ℕ, ◌+◌, ◌-◌, ℤ, pos, negsuc, Bool, ◌&&◌, nat_le, nat_lt, List, [], ◌∷◌, ◌++◌, map, Option, Some, None, length, slice_index, if◌then◌else◌}
+use Rattle.std.specs.Prelude.{ℕ, ◌+◌, ◌-◌, ℤ, pos, negsuc, Bool, ◌&&◌, nat_le, nat_lt, List, map, Option, Some, None, slice_index, if◌then◌else◌}
 use Rattle.std.specs.List.{find}
 use Rattle.byteorder.specs.Endian.{little_bytes}
 use Rattle.mt_base.specs.Granules.{round16}
 use Rattle.mt_base.specs.Wrapping.{wrapping_sub}
 use Rattle.elf_base.specs.Layout.{Piece}
-use Rattle.elf_obj.specs.declared.parts.Symbol.{Symbol}
 use Rattle.elf_obj.specs.declared.parts.Reloc.{Reloc}
 use Rattle.elf_obj.specs.Object.{Object}
 use Rattle.linker.specs.Names.{Entry, target}

@@ -1,5 +1,5 @@
 -- The global offset table (ELF for the Arm 64-bit architecture): which symbols have a word in it, and in which order (this project's own).
-use Rattle.std.specs.Prelude.{ℕ, ◌+◌, ◌*◌, Bool, not, List, [], ◌∷◌, ◌++◌, Option, None, length, if◌then◌else◌}
+use Rattle.std.specs.Prelude.{ℕ, ◌+◌, ◌*◌, not, List, [], ◌∷◌, ◌++◌, Option, None, length, if◌then◌else◌}
 use Rattle.std.specs.List.{filter, filter_map, position_or_len}
 use Rattle.elf_obj.specs.declared.parts.Symbol.{Symbol}
 use Rattle.elf_obj.specs.declared.parts.Reloc.{Reloc}

@@ -5,3 +5,4 @@ pub mod OneFault
 pub mod Sizes
 pub mod OneOrder
 pub mod OneImage
+pub mod Growth

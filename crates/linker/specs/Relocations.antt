@@ -1,5 +1,5 @@
 -- The places of an image that hold addresses: R_AARCH64_RELATIVE, of the words of the table and of R_AARCH64_ABS64 in the filled data.
-use Rattle.std.specs.Prelude.{ℕ, pos, ◌+◌, ◌*◌, List, [], ◌∷◌, ◌++◌, map, Some, length}
+use Rattle.std.specs.Prelude.{ℕ, ◌+◌, ◌*◌, List, [], ◌∷◌, ◌++◌, map, length}
 use Rattle.std.specs.Int.{w64, cast_signed}
 use Rattle.elf_obj.specs.declared.parts.Reloc.{Reloc}
 use Rattle.elf_obj.specs.Object.{Object}

@@ -1,10 +1,9 @@
 -- The intervals of the tagged objects of an image, and how many bytes describe them (after the Memtag ABI).
-use Rattle.std.specs.Prelude.{◌≡◌, ℕ, pos, ◌+◌, ◌-◌, ◌*◌, ◌≤◌, List, [], ◌∷◌, ◌++◌, replicate, filter_map, Option, Some, None, length, slice_get, IsPermutation, IsSortedByKey}
+use Rattle.std.specs.Prelude.{◌≡◌, ℕ, ◌+◌, ◌-◌, ◌*◌, ◌≤◌, List, [], ◌∷◌, ◌++◌, replicate, filter_map, length, slice_get, IsPermutation, IsSortedByKey}
 use Rattle.std.specs.Option.{option_map}
 use Rattle.std.specs.Ordering.{nat_cmp}
 use Rattle.elf_obj.specs.declared.parts.Symbol.{Symbol}
 use Rattle.elf_obj.specs.Object.{Object}
-use Rattle.elf_image.specs.declared.parts.RelativeReloc.{RelativeReloc}
 use Rattle.elf_image.specs.Image.{Image}
 use Rattle.memtag_desc.specs.declared.interval.Interval.{Interval}
 use Rattle.memtag_desc.specs.Numbers.{IsShortest}

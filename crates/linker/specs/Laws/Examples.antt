@@ -1,21 +1,21 @@
 -- Two objects that are linked by hand: `main`, which calls `twice` and uses `shared` through the table, and `twice` beside `shared`, a pointer to the
 -- end of `shared`, and a local symbol.
-use Rattle.std.proofs.Common.{◌≡◌, ℕ, pos, negsuc, true, false, Some, None, List, [], ◌∷◌, refl}
-use Rattle.std.specs.Prelude.{codes, replicate, map}
+use Rattle.std.proofs.Common.{◌≡◌, ℕ, pos, true, false, Some, None, List, [], ◌∷◌, refl}
+use Rattle.std.specs.Prelude.{codes, replicate}
 use Rattle.elf_obj.specs.declared.parts.Symbol.{Symbol}
 use Rattle.elf_obj.specs.declared.parts.Reloc.{Reloc}
-use Rattle.elf_obj.specs.declared.parts.Home.{Home}
-use Rattle.elf_obj.specs.declared.parts.Home.TheVariants.{Undef, Text, Rodata, Init, Zero}
+use Rattle.elf_obj.specs.declared.parts.Home.TheVariants.{Undef, Text, Init, Zero}
 use Rattle.elf_obj.specs.Object.{Object}
 use Rattle.elf_base.specs.Layout.{piece}
+use Rattle.elf_image.specs.Places as places
 use Rattle.linker.specs.declared.bases.Bases.{Bases}
 use Rattle.linker.specs.Names.{entry, definition, main_name}
 use Rattle.linker.specs.Sections.{starts, word_counts}
-use Rattle.linker.specs.Got.{got, got_bytes}
-use Rattle.linker.specs.Addresses.{bases_of, address, text_address, init_address}
+use Rattle.linker.specs.Got.{got}
+use Rattle.linker.specs.Addresses.{bases_of}
 use Rattle.linker.specs.Fields.{with_page, with_low_of_8, with_distance}
 use Rattle.linker.specs.Code.{code_pieces, code_words}
-use Rattle.linker.specs.Data.{filled_pieces, filled_size, zero_size, rodata_size}
+use Rattle.linker.specs.Data.{filled_pieces, filled_size, zero_size}
 use Rattle.linker.specs.Relocations.{relocations, relative}
 use Rattle.linker.specs.Tagged.{tagged_from, sized}
 use Rattle.linker.specs.LinkFault.{first_repeated, has_main, first_missing}
@@ -144,5 +144,6 @@ the_tagged = refl
 
 -- an image of these sizes, with three bytes of descriptors, has these places
 the_places : bases_of (sized both 3) ≡ at
-unfolding sized got
+unfolding sized got places.rodata_place places.code_place places.filled_place places.file_end places.descriptors_place places.rodata_end places.dynamic_end
+    places.dynamic_place places.code_end
 the_places = refl

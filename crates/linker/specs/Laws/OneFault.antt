@@ -1,12 +1,12 @@
 -- Objects are refused by one condition at most.
-use Rattle.std.proofs.Common.{◌≡◌, ℕ, ◌<◌, ◌≤◌, true, false, List, Option, Some, None, length, refl, sym, ap, subst, ◌∙◌, arith}
+use Rattle.std.proofs.Common.{◌≡◌, ℕ, List, refl, sym, ap, ◌∙◌, arith}
 use Rattle.std.proofs.lemmas.Option.{same_Some}
 use Rattle.elf_obj.specs.Object.{Object}
 use Rattle.linker.specs.declared.refusal.LinkRefusal.{LinkRefusal}
-use Rattle.linker.specs.declared.refusal.LinkRefusal.TheVariants.{TooManyObjects, Duplicate, NoMain, Undefined, ImageTooLarge}
+use Rattle.linker.specs.declared.refusal.LinkRefusal.TheVariants.{Duplicate, Undefined, ImageTooLarge}
 use Rattle.linker.specs.Names.{Entry}
 use Rattle.linker.specs.Tagged.{sized, IsFewest}
-use Rattle.linker.specs.LinkFault.{LinkFault, too_many, repeated, no_main, missing, too_large, first_repeated, has_main, first_missing, excess}
+use Rattle.linker.specs.LinkFault.{LinkFault, too_many, repeated, no_main, missing, too_large, excess}
 
 -- the fewest bytes are one number
 pub one_count : (objects : List Object) (a b : ℕ) → IsFewest objects a → IsFewest objects b → a ≡ b

@@ -1,10 +1,9 @@
 -- Objects have one image, or are refused, and never both.
-use Rattle.std.proofs.Common.{◌≡◌, ℕ, ◌≤◌, List, length, refl, sym, ap, subst, ◌∙◌, arith}
+use Rattle.std.proofs.Common.{◌≡◌, ℕ, List, length, refl, sym, ap, subst, ◌∙◌, arith}
 use Rattle.elf_base.specs.Layout.{IsLaidOut}
 use Rattle.elf_base.specs.Laws.OneLayout.{one_layout}
 use Rattle.elf_obj.specs.Object.{Object}
 use Rattle.elf_image.specs.Image.{Image}
-use Rattle.elf_image.specs.Places.{code_place}
 use Rattle.memtag_desc.specs.declared.interval.Interval.{Interval}
 use Rattle.memtag_desc.specs.Descriptors.{IsDescriptor, small, large, DescribesFrom, nothing, next, Describes}
 use Rattle.memtag_desc.specs.Laws.OneSpelling.{one_spelling}
@@ -15,7 +14,7 @@ use Rattle.linker.specs.Data.{rodata_pieces, rodata_size, filled_pieces, filled_
 use Rattle.linker.specs.Relocations.{relocations}
 use Rattle.linker.specs.Tagged.{SpellsOne, small as spells_small, large as spells_large, SpellsFrom, nothing as spells_nothing, next as spells_next}
 use Rattle.linker.specs.Tagged.{AreTagged, tagged_from, sized, Agrees}
-use Rattle.linker.specs.Linked.{Linked, HasDescriptors}
+use Rattle.linker.specs.Linked.{Linked}
 use Rattle.linker.specs.Laws.Sizes.{linked_bases}
 use Rattle.linker.specs.Laws.OneOrder.{one_order}
 

@@ -58,6 +58,7 @@ as_long x y xs ys from lt h same alike = by_test (y.bytes == x.bytes) refl
   where
     there : (x.start == x.start && x.bytes == x.bytes) || list_any (λ i. i.start == x.start && i.bytes == x.bytes) xs ≡ true
     there = rw (eq-eqb x.start x.start refl, eq-eqb x.bytes x.bytes refl) refl
+
     by_test : (b : Bool) → (y.bytes == x.bytes) ≡ b → y.bytes ≡ x.bytes
     by_test true is = eqb-true y.bytes x.bytes is
     by_test false is =

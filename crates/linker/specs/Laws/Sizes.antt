@@ -1,21 +1,17 @@
 -- The places of an image hang on the sizes of its parts alone.
-use Rattle.std.proofs.Common.{◌≡◌, ℕ, ◌+◌, ◌*◌, List, [], ◌∷◌, ◌++◌, length, replicate, map, refl, sym, ap, ◌∙◌, arith, length-append}
+use Rattle.std.proofs.Common.{◌≡◌, ℕ, suc, ◌+◌, List, [], ◌∷◌, length, map, refl, sym, ap, ◌∙◌, arith, length-append}
 use Rattle.std.proofs.lemmas.List.{length-replicate, length-map}
-use Rattle.mt_base.specs.Granules.{round16}
-use Rattle.elf_obj.specs.declared.parts.Reloc.{Reloc}
 use Rattle.elf_obj.specs.Object.{Object}
-use Rattle.elf_image.specs.declared.parts.RelativeReloc.{RelativeReloc}
 use Rattle.elf_image.specs.Image.{Image}
-use Rattle.elf_image.specs.Places.{round_page, descriptors_place, rodata_place, rodata_end, code_place, code_end, dynamic_place, dynamic_count, dynamic_end}
+use Rattle.elf_image.specs.Places.{descriptors_place, rodata_place, rodata_end, code_place, code_end, dynamic_place, dynamic_count, dynamic_end}
 use Rattle.elf_image.specs.Places.{filled_place, file_end, memory_end}
 use Rattle.linker.specs.declared.bases.Bases.{Bases}
-use Rattle.linker.specs.Names.{Entry}
 use Rattle.linker.specs.Sections.{each_from}
 use Rattle.linker.specs.Got.{got}
 use Rattle.linker.specs.Addresses.{bases_of}
 use Rattle.linker.specs.Relocations.{relative, got_reloc, data_reloc, data_relocs_from, data_reloc_count, relocations, relocation_count}
 use Rattle.linker.specs.Code.{code_words}
-use Rattle.linker.specs.Data.{rodata_size, filled_size, zero_size}
+use Rattle.linker.specs.Data.{rodata_size, filled_size}
 use Rattle.linker.specs.Tagged.{sized}
 use Rattle.linker.specs.Linked.{Linked}
 
@@ -71,7 +67,7 @@ same_bases p q h =
 
 pub length-each_from : {A B : Type 0} (k : ℕ) (f : ℕ → A → B) (xs : List A) → length (each_from k f xs) ≡ length xs
 length-each_from k f [] = refl
-length-each_from {A} {B} k f (x ∷ xs) = ap (λ n. n + 1) (length-each_from (k + 1) f xs)
+length-each_from {A} {B} k f (x ∷ xs) = ap suc (length-each_from (k + 1) f xs)
 
 length-data_relocs : (objects : List Object) (bases : Bases) (k : ℕ) (os : List Object) → length (data_relocs_from objects bases k os) ≡ data_reloc_count os
 length-data_relocs objects bases k [] = refl
@@ -80,7 +76,7 @@ length-data_relocs objects bases k (o ∷ os) =
     omega (
       arith,
       length-append front (data_relocs_from objects bases (k + 1) os),
-      length-map (data_reloc objects bases k o) o.init_relocs,
+      length-map o.init_relocs (data_reloc objects bases k o),
       length-data_relocs objects bases (k + 1) os,
     )
 
