@@ -1,0 +1,2 @@
+-- Lemmas that proofs of several functions share.
+pub mod Knowing

@@ -13,4 +13,5 @@ pub mod Tagged
 pub mod LinkFault
 pub mod Linked
 pub mod Refusal
+pub mod Known
 pub mod Laws

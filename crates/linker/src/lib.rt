@@ -2,6 +2,7 @@
 #![tactic(auto)]
 
 mod bases;
+mod names;
 mod refusal;
 
 pub use bases::Bases;
