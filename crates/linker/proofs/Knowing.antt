@@ -1,5 +1,5 @@
 -- Names that were seen, one symbol more.
-use Rattle.std.proofs.Common.{◌≡◌, ℕ, zero, suc, ◌+◌, ◌<◌, ◌≤◌, Bool, true, false, ◌&&◌, ◌||◌, List, [], ◌∷◌, ◌++◌, length, take, drop, find, cond, Option, Some, None, is_some, get_or, refl, sym, ap, subst, ◌∙◌, arith, append_assoc, drop-cons, add-one}
+use Rattle.std.proofs.Common.{◌≡◌, ℕ, zero, suc, ◌+◌, ◌<◌, ◌≤◌, Bool, true, false, not, ◌&&◌, ◌||◌, List, [], ◌∷◌, ◌++◌, length, take, drop, find, cond, Option, Some, None, is_some, get_or, refl, sym, ap, subst, ◌∙◌, arith, append_assoc, drop-cons, add-one}
 use Rattle.std.specs.Borrow.{Bor}
 use Rattle.std.specs.List.{list_any}
 use Rattle.std.specs.Option.{option_map, option_or}
@@ -11,8 +11,8 @@ use Rattle.std.proofs.lemmas.Slice.Eq.{bytes_eq-Decides}
 use Rattle.indexmap.specs.IndexMap.{IndexMap, get_by}
 use Rattle.elf_obj.specs.declared.parts.Symbol.{Symbol}
 use Rattle.linker.specs.declared.names.Numbers.{Numbers}
-use Rattle.linker.specs.Names.{Entry, entry, numbered_from, is_global, defines}
-use Rattle.linker.specs.Known.{numbers_of, Knows, is_known}
+use Rattle.linker.specs.Names.{Entry, entry, numbered_from, is_defined, is_global, defines}
+use Rattle.linker.specs.Known.{numbers_of, Knows, is_known, is_unknown}
 
 -- ---- numbered symbols
 
@@ -23,7 +23,7 @@ numbered-append k n (x ∷ xs) ys =
     ap (λ (l : List Entry). entry k n x ∷ l)
     (numbered-append k (n + 1) xs ys ∙ ap (λ (m : ℕ). numbered_from k (n + 1) xs ++ numbered_from k m ys) e)
 
-length-took : {A : Type 0} (xs : List A) (i : ℕ) → i ≤ length xs → length (take i xs) ≡ i
+pub length-took : {A : Type 0} (xs : List A) (i : ℕ) → i ≤ length xs → length (take i xs) ≡ i
 length-took xs zero h = refl
 length-took [] (suc i) h = absurd (omega arith)
 length-took (x ∷ xs) (suc i) h = ap suc (length-took xs i (omega arith))
@@ -87,7 +87,7 @@ knows_again m xs e there knows = knows_same m xs e (λ name h. has name (one_nam
 pub knows_new : {S : Type 0} (m n : IndexMap (Bor (List ℕ)) Numbers S) (xs : List Entry) (e : Entry) → is_global e.symbol ≡ true
     → is_some (get_by (λ k. bytes_eq e.symbol.name k.now) m) ≡ false
     → ((name : List ℕ) → get_by (λ k. bytes_eq name k.now) n
-      ≡ cond (bytes_eq e.symbol.name name) (Some (numbers_of e)) (get_by (λ k. bytes_eq name k.now) m))
+    ≡ cond (bytes_eq e.symbol.name name) (Some (numbers_of e)) (get_by (λ k. bytes_eq name k.now) m))
     → Knows m xs → Knows n (xs ++ e ∷ [])
 knows_new m n xs e global new updates knows name = updates name ∙ by_test (bytes_eq e.symbol.name name) refl
   where
@@ -121,10 +121,11 @@ knows_behind m seen xs ys e is h = subst (Knows m) (append_assoc seen xs (e ∷ 
 
 -- ---- a symbol whose name is there
 
-left_is : (ss : List Symbol) (i : ℕ) (s : Symbol) → i < length ss → s ≡ get_or ss i s → drop i ss ≡ s ∷ drop (i + 1) ss
-left_is ss i s h is =
+-- those that are left, with the one of the turn in front
+pub left_is : {A : Type 0} (ss : List A) (i : ℕ) (s : A) → i < length ss → s ≡ get_or ss i s → drop i ss ≡ s ∷ drop (i + 1) ss
+left_is {A} ss i s h is =
     let front : drop i ss ≡ get_or ss i s ∷ drop (i + 1) ss = rw (drop-cons ss i s, add-one) refl in
-    front ∙ ap (λ (t : Symbol). t ∷ drop (i + 1) ss) (sym is)
+    front ∙ ap (λ (t : A). t ∷ drop (i + 1) ss) (sym is)
 
 any_found : {A : Type 0} (p : A → Bool) (xs : List A) → is_some (find p xs) ≡ list_any p xs
 any_found p [] = refl
@@ -152,3 +153,14 @@ pub first_later : (p : Symbol → Bool) (ss : List Symbol) (i : ℕ) (s : Symbol
     → find p (drop (i + 1) ss) ≡ find p (drop i ss)
 first_later p ss i s h is not =
     sym (ap (find p) (left_is ss i s h is) ∙ ap (λ (b : Bool). cond b (Some s) (find p (drop (i + 1) ss))) not)
+
+-- ---- a symbol whose name is not there
+
+-- whether it is one
+pub unknown_is : {S : Type 0} (m : IndexMap (Bor (List ℕ)) Numbers S) (seen : List Entry) (s : Symbol) (name : List ℕ) (defined there : Bool)
+    → Knows m seen → name ≡ s.name → defined ≡ is_defined s.home → there ≡ is_some (get_by (λ k. bytes_eq name k.now) m)
+    → (not defined && not there) ≡ is_unknown seen s
+unknown_is m seen s name defined there knows is d t =
+    let known : there ≡ list_any (defines s.name) seen =
+    t ∙ knows_has m seen name knows ∙ any_found (defines name) seen ∙ ap (λ (n : List ℕ). list_any (defines n) seen) is in
+    λ i. not (d i) && not (known i)

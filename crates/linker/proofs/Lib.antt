@@ -1,2 +1,3 @@
 -- Lemmas that proofs of several functions share.
 pub mod Knowing
+pub mod Binding

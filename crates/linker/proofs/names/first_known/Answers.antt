@@ -1,4 +1,4 @@
-use Rattle.std.proofs.Common.{◌≡◌, ℕ, ◌+◌, List, drop, find, Some, sym, ap, ◌∙◌, ◌&&◌, true, false}
+use Rattle.std.proofs.Common.{◌≡◌, ℕ, List, sym, ap, ◌∙◌, ◌&&◌, true}
 use Rattle.std.proofs.lemmas.Bool.{and_left, and_right}
 use Rattle.elf_obj.specs.declared.parts.Symbol.{Symbol}
 use Rattle.linker.specs.Known.{is_known}
@@ -12,7 +12,7 @@ returns-then-contains_key c = λ seen knows.
     let i : ℕ = c.loop-symbol.symbol-index in
     let s : Symbol = c.symbol-item.result in
     let is = known_is c.args.names.now seen s c.as_slice.result.now c.is_global.result c.contains_key.result knows c.as_slice.ensures c.is_global.ensures
-        c.contains_key.ensures in
+    c.contains_key.ensures in
     let there : is_known seen s ≡ true = sym is ∙ ap (λ b. b && c.contains_key.result) c.if-is_global.true ∙ c.if-contains_key.true in
     sym (first_here (is_known seen) ss i s c.loop-symbol-test.true c.symbol-item.is there) ∙ c.loop-symbol.invariant seen knows
 
@@ -24,7 +24,7 @@ loop-symbol-preserved c = λ seen knows.
     elim c.else-is_global.branch [
       | else-is_global-via-then-is_global+else-contains_key w ↦
           let is = known_is c.args.names.now seen s w.as_slice.result.now c.is_global.result w.contains_key.result knows w.as_slice.ensures c.is_global.ensures
-              w.contains_key.ensures in
+          w.contains_key.ensures in
           first_later (is_known seen) ss i s c.loop-symbol-test.true c.symbol-item.is
           (sym is ∙ and_right c.is_global.result w.contains_key.result w.if-contains_key.false) ∙ c.loop-symbol.invariant seen knows
       | else-is_global-via-else-is_global w ↦
