@@ -1,3 +1,4 @@
 -- Lemmas that proofs of several functions share.
 pub mod Knowing
 pub mod Binding
+pub mod Firsts

@@ -5,6 +5,7 @@ use Rattle.std.specs.List.{find, list_any}
 use Rattle.std.specs.Option.{option_map}
 use Rattle.std.specs.Str.{bytes_eq}
 use Rattle.indexmap.specs.IndexMap.{IndexMap, get_by}
+use Rattle.indexmap.specs.IndexSet.{IndexSet}
 use Rattle.elf_obj.specs.declared.parts.ObjectParts.{ObjectParts}
 use Rattle.elf_obj.specs.declared.parts.Symbol.{Symbol}
 use Rattle.elf_obj.specs.Object.{Object, object_of}
@@ -12,6 +13,7 @@ use Rattle.linker.specs.declared.names.Numbers.{Numbers}
 use Rattle.linker.specs.declared.refusal.LinkRefusal.{LinkRefusal}
 use Rattle.linker.specs.declared.refusal.LinkRefusal.TheVariants.{NoMemory}
 use Rattle.linker.specs.Names.{Entry, is_defined, is_global, defines, main_name}
+use Rattle.linker.specs.Got.{firsts}
 use Rattle.linker.specs.LinkFault.{LinkFault}
 
 -- the objects that the parts make
@@ -43,3 +45,9 @@ is_unknown seen s = not (is_defined s.home) && not (list_any (defines s.name) se
 -- the symbol is a function `main` for all objects
 abbrev pub is_main : Symbol → Bool
 is_main s = s.function && (is_global s && bytes_eq s.name main_name)
+
+-- ---- the global offset table
+
+-- the set has the symbols that these uses name, each once and in their order
+abbrev pub HasWords : {S : Type 0} → IndexSet Numbers S → List Entry → Type 0
+HasWords s uses = s.keys ≡ map numbers_of (firsts uses)

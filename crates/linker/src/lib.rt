@@ -4,6 +4,7 @@
 mod bases;
 mod names;
 mod refusal;
+mod table;
 
 pub use bases::Bases;
 pub use refusal::LinkRefusal;

@@ -13,7 +13,7 @@ use indexmap::IndexMap;
 use std::alloc::Global;
 
 /// A symbol of some objects: the number of its object, and its own there, both from 0.
-#[derive(Clone, Copy)]
+#[derive(Clone, Copy, PartialEq, Eq, Hash)]
 pub(crate) struct Numbers {
     pub object: usize,
     pub number: usize,
