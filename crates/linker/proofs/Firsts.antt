@@ -1,10 +1,11 @@
 -- The symbols of the table, one use more.
-use Rattle.std.proofs.Common.{◌≡◌, ℕ, suc, ◌+◌, ◌<◌, Bool, true, false, not, cond, ◌&&◌, ◌||◌, ◌==◌, if◌then◌else◌, List, [], ◌∷◌, ◌++◌, length, take, Option, Some, None, get_or, map, filter, filter_map, refl, sym, ap, ◌∙◌, arith, append_assoc}
-use Rattle.std.specs.List.{list_any, cons_option}
+use Rattle.std.proofs.Common.{◌≡◌, ℕ, suc, ◌+◌, ◌<◌, Bool, true, false, not, cond, ◌&&◌, ◌||◌, ◌==◌, if◌then◌else◌, List, [], ◌∷◌, ◌++◌, length, take, Option, Some, None, get_or, map, filter, filter_map, refl, sym, ap, ◌∙◌, arith, append_assoc, nat_lt}
+use Rattle.std.specs.List.{list_any, cons_option, prefix_len, position, position_or_len}
 use Rattle.std.specs.Option.{option_map}
-use Rattle.std.proofs.lemmas.Bool.{true≢false, eqb-true, eq-eqb}
+use Rattle.std.proofs.lemmas.Bool.{true≢false, eqb-true, eq-eqb, ltb-false}
 use Rattle.std.proofs.lemmas.List.{append-nil, take_more, map-append}
 use Rattle.std.proofs.lemmas.List.Elements.{filter-append, filter_map-append}
+use Rattle.std.proofs.lemmas.List.Sums.{prefix_len-le-length}
 use Rattle.std.proofs.lemmas.Option.{none-some, same_Some}
 use Rattle.indexmap.specs.IndexSet.{insert_key}
 use Rattle.elf_obj.specs.declared.parts.Reloc.{Reloc}
@@ -160,3 +161,34 @@ uses_more objects os k o h is =
     ∙ ap (λ (m : ℕ). uses_from objects 0 (take k os) ++ (filter_map (used_by objects m o.symbols) o.text_relocs ++ []))
     (omega (arith, length-took os k (omega arith)))
     ∙ ap (λ (l : List Entry). uses_from objects 0 (take k os) ++ l) (append-nil (filter_map (used_by objects k o.symbols) o.text_relocs))
+
+-- ---- the number of a word
+
+numbers_prefix : (e : Entry) (ys : List Entry) (eq : Numbers → Numbers → Bool)
+    → ((a b : Numbers) → eq a b ≡ (a.object == b.object && a.number == b.number))
+    → prefix_len (λ x. not (eq (numbers_of e) x)) (map numbers_of ys) ≡ prefix_len (λ x. not (is_same e x)) ys
+numbers_prefix e [] eq h = refl
+numbers_prefix e (y ∷ ys) eq h = λ i. cond (not (h (numbers_of e) (numbers_of y) i)) (1 + numbers_prefix e ys eq h i) 0
+
+-- where a symbol stands in the set, or how many it has
+pub place_is : (keys : List Numbers) (ys : List Entry) (e : Entry) (n : Numbers) (eq : Numbers → Numbers → Bool)
+    → ((a b : Numbers) → eq a b ≡ (a.object == b.object && a.number == b.number)) → keys ≡ map numbers_of ys → numbers_of e ≡ n
+    → position_or_len (eq n) keys ≡ position_or_len (is_same e) ys
+place_is keys ys e n eq h is numbers =
+    (λ i. position_or_len (eq (sym numbers i)) (is i)) ∙ numbers_prefix e ys eq h
+
+pub found_place : (keys : List Numbers) (p : Numbers → Bool) (i : ℕ) → Some i ≡ position p keys → i ≡ position_or_len p keys
+found_place keys p i h = by_test (nat_lt (position_or_len p keys) (length keys)) h
+  where
+    by_test : (b : Bool) → Some i ≡ cond b (Some (position_or_len p keys)) None → i ≡ position_or_len p keys
+    by_test true e = same_Some i (position_or_len p keys) e
+    by_test false e = absurd (none-some i (sym e))
+
+pub no_place : (keys : List Numbers) (p : Numbers → Bool) → None ≡ position p keys → length keys ≡ position_or_len p keys
+no_place keys p h = by_test (nat_lt (position_or_len p keys) (length keys)) refl h
+  where
+    by_test : (b : Bool) → nat_lt (position_or_len p keys) (length keys) ≡ b → None ≡ cond b (Some (position_or_len p keys)) None
+        → length keys ≡ position_or_len p keys
+    by_test true is e = absurd (none-some (position_or_len p keys) e)
+    by_test false is e =
+        omega (arith, ltb-false (position_or_len p keys) (length keys) is, prefix_len-le-length (λ x. not (p x)) keys)

@@ -8,7 +8,8 @@ use Rattle.linker.specs.declared.bases.Bases.{Bases}
 use Rattle.linker.specs.Names.{target, definition, main_name}
 use Rattle.linker.specs.Sections.{laid, ends, word_counts, each_from}
 use Rattle.linker.specs.Addresses.{text_address, address, got_address, plus}
-use Rattle.linker.specs.Fields.{Site, relocated}
+use Rattle.linker.specs.declared.fields.Site.{Site}
+use Rattle.linker.specs.Fields.{relocated}
 
 -- a relocation of the object of a number, at its place in the image
 abbrev pub site : List Object → Bases → ℕ → Object → Reloc → Site

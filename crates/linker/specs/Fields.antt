@@ -1,6 +1,7 @@
 -- What the fields of relocated instructions hold (ELF for the Arm 64-bit architecture, 5.7.6 and 5.7.10; Arm ARM for the fields).
 use Rattle.std.specs.Prelude.{ℕ, ◌+◌, ◌*◌, ◌/◌, ◌%◌, ◌^◌, ◌==◌, ◌||◌, if◌then◌else◌}
 use Rattle.mt_base.specs.Wrapping.{wrapping_sub}
+use Rattle.linker.specs.declared.fields.Site.{Site}
 
 -- a word with a number in its bits from `low` on, `width` of them; its other bits stay
 abbrev pub with_bits : ℕ → ℕ → ℕ → ℕ → ℕ
@@ -28,14 +29,8 @@ with_low_of_8 x word = with_bits 10 12 (x % 4096 / 8) word
 unfoldable pub with_distance : ℕ → ℕ → ℕ → ℕ
 with_distance x place word = with_bits 0 26 (wrapping_sub 64 x place / 4) word
 
--- a relocation of an instruction at its place: its kind, the place P, the sum S + A, and the address G of the symbol's word in the table
-pub record Site : Type 0 where
-  pub kind : ℕ
-  pub place : ℕ
-  pub sum : ℕ
-  pub got : ℕ
-
--- the word of an instruction with its field, by the kind of the relocation: ADR_PREL_PG_HI21 (275), ADD_ABS_LO12_NC (277), JUMP26 (282),
+-- The word of an instruction with its field, by the kind of the relocation at its place P: S + A is the sum of the symbol's address and the addend, G
+-- the address of the symbol's word in the table. ADR_PREL_PG_HI21 (275), ADD_ABS_LO12_NC (277), JUMP26 (282),
 -- CALL26 (283), ADR_GOT_PAGE (311), LD64_GOT_LO12_NC (312)
 abbrev pub relocated : Site → ℕ → ℕ
 relocated s word =

@@ -6,3 +6,4 @@ pub mod Sizes
 pub mod OneOrder
 pub mod OneImage
 pub mod Growth
+pub mod Places

@@ -14,4 +14,5 @@ pub mod LinkFault
 pub mod Linked
 pub mod Refusal
 pub mod Known
+pub mod Totals
 pub mod Laws

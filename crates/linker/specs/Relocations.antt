@@ -1,6 +1,7 @@
 -- The places of an image that hold addresses: R_AARCH64_RELATIVE, of the words of the table and of R_AARCH64_ABS64 in the filled data.
 use Rattle.std.specs.Prelude.{ℕ, ◌+◌, ◌*◌, List, [], ◌∷◌, ◌++◌, map, length}
 use Rattle.std.specs.Int.{w64, cast_signed}
+use Rattle.mt_base.specs.Wrapping.{wrap}
 use Rattle.elf_obj.specs.declared.parts.Reloc.{Reloc}
 use Rattle.elf_obj.specs.Object.{Object}
 use Rattle.elf_image.specs.declared.parts.RelativeReloc.{RelativeReloc}
@@ -12,7 +13,7 @@ use Rattle.linker.specs.Addresses.{entry_address, init_address, address, plus}
 
 -- a place and the address that is put there, as a signed number of 64 bits
 abbrev pub relative : ℕ → ℕ → RelativeReloc
-relative place at = record { place = place; addend = cast_signed w64 at }
+relative place at = record { place = place; addend = cast_signed w64 (wrap 64 at) }
 
 -- the i-th word of the table holds the address of its symbol
 abbrev pub got_reloc : List Object → Bases → ℕ → Entry → RelativeReloc

@@ -2,9 +2,14 @@
 #![tactic(auto)]
 
 mod bases;
+mod fields;
+mod layout;
+mod lengths;
 mod names;
 mod refusal;
 mod table;
+mod totals;
 
 pub use bases::Bases;
+pub use fields::Site;
 pub use refusal::LinkRefusal;
