@@ -2,3 +2,6 @@
 pub mod Knowing
 pub mod Binding
 pub mod Firsts
+pub mod Listed
+pub mod Each
+pub mod Relocated

@@ -14,5 +14,6 @@ pub mod LinkFault
 pub mod Linked
 pub mod Refusal
 pub mod Known
+pub mod Ready
 pub mod Totals
 pub mod Laws

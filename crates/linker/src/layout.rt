@@ -1,4 +1,4 @@
-ghost use Rattle.std.specs.Prelude.{◌≡◌, ◌<◌, ◌^◌, List, map, slice_index};
+ghost use Rattle.std.specs.Prelude.{◌≡◌, ◌<◌, ◌≤◌, ◌^◌, List, length, map, slice_index};
 ghost use Rattle.mt_base.specs.Wrapping.{wrap};
 ghost use Rattle.elf_obj.specs.Object.{Object};
 ghost use Rattle.linker.specs.Names.{Entry};
@@ -74,8 +74,9 @@ pub(crate) fn symbol_address(layout: &Layout, objects: &[ObjectParts], numbers: 
 
 /// The number of a symbol's word in the global offset table.
 pub(crate) fn word_number(table: &Table, numbers: Numbers) -> usize
-    ensures { (objects : List Object) (e : Entry) → table.now.keys ≡ map numbers_of (got objects) → numbers_of e ≡ numbers
+    ensures number { (objects : List Object) (e : Entry) → table.now.keys ≡ map numbers_of (got objects) → numbers_of e ≡ numbers
         → result ≡ got_number objects e }
+    ensures small { result ≤ length table.now.keys }
 {
     match table.get_index_of(&numbers) {
         Some(index) => index,

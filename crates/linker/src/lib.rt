@@ -7,6 +7,7 @@ mod layout;
 mod lengths;
 mod names;
 mod refusal;
+mod relocate;
 mod table;
 mod totals;
 
