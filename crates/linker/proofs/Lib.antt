@@ -1,0 +1,7 @@
+-- Lemmas that proofs of several functions share.
+pub mod Knowing
+pub mod Binding
+pub mod Firsts
+pub mod Listed
+pub mod Each
+pub mod Relocated

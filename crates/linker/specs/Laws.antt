@@ -1,0 +1,9 @@
+-- Laws of links, for later proofs, and examples.
+pub mod FieldExamples
+pub mod Examples
+pub mod OneFault
+pub mod Sizes
+pub mod OneOrder
+pub mod OneImage
+pub mod Growth
+pub mod Places

@@ -1,0 +1,16 @@
+//! The linker: the image of objects, with their names bound, their fields relocated and their tagged objects described.
+#![tactic(auto)]
+
+mod bases;
+mod fields;
+mod layout;
+mod lengths;
+mod names;
+mod refusal;
+mod relocate;
+mod table;
+mod totals;
+
+pub use bases::Bases;
+pub use fields::Site;
+pub use refusal::LinkRefusal;
