@@ -121,8 +121,7 @@ fn with_sign(negative: bool, n: u64) -> u64
     if negative { negated(n) } else { n }
 }
 
-/// Toward 0; a division by 0 has no value.
-pub fn quotient(t: IntType, a: u64, b: u64) -> Option<u64>
+fn quotient(t: IntType, a: u64, b: u64) -> Option<u64>
     ensures { result ≡ number.divided (number.quotient t) a b }
 {
     if b == 0 {

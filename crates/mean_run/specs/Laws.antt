@@ -1,4 +1,0 @@
--- Answers of the code, and what the definition's runs are in its words.
-pub mod Giving
-pub mod Comparing
-pub mod Standing
