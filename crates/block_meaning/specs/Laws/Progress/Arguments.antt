@@ -23,7 +23,8 @@ use Rattle.block_meaning.specs.Laws.Progress.Safe.{safe-some}
 use Rattle.block_meaning.specs.Laws.Progress.Scenes.{Passed, Scene, here_of, later}
 use Rattle.block_meaning.specs.Linkage.{Definition, function_of, called_as}
 use Rattle.block_meaning.specs.Running.{Function, State}
-use Rattle.block_meaning.specs.Values.{Value, Number}
+use Rattle.block_meaning.specs.declared.value.Value.{Value}
+use Rattle.block_meaning.specs.declared.value.Value.TheVariants.{Number}
 use Rattle.block_meaning.specs.Laws.Progress.Nodes.{site_of, ValueSafe, ArgumentsSafe, ValuePart, part-value}
 
 pub no_argument_safe : {s : Scope} → ArgumentsSafe s [] []

@@ -14,7 +14,8 @@ use Rattle.c_type_base.specs.declared.typed.Typed.{Typed}
 use Rattle.c_type_base.specs.declared.typed.LocalInfo.{LocalInfo}
 use Rattle.c_type_base.specs.declared.typed.TFunction.{TFunction}
 use Rattle.c_type_base.specs.Types.{is_void, is_scalar}
-use Rattle.block_meaning.specs.Blocks.{Local, Block, block_of, ended}
+use Rattle.block_meaning.specs.declared.kind.Kind.TheVariants.{Local}
+use Rattle.block_meaning.specs.Blocks.{Block, block_of, ended}
 use Rattle.block_meaning.specs.Expressions.{Calls}
 use Rattle.block_meaning.specs.ProgramsInOrder.{numbered, body_scope, FunctionInOrder, InOrder}
 use Rattle.block_meaning.specs.Laws.Progress.Fits.{Fits, ValueWithin, within-more, cells_of-within, missing-fits}
@@ -32,7 +33,9 @@ use Rattle.block_meaning.specs.Meaning.{open_bytes, new_call, new_parameter, wit
 use Rattle.block_meaning.specs.Meaning.{body_of, calls_at}
 use Rattle.block_meaning.specs.Running.{Deep, Function, Call, Program, Context, State, Run, gives, and_then, with_blocks}
 use Rattle.block_meaning.specs.Statements.{Flow, Returned, StmtParts, declared, items, statements_at}
-use Rattle.block_meaning.specs.Values.{Value, Number, Address, Struct, NoValue, cells_of}
+use Rattle.block_meaning.specs.declared.value.Value.{Value}
+use Rattle.block_meaning.specs.declared.value.Value.TheVariants.{Number, Address, Struct, NoValue}
+use Rattle.block_meaning.specs.Values.{cells_of}
 
 -- ---- parameters
 

@@ -14,12 +14,18 @@ use Rattle.c_type_base.specs.Sizes.{int_bytes}
 use Rattle.c_type_base.specs.Types.{TyLayer, is_there, int_of_level, target_of_level, is_void_level, is_integer}
 use Rattle.c_type_base.specs.Types.{is_pointer, is_scalar, is_void}
 use Rattle.block_meaning.specs.declared.reason.Reason.{Reason}
-use Rattle.block_meaning.specs.Access.{Access, ReadResult, ReadsAs, UndefinedBy, whole_or_part, scalar_in, unless_reason, read_in}
+use Rattle.block_meaning.specs.declared.access.Access.{Access}
+use Rattle.block_meaning.specs.Access.{ReadResult, ReadsAs, UndefinedBy, whole_or_part, scalar_in, unless_reason, read_in}
 use Rattle.block_meaning.specs.Access.{reason_against}
-use Rattle.block_meaning.specs.Blocks.{Cell, Byte, Part, Block, Pointer, pointer, cells_in}
+use Rattle.block_meaning.specs.declared.cell.Cell.{Cell}
+use Rattle.block_meaning.specs.declared.cell.Cell.TheVariants.{Byte, Part}
+use Rattle.block_meaning.specs.Blocks.{Block, pointer, cells_in}
+use Rattle.block_meaning.specs.declared.value.Pointer.{Pointer}
 use Rattle.block_meaning.specs.ExpressionsInOrder.{Converts, integers, pointers, null_constant}
 use Rattle.block_meaning.specs.Laws.Progress.Safe.{CellWithin, CellsWithin}
-use Rattle.block_meaning.specs.Values.{Value, Number, Address, Struct, NoValue, pointer_in, number_in, number_cells}
+use Rattle.block_meaning.specs.declared.value.Value.{Value}
+use Rattle.block_meaning.specs.declared.value.Value.TheVariants.{Number, Address, Struct, NoValue}
+use Rattle.block_meaning.specs.Values.{pointer_in, number_in, number_cells}
 use Rattle.block_meaning.specs.Values.{pointer_cells}
 use Rattle.block_meaning.specs.Values.{scalar_cells, cells_of, number_of_cells, are_parts, pointer_of_cells, number_value, address_value}
 use Rattle.block_meaning.specs.Values.{scalar_of_cells, value_of_cells, is_nothing, value_as, converted_to, zero_as, missing_result}

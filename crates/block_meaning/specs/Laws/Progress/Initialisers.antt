@@ -19,7 +19,9 @@ use Rattle.c_type_base.specs.declared.typed.MemberInfo.{MemberInfo}
 use Rattle.c_type_base.specs.Layout.{members_of}
 use Rattle.c_type_base.specs.Types.{TyLayer, is_there, int_of_level, target_of_level, element_of_level, struct_of_level}
 use Rattle.c_type_base.specs.Types.{is_struct, is_array, is_scalar, is_integer, element_of, struct_of}
-use Rattle.block_meaning.specs.Blocks.{Byte, Pointer, pointer}
+use Rattle.block_meaning.specs.declared.cell.Cell.TheVariants.{Byte}
+use Rattle.block_meaning.specs.declared.value.Pointer.{Pointer}
+use Rattle.block_meaning.specs.Blocks.{pointer}
 use Rattle.block_meaning.specs.Expressions.{NodeLayer, ExprParts, value_of, parts_at}
 use Rattle.block_meaning.specs.ExpressionsInOrder.{Scope, HasValue, file_of}
 use Rattle.block_meaning.specs.StatementsInOrder as order

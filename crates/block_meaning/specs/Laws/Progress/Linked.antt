@@ -24,7 +24,8 @@ use Rattle.block_meaning.specs.Linkage.{block_of_definition, extern_block, funct
 use Rattle.block_meaning.specs.Linkage.{same_across, all_same_across, parameter_types, agrees_with, called_as}
 use Rattle.block_meaning.specs.Locals.{text_of}
 use Rattle.block_meaning.specs.Running.{Function}
-use Rattle.block_meaning.specs.Values.{Value, Number, Address, Struct}
+use Rattle.block_meaning.specs.declared.value.Value.{Value}
+use Rattle.block_meaning.specs.declared.value.Value.TheVariants.{Number, Address, Struct}
 
 -- as many as the blocks of a program before its run
 abbrev pub all_blocks : List Typed → ℕ

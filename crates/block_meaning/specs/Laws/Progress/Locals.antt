@@ -8,7 +8,9 @@ use Rattle.std.proofs.lemmas.List.{length_push}
 use Rattle.std.proofs.lemmas.List.Elements.{All-nil, All-cons, All-head, All-tail, All-append, All-push, All-replicate, All-weaker}
 use Rattle.c_type_base.specs.declared.typed.LocalInfo.{LocalInfo}
 use Rattle.c_type_base.specs.declared.typed.TFunction.{TFunction}
-use Rattle.block_meaning.specs.Blocks.{Nothing, Local, Block, fresh, ended, with_block}
+use Rattle.block_meaning.specs.declared.cell.Cell.TheVariants.{Nothing}
+use Rattle.block_meaning.specs.declared.kind.Kind.TheVariants.{Local}
+use Rattle.block_meaning.specs.Blocks.{Block, fresh, ended, with_block}
 use Rattle.block_meaning.specs.ExpressionsInOrder.{Scope, within}
 use Rattle.block_meaning.specs.Laws.Progress.Memory.{cells-more, with_block-changes}
 use Rattle.block_meaning.specs.Laws.Progress.Safe.{CellWithin, BlockWithin, BlocksWithin, Went, further, Ends, Safe}

@@ -14,7 +14,7 @@ use Rattle.block_meaning.specs.Linkage.{AFunction, parameter_types, type_of_loca
 use Rattle.block_meaning.specs.Meaning.{call_main, before, run_program, Stopped, end_of, Outcome, outcome_of, Meaning}
 use Rattle.block_meaning.specs.ProgramsInOrder.{InOrder}
 use Rattle.block_meaning.specs.Running.{Program, State, Result, Goes, Stops, Stuck}
-use Rattle.block_meaning.specs.Values.{Value}
+use Rattle.block_meaning.specs.declared.value.Value.{Value}
 
 main_safe : {program : Program} (in_order : InOrder program) (work : ℕ) →
     let main = in_order.main in

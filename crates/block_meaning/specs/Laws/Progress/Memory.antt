@@ -11,8 +11,11 @@ use Rattle.c_type_base.specs.declared.ty.Ty.{Ty, out-Ty}
 use Rattle.c_type_base.specs.declared.ty.Ty.TheOpen.{Ty-F}
 use Rattle.c_type_base.specs.Types.{TyLayer, is_there, struct_of_level, is_struct}
 use Rattle.block_meaning.specs.declared.reason.Reason.{Reason}
-use Rattle.block_meaning.specs.Access.{Access, reason_against, ReadResult, ReadsAs, UndefinedBy, read_in, overlap}
-use Rattle.block_meaning.specs.Blocks.{Cell, Block, Pointer, cells_in, with_cells_in, with_cells, cells_at_block, cells_at, changed}
+use Rattle.block_meaning.specs.declared.access.Access.{Access}
+use Rattle.block_meaning.specs.Access.{reason_against, ReadResult, ReadsAs, UndefinedBy, read_in, overlap}
+use Rattle.block_meaning.specs.declared.cell.Cell.{Cell}
+use Rattle.block_meaning.specs.Blocks.{Block, cells_in, with_cells_in, with_cells, cells_at_block, cells_at, changed}
+use Rattle.block_meaning.specs.declared.value.Pointer.{Pointer}
 use Rattle.block_meaning.specs.Blocks.{with_block, stored}
 use Rattle.block_meaning.specs.Laws.Progress.Safe.{CellWithin, CellsWithin, BlockWithin, BlocksWithin, Safe, Any, safe-gives}
 use Rattle.block_meaning.specs.Laws.Progress.Safe.{safe-undefined}
@@ -21,7 +24,9 @@ use Rattle.block_meaning.specs.Laws.Progress.Fits.{FitsLevel, Fits, ReadFits, re
 use Rattle.block_meaning.specs.Memory.{Object, access, in_block, unless_undefined, judged, what_is_read, read_scalar, read, write, Copy}
 use Rattle.block_meaning.specs.Memory.{unless_overlap, copied, copy_struct}
 use Rattle.block_meaning.specs.Running.{Run, gives, with_blocks, with_some, Context}
-use Rattle.block_meaning.specs.Values.{Value, Struct, cells_of}
+use Rattle.block_meaning.specs.declared.value.Value.{Value}
+use Rattle.block_meaning.specs.declared.value.Value.TheVariants.{Struct}
+use Rattle.block_meaning.specs.Values.{cells_of}
 
 -- ---- blocks
 

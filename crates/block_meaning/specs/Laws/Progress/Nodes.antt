@@ -6,7 +6,7 @@ use Rattle.c_type_base.specs.declared.ty.Ty.{Ty}
 use Rattle.c_type_base.specs.declared.expr.TExpr.{TExpr}
 use Rattle.c_type_base.specs.declared.expr.TNode.{out-TNode}
 use Rattle.c_type_base.specs.Types.{is_integer}
-use Rattle.block_meaning.specs.Blocks.{Pointer}
+use Rattle.block_meaning.specs.declared.value.Pointer.{Pointer}
 use Rattle.block_meaning.specs.Expressions.{NodeLayer, Site, value_of}
 use Rattle.block_meaning.specs.Expressions.{place_node, value_node, parts_at}
 use Rattle.block_meaning.specs.ExpressionsInOrder.{Scope}
@@ -16,7 +16,7 @@ use Rattle.block_meaning.specs.Laws.Progress.Safe.{Safe, safe-gives}
 use Rattle.block_meaning.specs.Laws.Progress.Safe.{safe-unit}
 use Rattle.block_meaning.specs.Laws.Progress.Scenes.{Passed, Scene, here_of}
 use Rattle.block_meaning.specs.Running.{unit_gives, all_of}
-use Rattle.block_meaning.specs.Values.{Number}
+use Rattle.block_meaning.specs.declared.value.Value.TheVariants.{Number}
 
 -- where a node stands, with so many levels below it
 abbrev pub site_of : {s : Scope} {n w : ℕ} → Scene s n w → ℕ → Span → Span → Ty → Site

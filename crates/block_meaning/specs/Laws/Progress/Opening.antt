@@ -15,7 +15,10 @@ use Rattle.c_type_base.specs.declared.typed.InitValue.{InitValue}
 use Rattle.c_type_base.specs.declared.typed.InitValue.TheVariants as initial
 use Rattle.c_type_base.specs.declared.typed.Target.{Target}
 use Rattle.c_type_base.specs.declared.typed.Target.TheVariants as target
-use Rattle.block_meaning.specs.Blocks.{Cell, Byte, Part, Block, Text, Code, pointer, null_block, block_of, with_cells}
+use Rattle.block_meaning.specs.declared.cell.Cell.{Cell}
+use Rattle.block_meaning.specs.declared.cell.Cell.TheVariants.{Byte, Part}
+use Rattle.block_meaning.specs.Blocks.{Block, pointer, null_block, block_of, with_cells}
+use Rattle.block_meaning.specs.declared.kind.Kind.TheVariants.{Text, Code}
 use Rattle.block_meaning.specs.Laws.Progress.Fits.{pointer_cells-within, number_cells-within}
 use Rattle.block_meaning.specs.Laws.Progress.Linked.{all_blocks, object-within, text-within, defined-within}
 use Rattle.block_meaning.specs.Laws.Progress.Linked.{definition-block}

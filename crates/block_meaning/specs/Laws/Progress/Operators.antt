@@ -12,7 +12,8 @@ use Rattle.c_type_base.specs.declared.ty.Ty.TheOpen.{Ty-F}
 use Rattle.c_type_base.specs.Arithmetic.{binary_value}
 use Rattle.c_type_base.specs.Conversions.{wrap}
 use Rattle.c_type_base.specs.Types.{TyLayer, is_there, int_of_level, target_of_level, is_integer, is_pointer, is_scalar}
-use Rattle.block_meaning.specs.Blocks.{Pointer, moved}
+use Rattle.block_meaning.specs.declared.value.Pointer.{Pointer}
+use Rattle.block_meaning.specs.Blocks.{moved}
 use Rattle.block_meaning.specs.Compare.{compared, pointer_truth, objects_between}
 use Rattle.block_meaning.specs.ExpressionsInOrder.{BinaryTypes, arithmetic, shift, comparison, added, added_to, taken, distance, int_type}
 use Rattle.block_meaning.specs.ExpressionsInOrder.{CompoundTypes, computes, adds, takes}
@@ -25,7 +26,9 @@ use Rattle.block_meaning.specs.Operators.{on_values, operated, binary_of, comput
 use Rattle.block_meaning.specs.Operators.{by_one}
 use Rattle.block_meaning.specs.Operators.{stepped, target_size}
 use Rattle.block_meaning.specs.Running.{Divide, gives, and_then, Context}
-use Rattle.block_meaning.specs.Values.{Value, Number, Address, converted_to}
+use Rattle.block_meaning.specs.declared.value.Value.{Value}
+use Rattle.block_meaning.specs.declared.value.Value.TheVariants.{Number, Address}
+use Rattle.block_meaning.specs.Values.{converted_to}
 
 comparison_safe : {n w : ℕ} (here : Context) (span : Span) (b : Option Bool) → Safe n w (operators.comparison here span b) Any
 comparison_safe here span None = safe-undefined here span None _

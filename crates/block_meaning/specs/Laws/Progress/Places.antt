@@ -12,7 +12,8 @@ use Rattle.c_type_base.specs.declared.typed.MemberInfo.{MemberInfo}
 use Rattle.c_type_base.specs.declared.typed.ExternInfo.{ExternInfo}
 use Rattle.c_type_base.specs.declared.typed.GlobalInfo.{GlobalInfo}
 use Rattle.c_type_base.specs.Types.{target_of}
-use Rattle.block_meaning.specs.Blocks.{Pointer, moved}
+use Rattle.block_meaning.specs.declared.value.Pointer.{Pointer}
+use Rattle.block_meaning.specs.Blocks.{moved}
 use Rattle.block_meaning.specs.Expressions.{start_of}
 use Rattle.block_meaning.specs.Expressions.{starts, member_place}
 use Rattle.block_meaning.specs.Expressions.{element_at, member_in, member_of}
@@ -31,7 +32,9 @@ use Rattle.block_meaning.specs.Laws.Progress.Scenes.{LocalAt, Scene, here_of, la
 use Rattle.block_meaning.specs.Linkage.{extern_at}
 use Rattle.block_meaning.specs.Locals.{text_of}
 use Rattle.block_meaning.specs.Memory.{object}
-use Rattle.block_meaning.specs.Values.{Value, Address, pointer_in}
+use Rattle.block_meaning.specs.declared.value.Value.{Value}
+use Rattle.block_meaning.specs.declared.value.Value.TheVariants.{Address}
+use Rattle.block_meaning.specs.Values.{pointer_in}
 use Rattle.block_meaning.specs.Laws.Progress.Nodes.{site_of, ValueSafe, PlaceSafe, ValuePart, PlacePart, part-value}
 use Rattle.block_meaning.specs.Laws.Progress.Nodes.{part-place, some-block, place_given}
 use Rattle.block_meaning.specs.Laws.Progress.Values.{assign_value}

@@ -3,8 +3,10 @@ use Rattle.std.proofs.Common.{◌≡◌, refl, sym, subst, ℕ, zero, suc, ◌�
 use Rattle.std.specs.List.{All}
 use Rattle.c_ast.specs.declared.token.Span.{Span}
 use Rattle.block_meaning.specs.declared.reason.Reason.{Reason}
-use Rattle.block_meaning.specs.Access.{Access}
-use Rattle.block_meaning.specs.Blocks.{Cell, Part, Block}
+use Rattle.block_meaning.specs.declared.access.Access.{Access}
+use Rattle.block_meaning.specs.declared.cell.Cell.{Cell}
+use Rattle.block_meaning.specs.declared.cell.Cell.TheVariants.{Part}
+use Rattle.block_meaning.specs.Blocks.{Block}
 use Rattle.block_meaning.specs.Laws.Settled.{IsStop}
 use Rattle.block_meaning.specs.Running.{Stop, State, Result, Goes, Stops, Run, gives, stops, goes_on, and_then, one_of, unit_then}
 use Rattle.block_meaning.specs.Running.{choice, with_some, by_blocks, with_blocks, Context, undefined}

@@ -12,7 +12,7 @@ use Rattle.block_meaning.specs.Laws.Progress.Safe.{Safe}
 use Rattle.block_meaning.specs.Linkage.{function_named, parameter_types}
 use Rattle.block_meaning.specs.Locals.{latest}
 use Rattle.block_meaning.specs.Running.{Function, Call, Program, Context}
-use Rattle.block_meaning.specs.Values.{Value}
+use Rattle.block_meaning.specs.declared.value.Value.{Value}
 
 -- a local has a block
 pub record LocalAt (n : ℕ) (local : ℕ → Option ℕ) (k : ℕ) : Type 0 where

@@ -32,7 +32,8 @@ use Rattle.block_meaning.specs.Statements.{StmtLayer, ItemLayer, Flow, Next, Bro
 use Rattle.block_meaning.specs.Statements.{local_of, declared_by, declared, item_node, items, condition, condition_or_true, effect}
 use Rattle.block_meaning.specs.Statements.{Heading}
 use Rattle.block_meaning.specs.Statements.{stmt_node, statements_at}
-use Rattle.block_meaning.specs.Values.{Value, NoValue}
+use Rattle.block_meaning.specs.declared.value.Value.{Value}
+use Rattle.block_meaning.specs.declared.value.Value.TheVariants.{NoValue}
 use Rattle.block_meaning.specs.Laws.Progress.Turns.{FlowFits, flow-more, Always, bound_within, for_inside, while_by, do_by}
 use Rattle.block_meaning.specs.Laws.Progress.Turns.{for_inside_by, if_alone_by, if_else_by}
 

@@ -17,7 +17,7 @@ use Rattle.c_type_base.specs.declared.ty.Ty.TheOpen.{Ty-F}
 use Rattle.c_type_base.specs.declared.expr.TExpr.{TExpr}
 use Rattle.c_type_base.specs.declared.expr.TNode.TheOpen.{TNode-F}
 use Rattle.c_type_base.specs.Types.{TyLayer, is_integer, is_scalar, is_void}
-use Rattle.block_meaning.specs.Blocks.{Pointer}
+use Rattle.block_meaning.specs.declared.value.Pointer.{Pointer}
 use Rattle.block_meaning.specs.Expressions.{Site, value_of, number_known, same_truth, logical_node}
 use Rattle.block_meaning.specs.Expressions.{written, assigned}
 use Rattle.block_meaning.specs.Expressions.{assign_node}
@@ -38,7 +38,9 @@ use Rattle.block_meaning.specs.Laws.Progress.Scenes.{Scene, here_of, later, lowe
 use Rattle.block_meaning.specs.Memory.{object}
 use Rattle.block_meaning.specs.Operators.{operand, operated, number_of_truth, gives_old, stepped}
 use Rattle.block_meaning.specs.Running.{gives, and_then, unit_then}
-use Rattle.block_meaning.specs.Values.{Value, Address, Struct, converted_to}
+use Rattle.block_meaning.specs.declared.value.Value.{Value}
+use Rattle.block_meaning.specs.declared.value.Value.TheVariants.{Address, Struct}
+use Rattle.block_meaning.specs.Values.{converted_to}
 use Rattle.block_meaning.specs.Laws.Progress.Nodes.{site_of, ValueSafe, ValuePart, PlacePart, part-value}
 use Rattle.block_meaning.specs.Laws.Progress.Nodes.{part-place, some-block, number_given}
 

@@ -10,7 +10,9 @@ use Rattle.c_type_base.specs.declared.typed.StructInfo.{StructInfo}
 use Rattle.c_type_base.specs.declared.typed.MemberInfo.{MemberInfo}
 use Rattle.c_type_base.specs.Layout.{members_of}
 use Rattle.c_type_base.specs.Sizes.{int_bytes, bytes_of_struct}
-use Rattle.block_meaning.specs.Blocks.{Cell, Byte, null, with_cells}
+use Rattle.block_meaning.specs.declared.cell.Cell.{Cell}
+use Rattle.block_meaning.specs.declared.cell.Cell.TheVariants.{Byte}
+use Rattle.block_meaning.specs.Blocks.{null, with_cells}
 use Rattle.block_meaning.specs.Laws.Progress.Fits.{pointer_cells-within}
 use Rattle.block_meaning.specs.Laws.Progress.Memory.{with_cells-within}
 use Rattle.block_meaning.specs.Laws.Progress.Safe.{CellWithin, CellsWithin}
