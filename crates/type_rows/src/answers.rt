@@ -36,15 +36,10 @@ fn checked(alloc: Global, program: &Program) -> Result<String, AllocError> {
     }
 }
 
-/// An answer of a row without the text of the construct.
-pub fn without_part(answer: &str) -> &str {
-    let Some((number, rest)) = answer.split_once(' ') else {
-        return answer;
-    };
-    match rest.split_once(' ') {
-        Some((place, _)) => answer
-            .get(..number.len() + 1 + place.len())
-            .unwrap_or(answer),
-        None => answer,
+/// What a row wants: what was found, where its answer is that, or that with the text of the construct behind it, and else its answer.
+pub fn line_wanted<'a>(answer: &'a str, found: &'a str) -> &'a str {
+    match answer.strip_prefix(found) {
+        Some(rest) if rest.is_empty() || rest.starts_with(' ') => found,
+        _ => answer,
     }
 }

@@ -8,7 +8,7 @@
 
 mod answers;
 
-use answers::{answer, without_part};
+use answers::{answer, line_wanted};
 use std::io;
 use test_rows::{Row, Tally};
 
@@ -18,7 +18,7 @@ fn main(rt: HostRuntime) -> io::Result<()> {
         let line = line?;
         if let Some(row) = Row::of(line.as_str()) {
             let found = answer(rt.alloc(), row.question)?;
-            let wanted = without_part(row.answer);
+            let wanted = line_wanted(row.answer, found.as_str());
             if tally.differs(wanted, found.as_str()) {
                 println!(rt; "{}: {found}, not {wanted}", row.question)?;
             }
