@@ -1,16 +1,17 @@
 -- What a symbol of all objects is, by its numbers.
-use Rattle.std.proofs.Common.{◌≡◌, ℕ, suc, ◌+◌, ◌<◌, Bool, true, false, List, [], ◌∷◌, find, cond, Option, Some, None, slice_get, get_or, length, refl, sym, ap, subst, ◌∙◌, arith}
+use Rattle.std.proofs.Common.{◌≡◌, ℕ, pos, suc, ◌+◌, ◌<◌, Bool, true, false, List, [], ◌∷◌, find, cond, Option, Some, None, slice_get, get_or, length, refl, sym, ap, subst, ◌∙◌, arith}
 use Rattle.std.specs.Option.{option_or, option_map}
 use Rattle.std.proofs.lemmas.List.{length-map, get_or-map}
 use Rattle.std.proofs.lemmas.List.Folds.{find-append}
 use Rattle.std.proofs.lemmas.Option.{none-some, same_Some, slice_get-get_or}
+use Rattle.mt_base.specs.Wrapping.{wrap}
 use Rattle.elf_obj.specs.declared.parts.ObjectParts.{ObjectParts}
 use Rattle.elf_obj.specs.declared.parts.Symbol.{Symbol}
 use Rattle.elf_obj.specs.Object.{Object, object_of}
 use Rattle.linker.specs.declared.names.Numbers.{Numbers}
 use Rattle.linker.specs.declared.bases.Bases.{Bases}
-use Rattle.linker.specs.Names.{Entry, entry, numbered_from, entries_from, is_defined, defines, definition, stands_for, target}
-use Rattle.linker.specs.Addresses.{entry_address, address}
+use Rattle.linker.specs.Names.{Entry, entry, numbered_from, entries_from, is_defined, defines, definition, stands_for, target, main_name}
+use Rattle.linker.specs.Addresses.{entry_address, address, plus}
 use Rattle.linker.specs.Known.{objects_of, numbers_of, number_address_in, number_address}
 
 -- the symbol of these numbers is that of the entry
@@ -142,3 +143,25 @@ object_is parts k o d h there =
     let within : k < length (objects_of parts) = omega (arith, h, length-map parts object_of) in
     same_Some (object_of (get_or parts k d)) o
     (ap Some (sym (get_or-map object_of parts k d (object_of d) h)) ∙ sym (slice_get-get_or (objects_of parts) k (object_of d) within) ∙ there)
+
+-- ---- `main`
+
+pub main_sum : (os : List Object) (bases : Bases) (n : Numbers) → option_map numbers_of (definition os main_name) ≡ Some n
+    → wrap 64 (number_address os bases n) ≡ plus (address os bases (definition os main_name)) (pos 0)
+main_sum os bases n h = by_case (definition os main_name) refl h
+  where
+    by_case : (x : Option Entry) → definition os main_name ≡ x → option_map numbers_of x ≡ Some n
+        → wrap 64 (number_address os bases n) ≡ plus (address os bases x) (pos 0)
+    by_case None is g = absurd (none-some n g)
+    by_case (Some e) is g =
+        let same : number_address os bases n ≡ entry_address os bases e =
+        ap (number_address os bases) (sym (same_Some (numbers_of e) n g)) ∙ listed_address os bases e (definition_listed os main_name e is) in
+        ap (wrap 64) same ∙ omega arith
+
+pub no_main_sum : (os : List Object) (bases : Bases) → option_map numbers_of (definition os main_name) ≡ None
+    → 0 ≡ plus (address os bases (definition os main_name)) (pos 0)
+no_main_sum os bases h = by_case (definition os main_name) h
+  where
+    by_case : (x : Option Entry) → option_map numbers_of x ≡ None → 0 ≡ plus (address os bases x) (pos 0)
+    by_case None g = refl
+    by_case (Some e) g = absurd (none-some (numbers_of e) (sym g))
