@@ -31,7 +31,8 @@ rodata_lengths : (objects : List Object) → map length (map (λ o. o.rodata) ob
 rodata_lengths [] = refl
 rodata_lengths (o ∷ os) = ap (λ (l : List ℕ). length o.rodata ∷ l) (rodata_lengths os)
 
-pub rodata_laid : (objects : List Object) (bytes : List ℕ) → bytes ≡ put_all (rodata_pieces objects) [] → IsLaidOut (rodata_pieces objects) (rodata_size objects) bytes
+pub rodata_laid : (objects : List Object) (bytes : List ℕ) → bytes ≡ put_all (rodata_pieces objects) []
+    → IsLaidOut (rodata_pieces objects) (rodata_size objects) bytes
 rodata_laid objects bytes is =
     let cs : List (List ℕ) = map (λ o. o.rodata) objects in
     subst (IsLaidOut (rodata_pieces objects) (rodata_size objects)) (sym is)
@@ -40,7 +41,8 @@ rodata_laid objects bytes is =
 
 -- ---- the code
 
-word_lengths : (objects : List Object) (bases : Bases) (k : ℕ) (os : List Object) → map length (each_from k (object_words objects bases) os) ≡ word_counts os
+word_lengths : (objects : List Object) (bases : Bases) (k : ℕ) (os : List Object)
+    → map length (each_from k (object_words objects bases) os) ≡ word_counts os
 word_lengths objects bases k [] = refl
 word_lengths objects bases k (o ∷ os) =
     let word = λ (i word : ℕ). word_with objects bases k o (find (λ r. r.offset == 4 * i) o.text_relocs) word in

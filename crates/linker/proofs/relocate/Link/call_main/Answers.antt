@@ -19,6 +19,7 @@ returns c =
     ∙ ap (λ (n : List ℕ). get_by (λ k. bytes_eq n k.now) c.args.self.now.names) (sym c.as_slice.ensures) ∙ sym c.get.ensures.value in
     let sum : c.match-get.sum ≡ plus (address os bases (definition os main_name)) (pos 0) = elim c.match-get.branch [
       | in-None w ↦ w.sum-is ∙ no_main_sum os bases (found ∙ ap option_copied w.in-None.is)
-      | in-Some w ↦ w.sum-is ∙ w.symbol_address-sum.ensures ∙ main_sum os bases w.in-Some.numbers.now (found ∙ ap option_copied w.in-Some.is)
+      | in-Some w ↦ w.sum-is ∙ w.symbol_address-sum.ensures
+          ∙ main_sum os bases w.in-Some.numbers.now (found ∙ ap option_copied w.in-Some.is)
     ] in
     c.relocated.ensures ∙ ap (λ (s : ℕ). with_distance s bases.code 0x94000000) sum

@@ -20,7 +20,8 @@ loop-object-init c =
     let cs : List (List ℕ) = each_from 0 (object_words os bases) os in
     let items : c.push-2.new.self.items ≡ call_main os bases ∷ end_run ∷ [] =
     c.in_ok-push-2.ensures.items
-    ∙ ap (λ (l : List ℕ). l ++ end_run ∷ []) (c.in_ok-push.ensures.items ∙ (λ i. c.new-out.ensures.items i ++ c.call_main.ensures i ∷ [])) in
+    ∙ ap (λ (l : List ℕ). l ++ end_run ∷ []) (c.in_ok-push.ensures.items
+    ∙ (λ i. c.new-out.ensures.items i ++ c.call_main.ensures i ∷ [])) in
     ap (λ (l : List ℕ). put_all (laid 4 (length l) cs) l) items
 
 -- what an index past the end reads as
@@ -52,4 +53,5 @@ loop-object-preserved c =
     let words = c.as_slice-slice.ensures.value ∙ c.in_ok-words.ensures.words o there in
     let new = c.in_ok-put_words.ensures.put ∙ (λ j. put (piece (place j) (words j)) old) in
     ap (λ (l : List ℕ). put_all (laid 4 (length l) rest) l) new ∙ sym (laid_more 4 (object_words os bases i o) rest old round_up_4)
-    ∙ sym (ap (λ (l : List Object). put_all (laid 4 (length old) (each_from i (object_words os bases) l)) old) left) ∙ c.loop-object.invariant
+    ∙ sym (ap (λ (l : List Object). put_all (laid 4 (length old) (each_from i (object_words os bases) l)) old) left)
+    ∙ c.loop-object.invariant
