@@ -41,7 +41,8 @@ stmt_step (Stmt-F.While e s) = word key.While ∷ punct mark.LeftParen ∷ lexem
 stmt_step (Stmt-F.DoWhile s e) =
     word key.Do ∷ s ++ (word key.While ∷ punct mark.LeftParen ∷ lexemes_of e ++ punct mark.RightParen ∷ punct mark.Semicolon ∷ [])
 stmt_step (Stmt-F.For ds e c d s) =
-    word key.For ∷ punct mark.LeftParen ∷ first_of_for ds e ++ (maybe_of c ++ (punct mark.Semicolon ∷ maybe_of d ++ punct mark.RightParen ∷ s))
+    word key.For ∷ punct mark.LeftParen ∷ first_of_for ds e ++ (maybe_of c ++
+    (punct mark.Semicolon ∷ maybe_of d ++ punct mark.RightParen ∷ s))
 stmt_step (Stmt-F.Return e span) = word key.Return ∷ maybe_of e ++ punct mark.Semicolon ∷ []
 stmt_step (Stmt-F.Break span) = word key.Break ∷ punct mark.Semicolon ∷ []
 stmt_step (Stmt-F.Continue span) = word key.Continue ∷ punct mark.Semicolon ∷ []

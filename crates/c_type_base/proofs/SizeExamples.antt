@@ -2,7 +2,8 @@
 use Rattle.std.proofs.Common.{◌≡◌, refl, List, [], ◌∷◌, true, false}
 use Rattle.std.specs.Prelude.{codes}
 use Rattle.c_ast.specs.declared.int_type.IntType.TheVariants as int
-use Rattle.c_type_base.specs.Laws.SizeLaws.{size-int, size-pointer, size-array, size-struct, align-int, align-pointer, align-array, align-struct, complete-void, complete-pointer, complete-array, complete-struct}
+use Rattle.c_type_base.specs.Laws.SizeLaws.{size-int, size-pointer, size-array, size-struct, align-int, align-pointer, align-array}
+use Rattle.c_type_base.specs.Laws.SizeLaws.{align-struct, complete-void, complete-pointer, complete-array, complete-struct}
 use Rattle.c_type_base.specs.declared.ty.Ty.TheVariants as ty
 use Rattle.c_type_base.specs.declared.typed.StructInfo.{StructInfo}
 use Rattle.c_type_base.specs.Sizes.{size, align, is_complete}

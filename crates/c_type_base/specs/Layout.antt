@@ -1,6 +1,7 @@
 -- How the members of a struct stand in it (ISO C11 6.7.2.1 paragraphs 14 to 17; the procedure call standard for AArch64, "aggregates"):
 -- each at the next multiple of its alignment, in order, and the whole rounded up to the greatest alignment.
-use Rattle.std.specs.Prelude.{◌≡◌, ℕ, zero, suc, ◌+◌, ◌-◌, ◌*◌, ◌/◌, max, List, [], ◌∷◌, length, map, slice_get, slice_index, Option, Some, None}
+use Rattle.std.specs.Prelude.{◌≡◌, ℕ, zero, suc, ◌+◌, ◌-◌, ◌*◌, ◌/◌, max, List, [], ◌∷◌, length, map, slice_get, slice_index, Option}
+use Rattle.std.specs.Prelude.{Some, None}
 use Rattle.c_type_base.specs.declared.ty.Ty.{Ty}
 use Rattle.c_type_base.specs.declared.ty.Ty.TheOpen.{Ty-F}
 use Rattle.c_type_base.specs.declared.ty.Ty.TheFolds.{fold-Ty}

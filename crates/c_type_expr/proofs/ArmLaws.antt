@@ -1,5 +1,6 @@
 -- A walk that passes the parts of a construct and then does what follows them passes the construct: one law a construct.
-use Rattle.std.proofs.Common.{◌≡◌, refl, sym, ◌∙◌, ap, subst, ℕ, ◌+◌, ◌<◌, ◌≤◌, List, [], ◌∷◌, ◌++◌, map, take, get_or, length, Option, Some, None}
+use Rattle.std.proofs.Common.{◌≡◌, refl, sym, ◌∙◌, ap, subst, ℕ, ◌+◌, ◌<◌, ◌≤◌, List, [], ◌∷◌, ◌++◌, map, take, get_or, length, Option}
+use Rattle.std.proofs.Common.{Some, None}
 use Rattle.std.proofs.lemmas.List.{take_all}
 use Rattle.std.proofs.lemmas.Result.{IfOk-weaker}
 use Rattle.std.specs.Prelude.{IfOk, Result}
@@ -31,12 +32,16 @@ use Rattle.c_type_expr.specs.Parts.{binary_values, cond_values, call_by, not_cal
 use Rattle.c_type_expr.specs.Said.{whole, pointer_to, array_of, struct_tag, judged_length, length_known, constant_known, text, variable}
 use Rattle.c_type_expr.specs.Sorted.{with_known}
 use Rattle.c_type_expr.specs.Postfix.{member_row, argument, function_in, meaning_by}
-use Rattle.c_type_expr.specs.Expressions.{expression, written, judged_value, in_parentheses, unary_row, assign_row, cast_row, sizeof_row, sizeof_type, index_of, arrow_of, step_row}
-use Rattle.c_type_expr.specs.Laws.SaidLaws.{said-span, said-constant, said-text, said-variable, written-void, written-int, written-struct, written-pointer, written-array, written-open}
+use Rattle.c_type_expr.specs.Expressions.{expression, written, judged_value, in_parentheses, unary_row, assign_row, cast_row, sizeof_row}
+use Rattle.c_type_expr.specs.Expressions.{sizeof_type, index_of, arrow_of, step_row}
+use Rattle.c_type_expr.specs.Laws.SaidLaws.{said-span, said-constant, said-text, said-variable, written-void, written-int, written-struct}
+use Rattle.c_type_expr.specs.Laws.SaidLaws.{written-pointer, written-array, written-open}
 use Rattle.c_type_expr.specs.Walked.{env_of, Walked, Followed, Met}
 use Rattle.c_type_expr.proofs.CallLaws.{argument_of, arguments_are, argument_walked, call_named, call_other}
 use Rattle.c_type_expr.specs.Laws.EachLaws.{as_known, walked_next}
-use Rattle.c_type_expr.specs.Laws.NodeLaws.{walked_as, judged-paren, judged-unary, judged-binary, judged-assign, judged-cond, judged-cast, judged-sizeof, judged-sizeof_name, judged-call, judged-index, judged-member, judged-arrow, judged-step}
+use Rattle.c_type_expr.specs.Laws.NodeLaws.{walked_as, judged-paren, judged-unary, judged-binary, judged-assign, judged-cond, judged-cast}
+use Rattle.c_type_expr.specs.Laws.NodeLaws.{judged-sizeof, judged-sizeof_name, judged-call, judged-index, judged-member, judged-arrow}
+use Rattle.c_type_expr.specs.Laws.NodeLaws.{judged-step}
 use Rattle.c_type_expr.specs.Laws.WalkedLaws.{walked_sure, walked_on, walked_on_none, walked_both, walked_followed, walked_met}
 
 -- ---- one part, and two
@@ -45,7 +50,8 @@ by_row : {A B : Type 0} (all : Judged B) (p : Judged A) (f : A → Judged B) (w 
     all ≡ on p f → Walked p w w1 a → Followed f a w1 w2 b → Walked all w w2 b
 by_row all p f w w1 w2 a b is first next = walked_as all (on p f) w w2 b is (walked_followed p f w w1 w2 a b first next)
 
-by_two : {A B C : Type 0} (all : Judged C) (p : Judged A) (q : Judged B) (f : A × B → Judged C) (w w1 w2 w3 : Walk) (a : Option A) (b : Option B)
+by_two : {A B C : Type 0} (all : Judged C) (p : Judged A) (q : Judged B) (f : A × B → Judged C) (w w1 w2 w3 : Walk) (a : Option A)
+    (b : Option B)
     (c : Option C) → all ≡ on (both p q) f → Walked p w w1 a → Walked q w1 w2 b → Followed f (pair a b) w2 w3 c → Walked all w w3 c
 by_two all p q f w w1 w2 w3 a b c is first second next =
     by_row all (both p q) f w w2 w3 (pair a b) c is (walked_both p q w w1 w2 a b first second) next
@@ -135,7 +141,8 @@ pub arm_binary : (span : Span) (o : BinaryOperator) (x y : Expr) (w w1 w2 w3 : W
     Walked (expression x).judged w w1 a → Walked (expression y).judged w1 w2 b → Followed (binary_values o span) (pair a b) w2 w3 k →
     Walked (expression (expr span (node.Binary o x y))).judged w w3 k
 arm_binary span o x y w w1 w2 w3 a b k first second next =
-    by_two _ (expression x).judged (expression y).judged (binary_values o span) w w1 w2 w3 a b k (judged-binary span o x y) first second next
+    by_two _ (expression x).judged (expression y).judged (binary_values o span) w w1 w2 w3 a b k (judged-binary span o x y) first second
+    next
 
 pub arm_assign : (span : Span) (o : Option AssignOperator) (x y : Expr) (w w1 w2 w3 : Walk) (a b k : Option Known) →
     Walked (expression x).judged w w1 a → Walked (expression y).judged w1 w2 b →
@@ -191,7 +198,8 @@ arm_not_called span f es fs w w1 w2 w3 a ks k c same is none first second next =
     let listed = subst (λ (xs : List Expr). Walked (each (map argument (map expression xs))) w1 w2 ks) same second in
     walked_as _ _ w w3 k (judged-call span f es)
     (call_other (expression f) (map expression es) span w w3 k (sym is ∙ none)
-    (by_two _ (expression f).judged (each (map argument (map expression es))) (not_called_by span) w w1 w2 w3 a ks k refl first listed next))
+    (by_two _ (expression f).judged (each (map argument (map expression es))) (not_called_by span) w w1 w2 w3 a ks k refl first listed
+    next))
 
 -- ---- values
 
@@ -260,7 +268,8 @@ pub arm_next_argument : (es : List Expr) (i : ℕ) (d : Expr) (w w1 w2 : Walk) (
     more ≡ with_known ks (option_map value k) → Walked (each (map argument_of (take (i + 1) es))) w w2 more
 arm_next_argument es i d w w1 w2 ks more k below first second is =
     as_known _ w w2 (with_known ks (option_map value k)) more (sym is)
-    (walked_next argument_of es i d w w1 w2 ks (option_map value k) below first (argument_walked (expression (get_or es i d)) w1 w2 k second))
+    (walked_next argument_of es i d w w1 w2 ks (option_map value k) below first
+    (argument_walked (expression (get_or es i d)) w1 w2 k second))
 
 pub arm_arguments : (es : List Expr) (n : ℕ) (w w' : Walk) (ks : Option (List Known)) → length es ≤ n →
     Walked (each (map argument_of (take n es))) w w' ks → Walked (each (map argument (map expression es))) w w' ks

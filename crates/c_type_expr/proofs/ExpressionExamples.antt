@@ -16,7 +16,8 @@ use Rattle.c_type_expr.specs.Environment.{Env, binds}
 use Rattle.c_type_base.specs.declared.known.Constancy.TheVariants.{Varies, Is}
 use Rattle.c_type_base.specs.Known.{texpr, plain, designates}
 use Rattle.c_type_expr.specs.Expressions.{expression}
-use Rattle.c_type_expr.specs.Laws.SaidLaws.{said-constant, said-variable, said-unary, said-binary, said-call, said-sizeof, said-index, said-member}
+use Rattle.c_type_expr.specs.Laws.SaidLaws.{said-constant, said-variable, said-unary, said-binary, said-call, said-sizeof, said-index}
+use Rattle.c_type_expr.specs.Laws.SaidLaws.{said-member}
 use Rattle.c_type_base.specs.Laws.SizeLaws.{size-int, complete-int}
 use Rattle.c_type_base.specs.Laws.TypeLaws.{same-int}
 use Rattle.c_type_base.specs.Laws.Opened.{given_types}

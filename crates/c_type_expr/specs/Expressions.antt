@@ -27,7 +27,8 @@ use Rattle.c_type_base.specs.declared.known.Known.{Known}
 use Rattle.c_type_base.specs.declared.known.Fixed.{Fixed}
 use Rattle.c_type_base.specs.declared.known.Constancy.TheVariants.{Varies, Is}
 use Rattle.c_type_base.specs.Known.{texpr, plain, designates, value, wrapped, converted, is_null, is_value, assignable, is_changeable}
-use Rattle.c_type_expr.specs.Operators.{misfit, converted_as, Sort, Integer, Points, Neither, sort_of, complete_target, binary_judged, signed_row, not_row, cond_judged}
+use Rattle.c_type_expr.specs.Operators.{misfit, converted_as, Sort, Integer, Points, Neither, sort_of, complete_target, binary_judged}
+use Rattle.c_type_expr.specs.Operators.{signed_row, not_row, cond_judged}
 use Rattle.c_type_base.specs.declared.known.Written.{Written}
 use Rattle.c_type_expr.specs.Said.{Said, NodeSaid, said, computing, type_step, whole, constant_known, variable, text}
 use Rattle.c_type_expr.specs.Postfix.{index_row, member_row, struct_pointed, arrow_row, call}

@@ -28,7 +28,11 @@ Judged A = Env → Outcome A
 -- behind what was said of something that stands before it
 abbrev pub behind : {A : Type 0} → Outcome A → Env → Env
 behind before env =
-    record env { scopes = with_innermost before.names env.scopes; texts = env.texts + length before.texts; locals = env.locals + length before.locals }
+    record env {
+      scopes = with_innermost before.names env.scopes;
+      texts = env.texts + length before.texts;
+      locals = env.locals + length before.locals;
+    }
 
 -- what the one adds, and then the other, which is known so far
 abbrev pub joined : {A B C : Type 0} → Outcome A → Outcome B → Option C → Outcome C

@@ -1,5 +1,6 @@
 -- Postfix operators and calls (ISO C11 6.5.2): one row for the types of the operands.
-use Rattle.std.specs.Prelude.{ℕ, ◌+◌, ◌%◌, ◌^◌, Bool, true, false, ◌&&◌, nat_eq, List, [], ◌∷◌, length, map, slice_get, Option, Some, None, if◌then◌else◌}
+use Rattle.std.specs.Prelude.{ℕ, ◌+◌, ◌%◌, ◌^◌, Bool, true, false, ◌&&◌, nat_eq, List, [], ◌∷◌, length, map, slice_get, Option, Some}
+use Rattle.std.specs.Prelude.{None, if◌then◌else◌}
 use Rattle.std.specs.List.{position_from}
 use Rattle.std.specs.Str.{bytes_eq}
 use Rattle.c_ast.specs.declared.token.Span.{Span}
@@ -153,4 +154,5 @@ abbrev pub argument : Said → Judged Known
 argument e = on e.judged (λ k. sure (value k))
 
 abbrev pub call : Said → List Said → Span → Judged Known
-call function arguments span env = call_by span (function_in (meaning_by function.name env)) function.judged (each (map argument arguments)) env
+call function arguments span env = call_by span (function_in (meaning_by function.name env)) function.judged
+    (each (map argument arguments)) env

@@ -49,7 +49,8 @@ impl Walk {
         self.ask(span, other, other_kept);
     }
 
-    /// Asks whether the left side of an assignment may change, whether a pointer may be moved so, and whether what it points to is complete.
+    /// Asks whether the left side of an assignment may change, whether a pointer may be moved so, and whether what it points to is
+    /// complete.
     #[tactic(auto, using(crate::specs::Laws::WalkedLaws::blamed_twice))]
     pub fn ask_moved(&mut self, span: Span, changeable: bool, moves: bool, target: &Ty)
         ensures { self.new ≡ blamed self.old (broken span (rule 11 changeable ∷ rule 12 moves ∷ complete_target self.old.structs target.now ∷ [])) }

@@ -1,7 +1,11 @@
--- Laws of the records and of files that are laid out in pieces, for later proofs.
+-- Laws of the records, of files that are laid out in pieces, and of conditions, for later proofs.
+pub mod Tests
 pub mod Lengths
 pub mod LaidOut
 pub mod OneLayout
 pub mod Reads
 pub mod Standing
+pub mod Same
 pub mod RecordsStand
+pub mod Zeros
+pub mod Conditions

@@ -1,5 +1,5 @@
 -- The fields of each record, with their widths and in their order in the file (ELF64).
-use Rattle.std.specs.Prelude.{List, [], ◌∷◌}
+use Rattle.std.specs.Prelude.{ℕ, List, [], ◌∷◌}
 use Rattle.elf_base.specs.declared.header.Ehdr.{Ehdr}
 use Rattle.elf_base.specs.declared.segment.Phdr.{Phdr}
 use Rattle.elf_base.specs.declared.dynamic.Dyn.{Dyn}
@@ -7,6 +7,10 @@ use Rattle.elf_base.specs.declared.section.Shdr.{Shdr}
 use Rattle.elf_base.specs.declared.symbol.Sym.{Sym}
 use Rattle.elf_base.specs.declared.relocation.Rela.{Rela}
 use Rattle.elf_base.specs.Field.{Field, number, signed, raw}
+
+-- the identification that begins a file: its name, 64 bits, little-endian, version 1
+abbrev pub identification : List ℕ
+identification = 0x7f ∷ 0x45 ∷ 0x4c ∷ 0x46 ∷ 2 ∷ 1 ∷ 1 ∷ 0 ∷ 0 ∷ 0 ∷ 0 ∷ 0 ∷ 0 ∷ 0 ∷ 0 ∷ 0 ∷ []
 
 -- the header of a file, `Elf64_Ehdr`
 abbrev pub ehdr_fields : Ehdr → List Field

@@ -8,6 +8,9 @@ use crate::place::{Short, put_u16, put_u32, put_u64, record_at, u16_at, u32_at, 
 /// The length of the file's header in bytes (ELF64, `Elf64_Ehdr`).
 pub const EHDR_BYTES: u64 = 64;
 
+/// The identification that begins a file: its name, 64 bits, little-endian, version 1 (ELF64, `e_ident`).
+pub const IDENTIFICATION: [u8; 16] = [0x7f, b'E', b'L', b'F', 2, 1, 1, 0, 0, 0, 0, 0, 0, 0, 0, 0];
+
 /// The header of an ELF64 file (`Elf64_Ehdr`).
 #[derive(Clone, Copy)]
 pub struct Ehdr {

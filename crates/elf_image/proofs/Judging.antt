@@ -1,30 +1,32 @@
 -- The first fault behind the headers, by the group of conditions in which it is.
-use Rattle.std.proofs.Common.{◌≡◌, ◌⊎◌, ◌↔◌, ℕ, ◌+◌, ◌≤◌, ◌<◌, List, ◌++◌, ◌∙◌, Result, Ok, Err, length, ap, sym, inl, inr, arith}
+use Rattle.std.proofs.Common.{◌≡◌, ◌⊎◌, ◌↔◌, ℕ, ◌+◌, ◌≤◌, ◌<◌, List, ◌++◌, ◌∙◌, Result, Ok, Err, length, ap, sym, inl, inr, arith, Option}
 use Rattle.std.specs.Prelude.{Bool, true, false, ◌&&◌, ◌==◌, nat_le, IsErr}
 use Rattle.std.proofs.lemmas.Bool.{and_from, and_left, and_right, cases_lt, eq-eqb, ne_eqb, le-leb, false≢true}
 use Rattle.elf_base.specs.declared.header.Ehdr.{Ehdr}
 use Rattle.elf_base.specs.declared.place.Short.{Short}
 use Rattle.elf_base.specs.Standing.{ehdr_at}
+use Rattle.elf_base.specs.Conditions.{Condition, first_fault}
+use Rattle.elf_base.specs.Records.{identification}
+use Rattle.elf_base.specs.Laws.Conditions.{none_fails, first_passes, first_stops}
 use Rattle.elf_image.specs.declared.heads.Heads.{Heads}
 use Rattle.elf_image.specs.declared.refusal.ImageRefusal.{ImageRefusal}
 use Rattle.elf_image.specs.declared.refusal.ImageRefusal.TheVariants.{NotThisMachine, Truncated}
-use Rattle.elf_image.specs.Pieces.{identification}
 use Rattle.elf_image.specs.Heads.{heads_at}
-use Rattle.elf_image.specs.Faults.{agrees, Condition, first_fault, opening, after_opening, contents, segments, table_asks, mode_asks, last_asks, gap_asks, conditions, fault_of}
-use Rattle.elf_image.specs.Laws.Holding.{no_fault, all_hold}
-use Rattle.elf_image.specs.Laws.Within.{fault_is, fails_at, first_passes, first_stops}
+use Rattle.elf_image.specs.Faults.{agrees, opening, after_opening, contents, segments, table_asks, mode_asks, last_asks, gap_asks}
+use Rattle.elf_image.specs.Faults.{conditions, fault_of, no_fault, fault_is}
+use Rattle.elf_image.specs.Laws.Within.{fails_at}
 
 -- what stands behind each group
-abbrev behind_mode : List ℕ → Heads → List Condition
+abbrev behind_mode : List ℕ → Heads → List (Condition ImageRefusal)
 behind_mode file h = last_asks file h ++ gap_asks file h
 
-abbrev behind_tables : List ℕ → Heads → List Condition
+abbrev behind_tables : List ℕ → Heads → List (Condition ImageRefusal)
 behind_tables file h = mode_asks file h ++ behind_mode file h
 
-abbrev behind_segments : List ℕ → Heads → List Condition
+abbrev behind_segments : List ℕ → Heads → List (Condition ImageRefusal)
 behind_segments file h = table_asks file h ++ behind_tables file h
 
-abbrev behind_contents : List ℕ → Heads → List Condition
+abbrev behind_contents : List ℕ → Heads → List (Condition ImageRefusal)
 behind_contents file h = segments file h ++ behind_segments file h
 
 -- the groups hold up to the segments, up to the tables, and so on
@@ -46,6 +48,29 @@ pub record Modes (file : List ℕ) (h : Heads) : Type 0 where
 pub record Lasts (file : List ℕ) (h : Heads) : Type 0 where
   pub before : Modes file h
   pub lasts : first_fault (last_asks file h) ≡ no_fault
+
+-- the groups that the answers of their judges say to hold
+pub contents_hold : {file : List ℕ} {h : Heads} {o : Option ImageRefusal} → o ≡ first_fault (contents file h) → o ≡ no_fault
+    → Contents file h
+contents_hold judged none = record { contents = sym judged ∙ none }
+
+pub segments_hold : {file : List ℕ} {h : Heads} {o : Option ImageRefusal} → Contents file h → o ≡ first_fault (segments file h)
+    → o ≡ no_fault
+    → Segments file h
+segments_hold before judged none = record { before = before; segments = sym judged ∙ none }
+
+pub tables_hold : {file : List ℕ} {h : Heads} {o : Option ImageRefusal} → Segments file h → o ≡ first_fault (table_asks file h)
+    → o ≡ no_fault
+    → Tables file h
+tables_hold before judged none = record { before = before; tables = sym judged ∙ none }
+
+pub modes_hold : {file : List ℕ} {h : Heads} {o : Option ImageRefusal} → Tables file h → o ≡ first_fault (mode_asks file h) → o ≡ no_fault
+    → Modes file h
+modes_hold before judged none = record { before = before; modes = sym judged ∙ none }
+
+pub lasts_hold : {file : List ℕ} {h : Heads} {o : Option ImageRefusal} → Modes file h → o ≡ first_fault (last_asks file h) → o ≡ no_fault
+    → Lasts file h
+lasts_hold before judged none = record { before = before; lasts = sym judged ∙ none }
 
 pub to_segments : (file : List ℕ) (h : Heads) → Contents file h → first_fault (after_opening file h) ≡ first_fault (behind_contents file h)
 to_segments file h c = first_passes (contents file h) (behind_contents file h) c.contents
@@ -122,7 +147,7 @@ headers_cut file h headed kind machine cut =
 pub headers_there : (file : List ℕ) (h : Ehdr) → Headed file h → h.kind ≡ 3 → h.machine ≡ 183 → nat_le (h.phoff + 224) (length file) ≡ true
     → first_fault (opening file (heads_at file)) ≡ no_fault
 headers_there file h headed kind machine there =
-    all_hold (opening file (heads_at file)) (
+    none_fails (opening file (heads_at file)) (
       headed.agrees,
       (
         le-leb 64 (length file) headed.long,
@@ -135,7 +160,8 @@ headers_there file h headed kind machine there =
 
 -- ---- the whole file
 
-pub fault_opening : (file : List ℕ) (e : ImageRefusal) → first_fault (opening file (heads_at file)) ≡ fault_is e → fault_of file ≡ fault_is e
+pub fault_opening : (file : List ℕ) (e : ImageRefusal) → first_fault (opening file (heads_at file)) ≡ fault_is e
+    → fault_of file ≡ fault_is e
 unfolding fault_of
 fault_opening file e is = first_stops (opening file (heads_at file)) (after_opening file (heads_at file)) e is
 

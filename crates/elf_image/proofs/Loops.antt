@@ -1,5 +1,6 @@
 -- Steps of the loops over bytes and records.
-use Rattle.std.proofs.Common.{◌≡◌, ◌≢◌, ℕ, zero, suc, ◌+◌, ◌-◌, ◌*◌, ◌≤◌, ◌<◌, List, [], ◌∷◌, ◌++◌, length, drop, get_or, refl, sym, ap, ◌∙◌, arith, drop-cons}
+use Rattle.std.proofs.Common.{◌≡◌, ◌≢◌, ℕ, zero, suc, ◌+◌, ◌-◌, ◌*◌, ◌≤◌, ◌<◌, List, [], ◌∷◌, ◌++◌, length, drop, get_or, refl, sym, ap}
+use Rattle.std.proofs.Common.{◌∙◌, arith, drop-cons}
 use Rattle.std.specs.Prelude.{Bool, true, false, ◌&&◌, ◌==◌}
 use Rattle.std.proofs.lemmas.Bool.{eq-eqb, cases_Bool, eqb-true}
 use Rattle.std.proofs.lemmas.List.{drop_all}
@@ -45,7 +46,8 @@ agrees_end xs ys i (inr le) = agrees_nothing (drop i xs) (drop i ys) (inr (drop_
 
 -- ---- relocations that are relative
 
-relative_next : (n m at : ℕ) (file : List ℕ) → n ≡ suc m → are_relative n at file ≡ (number_at 8 (at + 8) file == 1027 && are_relative m (at + 24) file)
+relative_next : (n m at : ℕ) (file : List ℕ) → n ≡ suc m
+    → are_relative n at file ≡ (number_at 8 (at + 8) file == 1027 && are_relative m (at + 24) file)
 unfolding are_relative
 relative_next n m at file is = ap (λ (k : ℕ). are_relative k at file) is
 

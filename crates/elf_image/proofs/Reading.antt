@@ -1,5 +1,6 @@
 -- Steps of the reading of what a file says of memory tagging, from what the code knows at each.
-use Rattle.std.proofs.Common.{◌≡◌, ◌≢◌, ℕ, ℤ, ◌+◌, ◌-◌, ◌<◌, ◌≤◌, ◌⊎◌, List, length, Result, Ok, Err, Option, Some, None, refl, sym, ap, ◌∙◌, subst, inl, inr, arith}
+use Rattle.std.proofs.Common.{◌≡◌, ◌≢◌, ℕ, ℤ, ◌+◌, ◌-◌, ◌<◌, ◌≤◌, ◌⊎◌, List, length, Result, Ok, Err, Option, Some, None, refl, sym, ap}
+use Rattle.std.proofs.Common.{◌∙◌, subst, inl, inr, arith}
 use mir.Val.{of_z, to_z}
 use mir.Syntax.{w64}
 use Rattle.std.specs.Prelude.{pos, IfOk, IfErr, MatchResult, IsTrue, Bool, true, false, FitsSigned}

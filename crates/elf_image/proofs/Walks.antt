@@ -143,7 +143,8 @@ entry_found tag file segment k e h lt same some is =
     let found : Found = record { index = k; value = (dyn_at (segment.offset + 16 * k) file).value } in
     let like : e.value ≡ (dyn_at (segment.offset + 16 * k) file).value = ap (λ (d : Dyn). d.value) same in
     let as_read : Some (record { index = k; value = e.value }) ≡ Some found = ap (λ (v : ℕ). Some (record { index = k; value = v })) like in
-    as_read ∙ sym (h.is ∙ met k tag (dyn_at (segment.offset + 16 * k) file) _ _ (entries_more segment.offset (segment.filesz / 16) k file lt)
+    as_read ∙ sym (h.is ∙ met k tag (dyn_at (segment.offset + 16 * k) file) _ _
+    (entries_more segment.offset (segment.filesz / 16) k file lt)
     (ap (has_tag 0) (sym same) ∙ tag_is_not 0 e some) (ap (has_tag tag) (sym same) ∙ tag_is tag e is))
 
 pub no_entry : (tag : ℕ) (file : List ℕ) (segment : Phdr) (k : ℕ) → IsLater tag file segment k → segment.filesz / 16 ≤ k

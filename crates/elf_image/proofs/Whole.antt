@@ -5,8 +5,7 @@ use Rattle.elf_image.specs.declared.heads.Heads.{Heads}
 use Rattle.elf_image.specs.Image.{Image}
 use Rattle.elf_image.specs.Ranges.{IsFileOf}
 use Rattle.elf_image.specs.Heads.{heads_at}
-use Rattle.elf_image.specs.Faults.{fault_of}
-use Rattle.elf_image.specs.Laws.Holding.{no_fault}
+use Rattle.elf_image.specs.Faults.{fault_of, no_fault}
 use Rattle.elf_image.specs.Laws.ReadBack.{image_at, read_back}
 use Rattle.elf_image.specs.Laws.Within.{Room, room}
 

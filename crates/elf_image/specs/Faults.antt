@@ -1,19 +1,21 @@
 -- What is wrong with bytes that are the file of no image: the first of these conditions that fails, and its place (this project's own).
-use Rattle.std.specs.Prelude.{◌≡◌, ℕ, zero, suc, pos, ◌+◌, ◌-◌, ◌*◌, ◌/◌, ◌%◌, Bool, true, false, ◌&&◌, ◌||◌, ◌==◌, nat_le, if◌then◌else◌}
-use Rattle.std.specs.Prelude.{Option, Some, None, List, [], ◌∷◌, ◌++◌, length, take, drop}
-use Rattle.std.specs.List.{list_all}
+use Rattle.std.specs.Prelude.{◌≡◌, ℕ, zero, suc, ◌+◌, ◌/◌, ◌%◌, Bool, true, ◌&&◌, ◌||◌, ◌==◌, nat_le, if◌then◌else◌}
+use Rattle.std.specs.Prelude.{Option, Some, None, List, [], ◌∷◌, ◌++◌, length}
 use Rattle.std.specs.Ordering.{int_eq}
 use Rattle.elf_base.specs.declared.header.Ehdr.{Ehdr}
 use Rattle.elf_base.specs.declared.segment.Phdr.{Phdr}
 use Rattle.elf_base.specs.declared.dynamic.Dyn.{Dyn}
 use Rattle.elf_base.specs.Place.{number_at}
 use Rattle.mt_base.specs.Granules.{round16}
+use Rattle.elf_base.specs.Conditions.{Condition, condition, first_fault}
+use Rattle.elf_base.specs.Zeros.{is_zero_between}
+use Rattle.elf_base.specs.Records.{identification}
 use Rattle.elf_image.specs.declared.heads.Heads.{Heads}
 use Rattle.elf_image.specs.declared.refusal.ImageRefusal.{ImageRefusal}
 use Rattle.elf_image.specs.declared.refusal.ImageRefusal.TheVariants.{NotElf, NotThisMachine, Truncated, BadSegment, BadDynamic}
 use Rattle.elf_image.specs.Heads.{heads_at, entry_at, reloc_bytes_at, descriptor_bytes_at}
 use Rattle.elf_image.specs.Places.{round_page}
-use Rattle.elf_image.specs.Pieces.{identification, header_with, load, dynamic_at, entry}
+use Rattle.elf_image.specs.Pieces.{header_with, load, dynamic_at, entry}
 
 -- ---- tests
 
@@ -38,13 +40,6 @@ same_segment p q =
 unfoldable pub same_entry : Dyn → Dyn → Bool
 same_entry d e = int_eq d.tag e.tag && d.value == e.value
 
--- the bytes from one place to another are zero
-abbrev pub is_zero : ℕ → Bool
-is_zero b = b == 0
-
-unfoldable pub zeros_between : ℕ → ℕ → List ℕ → Bool
-zeros_between start end file = list_all is_zero (take (end - start) (drop start file))
-
 -- so many Rela records from a place on have symbol 0 and the type R_AARCH64_RELATIVE
 unfoldable pub are_relative : ℕ → ℕ → List ℕ → Bool
 are_relative zero at file = true
@@ -60,13 +55,13 @@ reaches file p = nat_le (p.offset + p.filesz) (length file)
 abbrev pub is_read_only : List ℕ → Heads → Bool
 is_read_only file h =
     same_segment h.read_only (load 4 0 h.read_only.filesz h.read_only.filesz) && nat_le 0x140 h.read_only.filesz
-    && zeros_between 0x120 0x140 file
+    && is_zero_between file 0x120 0x140
 
 -- the code has whole words and begins the next page; the gap before it is zero
 abbrev pub is_code : List ℕ → Heads → Bool
 is_code file h =
     same_segment h.code (load 5 h.code.offset h.code.filesz h.code.filesz) && round_page h.read_only.filesz == h.code.offset
-    && h.code.filesz % 4 == 0 && zeros_between h.read_only.filesz h.code.offset file
+    && h.code.filesz % 4 == 0 && is_zero_between file h.read_only.filesz h.code.offset
 
 -- The writable part begins the next page, and the gap before it is zero. It has room for the 11 dynamic entries, its bytes in
 -- the file and the zero bytes are whole granules, and the image's memory, which it ends, is within 256 MiB.
@@ -76,7 +71,7 @@ is_writable file h =
     && round_page (h.code.offset + h.code.filesz) == h.writable.offset
     && nat_le 176 h.writable.filesz && h.writable.filesz % 16 == 0 && nat_le h.writable.filesz h.writable.memsz
     && h.writable.memsz % 16 == 0 && nat_le (h.writable.offset + h.writable.memsz) 268435456
-    && zeros_between (h.code.offset + h.code.filesz) h.writable.offset file
+    && is_zero_between file (h.code.offset + h.code.filesz) h.writable.offset
 
 -- the dynamic entries, of which there are 11 or 13, begin the writable part
 abbrev pub is_dynamic : Heads → Bool
@@ -90,7 +85,8 @@ is_dynamic h =
 abbrev pub is_reloc_size : Heads → ℕ → Bool
 is_reloc_size h relocs =
     relocs % 24 == 0
-    && (if h.dynamic.filesz == 208 then nat_le (0x140 + relocs) h.read_only.filesz else nat_le (round16 (0x140 + relocs)) h.read_only.filesz)
+    && (if h.dynamic.filesz == 208 then nat_le (0x140 + relocs) h.read_only.filesz else nat_le
+    (round16 (0x140 + relocs)) h.read_only.filesz)
 
 -- some descriptors, behind which the read-only data begins within the first part
 abbrev pub is_descriptor_size : Heads → ℕ → ℕ → Bool
@@ -98,21 +94,15 @@ is_descriptor_size h relocs descriptors = nat_le 1 descriptors && nat_le (round1
 
 -- ---- the conditions in order
 
--- a condition, and the refusal where it fails
-pub record Condition : Type 0 where
-  pub holds : Bool
-  pub refusal : ImageRefusal
+-- there is no fault, and this is the fault
+abbrev pub no_fault : Option ImageRefusal
+no_fault = None
 
-abbrev pub condition : Bool → ImageRefusal → Condition
-condition holds refusal = record { holds = holds; refusal = refusal }
-
--- the refusal of the first condition that fails
-abbrev pub first_fault : List Condition → Option ImageRefusal
-first_fault [] = None
-first_fault (c ∷ cs) = if c.holds then first_fault cs else Some c.refusal
+abbrev pub fault_is : ImageRefusal → Option ImageRefusal
+fault_is e = Some e
 
 -- it is an ELF file of 64 bits for this machine, with a header and four program headers
-abbrev pub opening : List ℕ → Heads → List Condition
+abbrev pub opening : List ℕ → Heads → List (Condition ImageRefusal)
 opening file h =
     condition (agrees file identification) NotElf
     ∷ condition (nat_le 64 (length file)) (Truncated (length file))
@@ -121,7 +111,7 @@ opening file h =
     ∷ []
 
 -- the bytes that each program header names are there
-abbrev pub contents : List ℕ → Heads → List Condition
+abbrev pub contents : List ℕ → Heads → List (Condition ImageRefusal)
 contents file h =
     condition (reaches file h.read_only) (Truncated (length file))
     ∷ condition (reaches file h.code) (Truncated (length file))
@@ -130,7 +120,7 @@ contents file h =
     ∷ []
 
 -- the rest of the header, the program headers with what is fixed in their segments, and the end of the file
-abbrev pub segments : List ℕ → Heads → List Condition
+abbrev pub segments : List ℕ → Heads → List (Condition ImageRefusal)
 segments file h =
     condition (same_header h.header (header_with h.header.entry)) (BadSegment 0)
     ∷ condition (is_read_only file h) (BadSegment 0)
@@ -141,28 +131,28 @@ segments file h =
     ∷ []
 
 -- the dynamic entry of a number has this tag and this value
-abbrev pub asks : List ℕ → Heads → ℕ → ℕ → ℕ → Condition
+abbrev pub asks : List ℕ → Heads → ℕ → ℕ → ℕ → Condition ImageRefusal
 asks file h i tag value = condition (same_entry (entry_at file h i) (entry tag value)) (BadDynamic i)
 
 -- RELASZ, and then the relocations, of which one that is not RELATIVE counts to RELA
-abbrev pub reloc_asks : List ℕ → Heads → List Condition
+abbrev pub reloc_asks : List ℕ → Heads → List (Condition ImageRefusal)
 reloc_asks file h =
     condition (same_entry (entry_at file h 5) (entry 8 (reloc_bytes_at file h)) && is_reloc_size h (reloc_bytes_at file h)) (BadDynamic 5)
     ∷ condition (are_relative (reloc_bytes_at file h / 24) 0x140 file) (BadDynamic 4)
     ∷ []
 
 -- STRTAB, SYMTAB, STRSZ, SYMENT, RELA and RELASZ
-abbrev pub table_asks : List ℕ → Heads → List Condition
+abbrev pub table_asks : List ℕ → Heads → List (Condition ImageRefusal)
 table_asks file h =
     asks file h 0 5 0x138 ∷ asks file h 1 6 0x120 ∷ asks file h 2 10 1 ∷ asks file h 3 11 24 ∷ asks file h 4 7 0x140 ∷ reloc_asks file h
 
 -- RELAENT, AARCH64_MEMTAG_MODE, MEMTAG_HEAP and MEMTAG_STACK
-abbrev pub mode_asks : List ℕ → Heads → List Condition
+abbrev pub mode_asks : List ℕ → Heads → List (Condition ImageRefusal)
 mode_asks file h =
     asks file h 6 9 24 ∷ asks file h 7 0x70000009 0 ∷ asks file h 8 0x7000000b 0 ∷ asks file h 9 0x7000000c 1 ∷ []
 
 -- AARCH64_MEMTAG_GLOBALS and GLOBALSSZ, where there are 13 entries, and NULL
-abbrev pub described_asks : List ℕ → Heads → List Condition
+abbrev pub described_asks : List ℕ → Heads → List (Condition ImageRefusal)
 described_asks file h =
     asks file h 10 0x7000000d (0x140 + reloc_bytes_at file h)
     ∷ condition (same_entry (entry_at file h 11) (entry 0x7000000f (descriptor_bytes_at file h))
@@ -170,21 +160,22 @@ described_asks file h =
     ∷ asks file h 12 0 0
     ∷ []
 
-abbrev pub last_asks : List ℕ → Heads → List Condition
+abbrev pub last_asks : List ℕ → Heads → List (Condition ImageRefusal)
 last_asks file h = if h.dynamic.filesz == 208 then described_asks file h else asks file h 10 0 0 ∷ []
 
 -- the gap between the descriptors and the read-only data, whose place the entries say
-abbrev pub gap_asks : List ℕ → Heads → List Condition
+abbrev pub gap_asks : List ℕ → Heads → List (Condition ImageRefusal)
 gap_asks file h =
-    condition (zeros_between (0x140 + reloc_bytes_at file h + descriptor_bytes_at file h)
-    (round16 (0x140 + reloc_bytes_at file h + descriptor_bytes_at file h)) file) (BadSegment 0)
+    condition (is_zero_between file (0x140 + reloc_bytes_at file h + descriptor_bytes_at file h)
+    (round16 (0x140 + reloc_bytes_at file h + descriptor_bytes_at file h))) (BadSegment 0)
     ∷ []
 
 -- all behind the headers
-abbrev pub after_opening : List ℕ → Heads → List Condition
-after_opening file h = contents file h ++ (segments file h ++ (table_asks file h ++ (mode_asks file h ++ (last_asks file h ++ gap_asks file h))))
+abbrev pub after_opening : List ℕ → Heads → List (Condition ImageRefusal)
+after_opening file h = contents file h ++ (segments file h ++
+    (table_asks file h ++ (mode_asks file h ++ (last_asks file h ++ gap_asks file h))))
 
-abbrev pub conditions : List ℕ → Heads → List Condition
+abbrev pub conditions : List ℕ → Heads → List (Condition ImageRefusal)
 conditions file h = opening file h ++ after_opening file h
 
 -- the fault of a file: the first condition that fails

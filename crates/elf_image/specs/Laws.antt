@@ -9,7 +9,6 @@ pub mod ConstantLaws
 pub mod CodeBytes
 pub mod Loading
 pub mod Tests
-pub mod Holding
 pub mod Items
 pub mod Right
 pub mod ReadBack

@@ -1,12 +1,14 @@
 -- What an ELF file of any producer says of memory tagging in its dynamic segment (Memtag ABI), and what is wrong with other files.
-use Rattle.std.specs.Prelude.{◌≡◌, ℕ, ◌+◌, ◌-◌, ◌*◌, ◌<◌, ◌≤◌, ◌==◌, nat_le, ◌&&◌, Bool, if◌then◌else◌, min, List, [], length, take, drop, Option, Some, None, option_map, find, IsSome}
+use Rattle.std.specs.Prelude.{◌≡◌, ℕ, ◌+◌, ◌-◌, ◌*◌, ◌<◌, ◌≤◌, ◌==◌, nat_le, ◌&&◌, Bool, if◌then◌else◌, min, List, [], length, take, drop}
+use Rattle.std.specs.Prelude.{Option, Some, None, option_map, find, IsSome}
 use Rattle.elf_base.specs.Index.{told_index}
 use Rattle.elf_base.specs.declared.segment.Phdr.{Phdr}
 use Rattle.elf_image.specs.declared.memtag.Found.{Found}
 use Rattle.elf_image.specs.declared.memtag.MemtagInfo.{MemtagInfo}
 use Rattle.elf_image.specs.declared.refusal.ImageRefusal.{ImageRefusal}
 use Rattle.elf_image.specs.declared.refusal.ImageRefusal.TheVariants.{NotElf, NotThisMachine, Truncated, BadSegment, BadDynamic}
-use Rattle.elf_image.specs.MemtagFile.{BeginsElf, header_of, HasHeader, HasSegments, segments_of, is_dynamic, HasDynamic, entries_of, first_of}
+use Rattle.elf_image.specs.MemtagFile.{BeginsElf, header_of, HasHeader, HasSegments, segments_of, is_dynamic, HasDynamic, entries_of}
+use Rattle.elf_image.specs.MemtagFile.{first_of}
 
 -- the tags AARCH64_MEMTAG_MODE, MEMTAG_HEAP, MEMTAG_STACK, MEMTAG_GLOBALS and MEMTAG_GLOBALSSZ
 abbrev pub mode_tag : ℕ
@@ -59,7 +61,8 @@ pub record Entries (file : List ℕ) (info : MemtagInfo) : Type 0 where
   pub mode : info.mode ≡ value_of (first_of mode_tag (entries_of file segment))
   pub heap : info.heap ≡ value_of (first_of heap_tag (entries_of file segment))
   pub stack : info.stack ≡ value_of (first_of stack_tag (entries_of file segment))
-  pub descriptors : AreDescriptors file (first_of globals_tag (entries_of file segment)) (first_of size_tag (entries_of file segment)) info.descriptors
+  pub descriptors : AreDescriptors file (first_of globals_tag (entries_of file segment))
+      (first_of size_tag (entries_of file segment)) info.descriptors
 
 -- ---- what is wrong with it
 

@@ -1,5 +1,7 @@
--- Which ELF files of any producer have a dynamic segment for AArch64, and which entries it has (ELF64; ELF for the Arm 64-bit architecture).
-use Rattle.std.specs.Prelude.{◌≡◌, ℕ, suc, pos, ◌+◌, ◌*◌, ◌/◌, ◌≤◌, ◌==◌, Bool, if◌then◌else◌, List, [], ◌∷◌, length, take, Option, Some, None, find}
+-- Which ELF files of any producer have a dynamic segment for AArch64, and which entries it has (ELF64; ELF for the Arm 64-bit
+-- architecture).
+use Rattle.std.specs.Prelude.{◌≡◌, ℕ, suc, pos, ◌+◌, ◌*◌, ◌/◌, ◌≤◌, ◌==◌, Bool, if◌then◌else◌, List, [], ◌∷◌, length, take, Option, Some}
+use Rattle.std.specs.Prelude.{None, find}
 use Rattle.std.specs.Ordering.{int_eq}
 use Rattle.elf_base.specs.declared.header.Ehdr.{Ehdr}
 use Rattle.elf_base.specs.declared.segment.Phdr.{Phdr}

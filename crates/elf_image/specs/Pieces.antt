@@ -6,14 +6,11 @@ use Rattle.elf_base.specs.declared.segment.Phdr.{Phdr}
 use Rattle.elf_base.specs.declared.dynamic.Dyn.{Dyn}
 use Rattle.elf_base.specs.Field.{number, signed, bytes_of}
 use Rattle.elf_base.specs.Layout.{Piece, piece, word_bytes}
-use Rattle.elf_base.specs.Records.{ehdr_fields, phdr_fields, dyn_fields}
+use Rattle.elf_base.specs.Records.{ehdr_fields, phdr_fields, dyn_fields, identification}
 use Rattle.elf_image.specs.declared.parts.RelativeReloc.{RelativeReloc}
 use Rattle.elf_image.specs.Image.{Image}
-use Rattle.elf_image.specs.Places.{descriptors_place, rodata_place, rodata_end, code_place, dynamic_place, dynamic_count, filled_place, file_end, memory_end}
-
--- the identification of an ELF file: its name, 64 bits, little-endian, version 1
-abbrev pub identification : List ℕ
-identification = 0x7f ∷ 0x45 ∷ 0x4c ∷ 0x46 ∷ 2 ∷ 1 ∷ 1 ∷ 0 ∷ 0 ∷ 0 ∷ 0 ∷ 0 ∷ 0 ∷ 0 ∷ 0 ∷ 0 ∷ []
+use Rattle.elf_image.specs.Places.{descriptors_place, rodata_place, rodata_end, code_place, dynamic_place, dynamic_count, filled_place}
+use Rattle.elf_image.specs.Places.{file_end, memory_end}
 
 -- the file's header, with its entry: ET_DYN for EM_AARCH64, four program headers at 64, no sections
 abbrev pub header_with : ℕ → Ehdr

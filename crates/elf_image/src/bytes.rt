@@ -1,8 +1,7 @@
 // Tests of bytes, and numbers that stand among them.
 ghost use Rattle.std.specs.Prelude.{◌≡◌, ◌+◌, ◌*◌, ◌/◌, ◌≤◌, length};
-ghost use Rattle.std.specs.List.{list_all};
 ghost use Rattle.elf_base.specs.Place.{number_at};
-ghost use Rattle.elf_image.specs.Faults.{agrees, are_relative, is_zero, zeros_between};
+ghost use Rattle.elf_image.specs.Faults.{agrees, are_relative};
 
 use byteorder::{ByteOrder, LittleEndian};
 
@@ -19,27 +18,6 @@ pub(crate) fn agrees(bytes: &[u8], wanted: &[u8]) -> bool
         }
     }
     true
-}
-
-fn is_zero(bytes: &[u8]) -> bool
-    ensures { result ≡ list_all is_zero bytes.now }
-{
-    for byte in bytes {
-        if *byte != 0 {
-            return false;
-        }
-    }
-    true
-}
-
-// Whether the bytes from one place to another are zero.
-#[tactic(auto, unfolding(crate::specs::Faults::zeros_between))]
-pub(crate) fn zeros_between(bytes: &[u8], start: u64, end: u64) -> bool
-    requires order { start ≤ end }
-    requires within { end ≤ length bytes.now }
-    ensures { result ≡ zeros_between start end bytes.now }
-{
-    is_zero(&bytes[start as usize..end as usize])
 }
 
 // The number of four bytes at a place.

@@ -1,16 +1,18 @@
 // What is asked of the dynamic entries, and of what they say.
 ghost use Rattle.std.specs.Prelude.{◌≡◌, ◌+◌, ◌*◌, ◌/◌, ◌==◌, ◌≤◌, length, true, pos};
-ghost use Rattle.elf_image.specs.Faults.{are_relative, same_entry, is_reloc_size, is_descriptor_size, first_fault, reloc_asks, table_asks, mode_asks, described_asks, last_asks, gap_asks};
+ghost use Rattle.elf_base.specs.Conditions.{first_fault};
+ghost use Rattle.elf_image.specs.Faults.{are_relative, same_entry, is_reloc_size, is_descriptor_size, reloc_asks, table_asks, mode_asks};
+ghost use Rattle.elf_image.specs.Faults.{described_asks, last_asks, gap_asks};
 ghost use Rattle.elf_image.specs.Heads.{entry_at, reloc_bytes_at, descriptor_bytes_at};
 ghost use Rattle.elf_image.specs.Pieces.{entry};
 ghost use Rattle.elf_image.specs.Laws.Right.{rodata_at};
 ghost use Rattle.elf_image.specs.Laws.Within.{Lying};
 
-use crate::bytes::{u64_at, zeros_between};
+use crate::bytes::u64_at;
 use crate::heads::{Heads, entry_at};
 use crate::refusal::ImageRefusal;
 use crate::same::same_entry;
-use elf_base::Dyn;
+use elf_base::{Dyn, is_zero_between};
 use mt_base::round16;
 
 // The type R_AARCH64_RELATIVE, with symbol 0.
@@ -195,7 +197,7 @@ pub(crate) fn gap_fault(bytes: &[u8], heads: &Heads) -> Option<ImageRefusal>
 {
     let sizes = sizes_of(bytes, heads);
     let start = 0x140 + sizes.relocs + sizes.descriptors;
-    if zeros_between(bytes, start, round16(start)) {
+    if is_zero_between(bytes, start, round16(start)) {
         None
     } else {
         Some(ImageRefusal::BadSegment { index: 0 })

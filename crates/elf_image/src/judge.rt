@@ -1,9 +1,9 @@
 // The conditions of an image file, in their order.
 ghost use Rattle.std.specs.Prelude.{◌≡◌, MatchResult};
-ghost use Rattle.elf_image.specs.Faults.{first_fault, opening, after_opening, contents, segments, reaches, fault_of};
+ghost use Rattle.elf_base.specs.Conditions.{first_fault};
+ghost use Rattle.elf_image.specs.Faults.{opening, after_opening, contents, segments, reaches, fault_of, no_fault, fault_is};
 ghost use Rattle.elf_image.specs.Heads.{heads_at};
-ghost use Rattle.elf_image.specs.Laws.Holding.{no_fault};
-ghost use Rattle.elf_image.specs.Laws.Within.{Reaching, fault_is};
+ghost use Rattle.elf_image.specs.Laws.Within.{Reaching};
 
 use crate::bytes::agrees;
 use crate::entries::{gap_fault, last_fault, mode_fault, table_fault};
@@ -11,8 +11,8 @@ use crate::heads::{Heads, heads_of};
 use crate::refusal::ImageRefusal;
 use crate::same::same_header;
 use crate::segments::{ends_by, is_code, is_dynamic, is_read_only, is_writable};
-use crate::write::{IDENTIFICATION, header_with};
-use elf_base::{Phdr, read_ehdr};
+use crate::write::header_with;
+use elf_base::{IDENTIFICATION, Phdr, read_ehdr};
 
 // The headers of a file that has them, or its fault up to there.
 fn opened(bytes: &[u8]) -> Result<Heads, ImageRefusal>

@@ -1,6 +1,7 @@
 ghost use Rattle.std.specs.Prelude.{◌≡◌, ◌+◌, ◌-◌, ◌*◌, ◌<◌, ◌≤◌, ◌^◌, length};
 ghost use Rattle.elf_image.specs.Image.{image_of};
-ghost use Rattle.elf_image.specs.Places.{IsValid, round_page, dynamic_count, descriptors_place, rodata_place, rodata_end, code_place, code_end, dynamic_place, dynamic_end, filled_place, file_end, memory_end};
+ghost use Rattle.elf_image.specs.Places.{IsValid, round_page, dynamic_count, descriptors_place, rodata_place, rodata_end, code_place};
+ghost use Rattle.elf_image.specs.Places.{code_end, dynamic_place, dynamic_end, filled_place, file_end, memory_end};
 
 use crate::parts::ImageParts;
 use mt_base::round16;

@@ -4,10 +4,10 @@ ghost use Rattle.elf_image.specs.Faults.{is_read_only, is_code, is_writable, is_
 ghost use Rattle.elf_image.specs.Laws.Within.{Reaching};
 ghost use Rattle.elf_image.specs.Places.{round_page};
 
-use crate::bytes::zeros_between;
 use crate::heads::Heads;
 use crate::same::same_segment;
 use crate::write::{dynamic_segment, load};
+use elf_base::is_zero_between;
 
 // The most bytes of memory that an image may take: 256 MiB.
 const MEMORY_LIMIT: u64 = 268_435_456;
@@ -33,7 +33,7 @@ pub(crate) fn is_read_only(bytes: &[u8], heads: &Heads) -> bool
     let part = &heads.read_only;
     same_segment(part, &load(4, 0, part.filesz, part.filesz))
         && 0x140 <= part.filesz
-        && zeros_between(bytes, 0x120, 0x140)
+        && is_zero_between(bytes, 0x120, 0x140)
 }
 
 pub(crate) fn is_code(bytes: &[u8], heads: &Heads) -> bool
@@ -44,7 +44,7 @@ pub(crate) fn is_code(bytes: &[u8], heads: &Heads) -> bool
     same_segment(part, &load(5, part.offset, part.filesz, part.filesz))
         && begins_next_page(heads.read_only.filesz, part.offset)
         && part.filesz % 4 == 0
-        && zeros_between(bytes, heads.read_only.filesz, part.offset)
+        && is_zero_between(bytes, heads.read_only.filesz, part.offset)
 }
 
 pub(crate) fn is_writable(bytes: &[u8], heads: &Heads) -> bool
@@ -60,7 +60,7 @@ pub(crate) fn is_writable(bytes: &[u8], heads: &Heads) -> bool
         && part.filesz <= part.memsz
         && part.memsz % 16 == 0
         && ends_by(part.offset, part.memsz, MEMORY_LIMIT)
-        && zeros_between(bytes, code_end, part.offset)
+        && is_zero_between(bytes, code_end, part.offset)
 }
 
 pub(crate) fn is_dynamic(heads: &Heads) -> bool

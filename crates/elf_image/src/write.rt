@@ -6,13 +6,14 @@ ghost use Rattle.elf_image.specs.ImageFile.{ImageFile};
 ghost use Rattle.elf_base.specs.Laying.{put, put_all};
 ghost use Rattle.elf_base.specs.Layout.{piece};
 ghost use Rattle.elf_image.specs.LoadedBytes.{read_only_bytes, code_bytes, writable_bytes};
-ghost use Rattle.elf_image.specs.Pieces.{header_with, load, dynamic_at, entries_bytes, header_pieces, table_pieces, table_entries, descriptor_entries};
+ghost use Rattle.elf_image.specs.Pieces.{header_with, load, dynamic_at, entries_bytes, header_pieces, table_pieces, table_entries};
+ghost use Rattle.elf_image.specs.Pieces.{descriptor_entries};
 ghost use Rattle.elf_image.specs.Places.{IsValid, descriptors_place};
 
 use crate::layout::{RELOCS_PLACE, STRINGS_PLACE, SYMBOLS_PLACE};
 use crate::parts::ImageParts;
 use crate::put::{push_entry, put_relocs};
-use elf_base::{Ehdr, Phdr, pad_to, put_bytes, put_words, write_ehdr, write_phdr};
+use elf_base::{Ehdr, IDENTIFICATION, Phdr, pad_to, put_bytes, put_words, write_ehdr, write_phdr};
 use std::alloc::{AllocError, Global};
 
 /// The one file of the parts, which are valid: `filled` and the zero bytes are whole granules of 16 bytes, and
@@ -82,11 +83,6 @@ fn put_headers(out: &mut Vec<u8>, parts: &ImageParts) -> Result<(), AllocError>
     put_segment(out, 232, &dynamic_segment(dynamic, parts.dynamic_bytes()))?;
     Ok(())
 }
-
-// The identification of an ELF file: its name, 64 bits, little-endian, version 1.
-pub(crate) const IDENTIFICATION: [u8; 16] = [
-    0x7f, b'E', b'L', b'F', 2, 1, 1, 0, 0, 0, 0, 0, 0, 0, 0, 0,
-];
 
 // The file's header, with its entry.
 pub(crate) fn header_with(entry: u64) -> Ehdr

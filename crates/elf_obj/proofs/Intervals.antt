@@ -10,18 +10,13 @@ use Rattle.std.specs.BTreeMap.{insert_entry}
 use Rattle.std.specs.BTreeMap.Range.{entries_between}
 use Rattle.std.specs.declared.ops.Bound.TheVariants.{Included, Unbounded}
 use Rattle.std.proofs.lemmas.Bool.Decides.{nat_tests}
+use Rattle.elf_base.specs.Laws.Tests.{le_is, lt_is, neither}
 use Rattle.elf_obj.specs.Apart.{meets, starts_before}
 
 -- each interval begins behind the one before
 abbrev pub Rising : ℕ → List (ℕ × ℕ) → Type 0
 Rising low [] = Unit {0}
 Rising low (e ∷ es) = (low ≤ e.1) × ((e.1 ≤ e.0) × Rising (e.0 + 1) es)
-
-le_is : (a b : ℕ) → a ≤ b → nat_le a b ≡ true
-le_is a b h = grind (arith, nat_tests)
-
-lt_is : (a b : ℕ) → a < b → nat_lt a b ≡ true
-lt_is a b h = grind (arith, nat_tests)
 
 not_lt : (a b : ℕ) → b ≤ a → nat_lt a b ≡ false
 not_lt a b h = grind (arith, nat_tests)
@@ -33,10 +28,6 @@ no_and : (a b : Bool) → b ≡ false → (a && b) ≡ false
 no_and true b h = h
 no_and false b h = refl
 
-neither : (a b : Bool) → (a || b) ≡ false → (a ≡ false) × (b ≡ false)
-neither false b h = (refl, h)
-neither true b h = cc
-
 both_no : (a b : Bool) → a ≡ false → b ≡ false → (a || b) ≡ false
 both_no a b ha hb = rw (ha, hb) refl
 
@@ -44,7 +35,8 @@ both_no a b ha hb = rw (ha, hb) refl
 none_behind : (low first end : ℕ) (es : List (ℕ × ℕ)) → Rising low es → end ≤ low → list_any (meets first end) es ≡ false
 none_behind low first end [] r h = refl
 none_behind low first end (e ∷ es) r h =
-    both_no (meets first end e) (list_any (meets first end) es) (no_and (nat_le first e.0) (nat_lt e.1 end) (not_lt e.1 end (omega (arith, r.0, h))))
+    both_no (meets first end e) (list_any (meets first end) es)
+    (no_and (nat_le first e.0) (nat_lt e.1 end) (not_lt e.1 end (omega (arith, r.0, h))))
     (none_behind (e.0 + 1) first end es r.1.1 (omega (arith, r.0, r.1.0, h)))
 
 from_is : (a b : ℕ) → (is_le (nat_cmp a b) && true) ≡ nat_le a b
@@ -66,7 +58,8 @@ pub found_first : (low first end : ℕ) (es : List (ℕ × ℕ)) → Rising low 
     → starts_before end (entries_between nat_cmp (Included first) Unbounded es) ≡ list_any (meets first end) es
 found_first low first end [] r = refl
 found_first low first end (e ∷ es) r =
-    ap (λ (b : Bool). starts_before end (cond b (e ∷ rest) rest)) (from_is first e.0) ∙ step (nat_le first e.0) (found_first (e.0 + 1) first end es r.1.1)
+    ap (λ (b : Bool). starts_before end (cond b (e ∷ rest) rest)) (from_is first e.0)
+    ∙ step (nat_le first e.0) (found_first (e.0 + 1) first end es r.1.1)
   where
     rest : List (ℕ × ℕ)
     rest = entries_between nat_cmp (Included first) Unbounded es
@@ -92,11 +85,13 @@ nor_this false b h e = refl
 
 -- the interval ends before another begins, or behind it, and not at its end
 before_it : (first last : ℕ) (e : ℕ × ℕ) → meets first (last + 1) e ≡ false → first ≤ last → last < e.0 → last + 1 ≤ e.1
-before_it first last e h a lt = at_most e.1 (last + 1) (so_not (nat_le first e.0) (nat_lt e.1 (last + 1)) h (le_is first e.0 (omega (arith, a, lt))))
+before_it first last e h a lt = at_most e.1 (last + 1)
+    (so_not (nat_le first e.0) (nat_lt e.1 (last + 1)) h (le_is first e.0 (omega (arith, a, lt))))
 
 behind_it : (first last : ℕ) (e : ℕ × ℕ) → meets first (last + 1) e ≡ false → e.1 ≤ e.0 → e.0 < last → e.0 + 1 ≤ first
 behind_it first last e h a lt =
-    let no : nat_le first e.0 ≡ false = nor_this (nat_le first e.0) (nat_lt e.1 (last + 1)) h (lt_is e.1 (last + 1) (omega (arith, a, lt))) in
+    let no : nat_le first e.0 ≡ false = nor_this (nat_le first e.0) (nat_lt e.1 (last + 1)) h
+    (lt_is e.1 (last + 1) (omega (arith, a, lt))) in
     omega (arith, below first e.0 no)
 
 not_at : (first last : ℕ) (e : ℕ × ℕ) → meets first (last + 1) e ≡ false → first ≤ last → e.1 ≤ e.0 → last ≡ e.0 → ⊥
@@ -105,7 +100,8 @@ not_at first last e h a b same =
     let no = at_most e.1 (last + 1) (so_not (nat_le first e.0) (nat_lt e.1 (last + 1)) h le) in
     absurd (omega (arith, no, b, same))
 
-pub put_rising : (low first last : ℕ) (es : List (ℕ × ℕ)) → Rising low es → low ≤ first → first ≤ last → list_any (meets first (last + 1)) es ≡ false
+pub put_rising : (low first last : ℕ) (es : List (ℕ × ℕ)) → Rising low es → low ≤ first → first ≤ last
+    → list_any (meets first (last + 1)) es ≡ false
     → Rising low (insert_entry nat_cmp es last first)
 put_rising low first last [] r a b h = (a, (b, tt))
 put_rising low first last (e ∷ es) r a b h =
@@ -129,7 +125,8 @@ grouped : (a b c d : Bool) → b ≡ (c || d) → (a || b) ≡ ((a || c) || d)
 grouped true b c d h = refl
 grouped false b c d h = h
 
-pub put_any : (test : ℕ × ℕ → Bool) (low first last : ℕ) (es : List (ℕ × ℕ)) → Rising low es → first ≤ last → list_any (meets first (last + 1)) es ≡ false
+pub put_any : (test : ℕ × ℕ → Bool) (low first last : ℕ) (es : List (ℕ × ℕ)) → Rising low es → first ≤ last
+    → list_any (meets first (last + 1)) es ≡ false
     → list_any test (insert_entry nat_cmp es last first) ≡ (list_any test es || test (last, first))
 put_any test low first last [] r b h = swapped (test (last, first)) false
 put_any test low first last (e ∷ es) r b h =
@@ -142,4 +139,5 @@ put_any test low first last (e ∷ es) r b h =
         ≡ ((test e || list_any test es) || test (last, first))
     chosen Less g here rest = swapped (test (last, first)) (test e || list_any test es)
     chosen Equal g here rest = absurd (not_at first last e here b r.1.0 g)
-    chosen Greater g here rest = grouped (test e) (list_any test (insert_entry nat_cmp es last first)) (list_any test es) (test (last, first)) rest
+    chosen Greater g here rest = grouped (test e) (list_any test (insert_entry nat_cmp es last first)) (list_any test es)
+        (test (last, first)) rest

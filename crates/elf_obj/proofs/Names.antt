@@ -4,12 +4,12 @@ use Rattle.std.specs.Prelude.{◌&&◌, ◌||◌, ◌==◌, not, cond, if◌then
 use Rattle.std.specs.List.{list_any, list_all}
 use Rattle.std.specs.Str.{bytes_eq}
 use Rattle.std.proofs.lemmas.Bool.Decides.{nat_tests}
+use Rattle.elf_base.specs.Laws.Tests.{both}
 use Rattle.elf_obj.specs.declared.parts.Symbol.{Symbol}
 use Rattle.elf_obj.specs.declared.sizes.Sizes.{Sizes}
 use Rattle.elf_obj.specs.Rules.{is_new, has_place, symbol_keeps}
-use Rattle.elf_obj.specs.ObjectFault.{is_symbol}
+use Rattle.elf_obj.specs.ObjectFault.{is_symbol, symbol_spot}
 use Rattle.elf_obj.specs.Repeats.{is_seen_as, first_repeat}
-use Rattle.elf_obj.specs.Laws.Held.{both}
 
 pub new-step : (ss : List Symbol) (i : ℕ) (s : Symbol) → drop i ss ≡ s ∷ drop (i + 1) ss → take (i + 1) ss ≡ take i ss ++ s ∷ []
     → is_new (take i ss) s ≡ true → first_repeat i (take i ss) (drop i ss) ≡ first_repeat (i + 1) (take (i + 1) ss) (drop (i + 1) ss)
@@ -29,11 +29,12 @@ repeats-behind : (k : ℕ) (earlier ss : List Symbol) → k ≤ first_repeat k e
 repeats-behind k earlier [] = omega arith
 repeats-behind k earlier (s ∷ ss) = chosen (is_new earlier s) (repeats-behind (k + 1) (earlier ++ s ∷ []) ss)
   where
-    chosen : (b : Bool) → k + 1 ≤ first_repeat (k + 1) (earlier ++ s ∷ []) ss → k ≤ (if b then first_repeat (k + 1) (earlier ++ s ∷ []) ss else k)
+    chosen : (b : Bool) → k + 1 ≤ first_repeat (k + 1) (earlier ++ s ∷ []) ss
+        → k ≤ (if b then first_repeat (k + 1) (earlier ++ s ∷ []) ss else k)
     chosen true h = omega (arith, h)
     chosen false h = omega arith
 
-other : (i n : ℕ) → i < n → (i == n) ≡ false
+pub other : (i n : ℕ) → i < n → (i == n) ≡ false
 other i n h = grind (arith, nat_tests)
 
 same : (i n : ℕ) → n ≡ i → (i == n) ≡ true
@@ -51,7 +52,8 @@ new-is ss i repeat s front more h = chosen (is_new (take i ss) s) refl
     chosen false e = ap not (same i repeat (sym h ∙ old-step ss i s front e))
 
 -- a symbol that is as it should be is new
-pub symbol-new : (file : List ℕ) (z : Sizes) (at place : ℕ) (earlier : List Symbol) (s : Symbol) → is_symbol file z at place earlier s ≡ true
+pub symbol-new : (file : List ℕ) (z : Sizes) (at place : ℕ) (earlier : List Symbol) (s : Symbol)
+    → is_symbol file z (symbol_spot at place earlier) s ≡ true
     → is_new earlier s ≡ true
 unfolding is_symbol symbol_keeps
 symbol-new file z at place earlier s h =
@@ -68,12 +70,14 @@ any-snoc p [] y = chosen (p y)
     chosen false = refl
 any-snoc p (x ∷ xs) y = chosen (p x) (any-snoc p xs y)
   where
-    chosen : (b : Bool) → list_any p (xs ++ y ∷ []) ≡ (list_any p xs || p y) → (b || list_any p (xs ++ y ∷ [])) ≡ ((b || list_any p xs) || p y)
+    chosen : (b : Bool) → list_any p (xs ++ y ∷ []) ≡ (list_any p xs || p y)
+        → (b || list_any p (xs ++ y ∷ [])) ≡ ((b || list_any p xs) || p y)
     chosen true h = refl
     chosen false h = h
 
 -- one symbol more that is seen under its name
-pub seen-more : (ss : List Symbol) (i : ℕ) (s : Symbol) (name key : List ℕ) (old new : Bool) → take (i + 1) ss ≡ take i ss ++ s ∷ [] → s.local ≡ false
+pub seen-more : (ss : List Symbol) (i : ℕ) (s : Symbol) (name key : List ℕ) (old new : Bool) → take (i + 1) ss ≡ take i ss ++ s ∷ []
+    → s.local ≡ false
     → key ≡ s.name → old ≡ list_any (is_seen_as name) (take i ss) → new ≡ cond (bytes_eq key name) true old
     → new ≡ list_any (is_seen_as name) (take (i + 1) ss)
 seen-more ss i s name key old new more global is was now =
@@ -90,20 +94,23 @@ seen-more ss i s name key old new more global is was now =
     chosen false false = refl
 
 -- one that is not
-pub seen-same : (ss : List Symbol) (i : ℕ) (s : Symbol) (name : List ℕ) (old : Bool) → take (i + 1) ss ≡ take i ss ++ s ∷ [] → s.local ≡ true
+pub seen-same : (ss : List Symbol) (i : ℕ) (s : Symbol) (name : List ℕ) (old : Bool) → take (i + 1) ss ≡ take i ss ++ s ∷ []
+    → s.local ≡ true
     → old ≡ list_any (is_seen_as name) (take i ss) → old ≡ list_any (is_seen_as name) (take (i + 1) ss)
 seen-same ss i s name old more local was =
     let here : is_seen_as name s ≡ false = ap (λ (l : Bool). not l && bytes_eq s.name name) local in
     let all : list_any (is_seen_as name) (take (i + 1) ss) ≡ (list_any (is_seen_as name) (take i ss) || is_seen_as name s) =
     ap (list_any (is_seen_as name)) more ∙ any-snoc (is_seen_as name) (take i ss) s in
-    was ∙ sym (chosen (list_any (is_seen_as name) (take i ss))) ∙ ap (λ (b : Bool). list_any (is_seen_as name) (take i ss) || b) (sym here) ∙ sym all
+    was ∙ sym (chosen (list_any (is_seen_as name) (take i ss)))
+    ∙ ap (λ (b : Bool). list_any (is_seen_as name) (take i ss) || b) (sym here) ∙ sym all
   where
     chosen : (o : Bool) → (o || false) ≡ o
     chosen true = refl
     chosen false = refl
 
 -- whether it is new is whether its name was added
-pub new-as : (earlier : List Symbol) (s : Symbol) (has added : Bool) → s.local ≡ false → has ≡ list_any (is_seen_as s.name) earlier → added ≡ not has
+pub new-as : (earlier : List Symbol) (s : Symbol) (has added : Bool) → s.local ≡ false → has ≡ list_any (is_seen_as s.name) earlier
+    → added ≡ not has
     → is_new earlier s ≡ added
 new-as earlier s has added global is not-has =
     ap (λ (l : Bool). l || not (list_any (is_seen_as s.name) earlier)) global ∙ ap not (sym is) ∙ sym not-has
@@ -112,7 +119,8 @@ pub new-local : (earlier : List Symbol) (s : Symbol) → s.local ≡ true → is
 new-local earlier s local = ap (λ (l : Bool). l || not (list_any (is_seen_as s.name) earlier)) local
 
 -- whether all so far are local
-pub locals-step : (ss : List Symbol) (i : ℕ) (s : Symbol) (all both : Bool) → take (i + 1) ss ≡ take i ss ++ s ∷ [] → all ≡ list_all (λ e. e.local) (take i ss)
+pub locals-step : (ss : List Symbol) (i : ℕ) (s : Symbol) (all both : Bool) → take (i + 1) ss ≡ take i ss ++ s ∷ []
+    → all ≡ list_all (λ e. e.local) (take i ss)
     → both ≡ (all && s.local) → both ≡ list_all (λ e. e.local) (take (i + 1) ss)
 locals-step ss i s all both more was now =
     now ∙ ap (λ (b : Bool). b && s.local) was ∙ sym (snoc (take i ss)) ∙ ap (list_all (λ (e : Symbol). e.local)) (sym more)

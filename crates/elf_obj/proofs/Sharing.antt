@@ -1,18 +1,19 @@
 -- One tag more of those whose symbols are asked to lie apart.
-use Rattle.std.proofs.Common.{◌≡◌, ℕ, zero, suc, ◌+◌, ◌-◌, ◌<◌, ◌≤◌, Bool, true, false, List, [], ◌∷◌, ◌++◌, length, take, drop, get_or, refl, sym, ap, subst, ◌∙◌, arith, Option, Some, None}
+use Rattle.std.proofs.Common.{◌≡◌, ℕ, zero, suc, ◌+◌, ◌-◌, ◌<◌, ◌≤◌, Bool, true, false, List, [], ◌∷◌, ◌++◌, length, take, drop, get_or}
+use Rattle.std.proofs.Common.{refl, sym, ap, ◌∙◌, arith, Option, Some, None}
 use Rattle.std.specs.Prelude.{◌&&◌, ◌||◌, ◌==◌, not, nat_le, nat_lt, slice_get, if◌then◌else◌}
-use Rattle.std.specs.List.{list_any, AllByRecursion}
+use Rattle.std.specs.List.{list_any}
 use Rattle.std.proofs.lemmas.Bool.Decides.{nat_tests}
+use Rattle.elf_base.specs.Laws.Tests.{both, same_is, is_same}
 use Rattle.elf_obj.specs.declared.parts.Symbol.{Symbol}
 use Rattle.elf_obj.specs.declared.parts.Home.{Home}
 use Rattle.elf_obj.specs.Records.{home_number}
-use Rattle.elf_obj.specs.declared.parts.Home.TheVariants.{Undef, Text, Rodata, Init, Zero}
 use Rattle.elf_obj.specs.Rules.{shares_found, is_variable, is_apart, can_be_tagged, tag_keeps}
-use Rattle.elf_obj.specs.Apart.{lies_in, is_found_apart, first_shared, IsSound, meets}
-use Rattle.elf_obj.specs.Laws.Held.{both}
-use Rattle.elf_obj.proofs.Names.{any-snoc}
+use Rattle.elf_obj.specs.Apart.{lies_in, is_found_apart, first_shared, meets}
+use Rattle.elf_obj.proofs.Names.{any-snoc, other}
 
-pub apart-step : (home : Home) (symbols : List Symbol) (ts : List ℕ) (i t : ℕ) → drop i ts ≡ t ∷ drop (i + 1) ts → take (i + 1) ts ≡ take i ts ++ t ∷ []
+pub apart-step : (home : Home) (symbols : List Symbol) (ts : List ℕ) (i t : ℕ) → drop i ts ≡ t ∷ drop (i + 1) ts
+    → take (i + 1) ts ≡ take i ts ++ t ∷ []
     → is_found_apart home symbols (take i ts) (slice_get symbols t) ≡ true
     → first_shared home symbols i (take i ts) (drop i ts) ≡ first_shared home symbols (i + 1) (take (i + 1) ts) (drop (i + 1) ts)
 apart-step home symbols ts i t front more good =
@@ -29,7 +30,8 @@ shared-step home symbols ts i t front bad =
 
 -- ---- the test of one symbol
 
-pub not-there : (home : Home) (symbols : List Symbol) (earlier : List ℕ) (o : Option Symbol) → o ≡ None → is_found_apart home symbols earlier o ≡ false
+pub not-there : (home : Home) (symbols : List Symbol) (earlier : List ℕ) (o : Option Symbol) → o ≡ None
+    → is_found_apart home symbols earlier o ≡ false
 not-there home symbols earlier o h = ap (is_found_apart home symbols earlier) h
 
 pub not-object : (home : Home) (symbols : List Symbol) (earlier : List ℕ) (o : Option Symbol) (s : Symbol) → o ≡ Some s → s.function ≡ true
@@ -37,31 +39,23 @@ pub not-object : (home : Home) (symbols : List Symbol) (earlier : List ℕ) (o :
 not-object home symbols earlier o s h function =
     ap (is_found_apart home symbols earlier) h ∙ ap (λ (b : Bool). not b && (not (lies_in home s) || is_apart symbols earlier s)) function
 
-pub elsewhere : (home : Home) (symbols : List Symbol) (earlier : List ℕ) (o : Option Symbol) (s : Symbol) → o ≡ Some s → s.function ≡ false → lies_in home s ≡ false
+pub elsewhere : (home : Home) (symbols : List Symbol) (earlier : List ℕ) (o : Option Symbol) (s : Symbol) → o ≡ Some s
+    → s.function ≡ false → lies_in home s ≡ false
     → is_found_apart home symbols earlier o ≡ true
 elsewhere home symbols earlier o s h object other =
     ap (is_found_apart home symbols earlier) h ∙ ap (λ (b : Bool). not b && (not (lies_in home s) || is_apart symbols earlier s)) object
     ∙ ap (λ (b : Bool). not b || is_apart symbols earlier s) other
 
-pub as-apart : (home : Home) (symbols : List Symbol) (earlier : List ℕ) (o : Option Symbol) (s : Symbol) (shares : Bool) → o ≡ Some s → s.function ≡ false
-    → lies_in home s ≡ true → shares ≡ list_any (λ e. shares_found s (slice_get symbols e)) earlier → is_found_apart home symbols earlier o ≡ not shares
+pub as-apart : (home : Home) (symbols : List Symbol) (earlier : List ℕ) (o : Option Symbol) (s : Symbol) (shares : Bool) → o ≡ Some s
+    → s.function ≡ false
+    → lies_in home s ≡ true → shares ≡ list_any (λ e. shares_found s (slice_get symbols e)) earlier
+    → is_found_apart home symbols earlier o ≡ not shares
 as-apart home symbols earlier o s shares h object here is =
     ap (is_found_apart home symbols earlier) h ∙ ap (λ (b : Bool). not b && (not (lies_in home s) || is_apart symbols earlier s)) object
     ∙ ap (λ (b : Bool). not b || is_apart symbols earlier s) here ∙ ap not (sym is)
 
--- a symbol that is there is sound
-pub sound-at : (home : Home) (symbols : List Symbol) (n : ℕ) (s : Symbol) → AllByRecursion (IsSound home) symbols → slice_get symbols n ≡ Some s → IsSound home s
-sound-at home [] n s all h = cc
-sound-at home (x ∷ xs) zero s all h =
-    let same : x ≡ s = cc in
-    subst (IsSound home) same all.0
-sound-at home (x ∷ xs) (suc n) s all h = sound-at home xs n s all.1 h
-
-same_number : (a b : ℕ) → (a == b) ≡ true → a ≡ b
-same_number a b h = grind (arith, nat_tests)
-
 pub home-is : (home : Home) (s : Symbol) → lies_in home s ≡ true → home_number s.home ≡ home_number home
-home-is home s h = same_number (home_number s.home) (home_number home) h
+home-is home s h = is_same (home_number s.home) (home_number home) h
 
 -- ---- what was seen
 
@@ -73,26 +67,27 @@ Seen home symbols entries earlier = (q : Symbol) → home_number q.home ≡ home
 to_last : (a end : ℕ) → 1 ≤ end → nat_lt a end ≡ nat_le a (end - 1)
 to_last a end h = grind (arith, nat_tests)
 
-pub is_same : (a b : ℕ) → a ≡ b → (a == b) ≡ true
-is_same a b h = grind (arith, nat_tests)
-
 is_other : (a b c : ℕ) → a ≡ b → (c == b) ≡ false → (a == c) ≡ false
 is_other a b c h g = grind (arith, nat_tests)
 
 -- two objects of the section share a byte where the intervals do
-pub shares-is : (home : Home) (q s : Symbol) (o : Option Symbol) → o ≡ Some s → home_number q.home ≡ home_number home → home_number s.home ≡ home_number home
+pub shares-is : (home : Home) (q s : Symbol) (o : Option Symbol) → o ≡ Some s → home_number q.home ≡ home_number home
+    → home_number s.home ≡ home_number home
     → 1 ≤ s.size → shares_found q o ≡ meets q.value (q.value + q.size) (s.value + s.size - 1, s.value)
 shares-is home q s o there hq hs some =
-    let same : (home_number q.home == home_number s.home) ≡ true = is_same (home_number q.home) (home_number s.home) (hq ∙ sym hs) in
-    let last : nat_lt q.value (s.value + s.size) ≡ nat_le q.value (s.value + s.size - 1) = to_last q.value (s.value + s.size) (omega (arith, some)) in
+    let same : (home_number q.home == home_number s.home) ≡ true = same_is (home_number q.home) (home_number s.home) (hq ∙ sym hs) in
+    let last : nat_lt q.value (s.value + s.size) ≡ nat_le q.value (s.value + s.size - 1) =
+    to_last q.value (s.value + s.size) (omega (arith, some)) in
     ap (shares_found q) there
     ∙ ap (λ (b : Bool). b && nat_lt q.value (s.value + s.size) && nat_lt s.value (q.value + q.size)) same
     ∙ ap (λ (b : Bool). b && nat_lt s.value (q.value + q.size)) last
 
-pub shares-none : (home : Home) (q s : Symbol) (o : Option Symbol) → o ≡ Some s → home_number q.home ≡ home_number home → lies_in home s ≡ false
+pub shares-none : (home : Home) (q s : Symbol) (o : Option Symbol) → o ≡ Some s → home_number q.home ≡ home_number home
+    → lies_in home s ≡ false
     → shares_found q o ≡ false
 shares-none home q s o there hq other =
-    let apart : (home_number q.home == home_number s.home) ≡ false = is_other (home_number q.home) (home_number home) (home_number s.home) hq other in
+    let apart : (home_number q.home == home_number s.home) ≡ false =
+    is_other (home_number q.home) (home_number home) (home_number s.home) hq other in
     ap (shares_found q) there
     ∙ ap (λ (b : Bool). b && nat_lt q.value (s.value + s.size) && nat_lt s.value (q.value + q.size)) apart
 
@@ -101,9 +96,11 @@ or_no true = refl
 or_no false = refl
 
 -- one tag more, whose symbol was put among the intervals or lies elsewhere
-pub seen-put : (home : Home) (symbols : List Symbol) (old new : List (ℕ × ℕ)) (ts : List ℕ) (i t : ℕ) (s : Symbol) → take (i + 1) ts ≡ take i ts ++ t ∷ []
+pub seen-put : (home : Home) (symbols : List Symbol) (old new : List (ℕ × ℕ)) (ts : List ℕ) (i t : ℕ) (s : Symbol)
+    → take (i + 1) ts ≡ take i ts ++ t ∷ []
     → slice_get symbols t ≡ Some s → home_number s.home ≡ home_number home → 1 ≤ s.size → Seen home symbols old (take i ts)
-    → ((test : ℕ × ℕ → Bool) → list_any test new ≡ (list_any test old || test (s.value + s.size - 1, s.value))) → Seen home symbols new (take (i + 1) ts)
+    → ((test : ℕ × ℕ → Bool) → list_any test new ≡ (list_any test old || test (s.value + s.size - 1, s.value)))
+    → Seen home symbols new (take (i + 1) ts)
 seen-put home symbols old new ts i t s more there hs some seen put = λ q hq.
     let test : ℕ → Bool = λ e. shares_found q (slice_get symbols e) in
     put (meets q.value (q.value + q.size))
@@ -111,8 +108,10 @@ seen-put home symbols old new ts i t s more there hs some seen put = λ q hq.
     ∙ ap (λ (b : Bool). list_any test (take i ts) || b) (sym (shares-is home q s (slice_get symbols t) there hq hs some))
     ∙ sym (ap (list_any test) more ∙ any-snoc test (take i ts) t)
 
-pub seen-other : (home : Home) (symbols : List Symbol) (entries : List (ℕ × ℕ)) (ts : List ℕ) (i t : ℕ) (s : Symbol) → take (i + 1) ts ≡ take i ts ++ t ∷ []
-    → slice_get symbols t ≡ Some s → lies_in home s ≡ false → Seen home symbols entries (take i ts) → Seen home symbols entries (take (i + 1) ts)
+pub seen-other : (home : Home) (symbols : List Symbol) (entries : List (ℕ × ℕ)) (ts : List ℕ) (i t : ℕ) (s : Symbol)
+    → take (i + 1) ts ≡ take i ts ++ t ∷ []
+    → slice_get symbols t ≡ Some s → lies_in home s ≡ false → Seen home symbols entries (take i ts)
+    → Seen home symbols entries (take (i + 1) ts)
 seen-other home symbols entries ts i t s more there other seen = λ q hq.
     let test : ℕ → Bool = λ e. shares_found q (slice_get symbols e) in
     seen q hq ∙ or_no (list_any test (take i ts))
@@ -135,7 +134,7 @@ pub not_same : (a b : ℕ) → (a ≡ b → ⊥) → (a == b) ≡ false
 not_same a b h = chosen (a == b) refl
   where
     chosen : (is : Bool) → (a == b) ≡ is → (a == b) ≡ false
-    chosen true e = absurd (h (same_number a b e))
+    chosen true e = absurd (h (is_same a b e))
     chosen false e = e
 
 -- the number of the first tag is that of the turn exactly where its symbol is not apart
@@ -149,56 +148,19 @@ shared-behind home symbols k earlier (t ∷ ts) =
     chosen true h = omega (arith, h)
     chosen false h = omega arith
 
-lower : (i n : ℕ) → i < n → (i == n) ≡ false
-lower i n h = grind (arith, nat_tests)
-
-pub apart-is : (home : Home) (symbols : List Symbol) (ts : List ℕ) (i shared t : ℕ) → drop i ts ≡ t ∷ drop (i + 1) ts → take (i + 1) ts ≡ take i ts ++ t ∷ []
-    → first_shared home symbols i (take i ts) (drop i ts) ≡ shared → not (i == shared) ≡ is_found_apart home symbols (take i ts) (slice_get symbols t)
+pub apart-is : (home : Home) (symbols : List Symbol) (ts : List ℕ) (i shared t : ℕ) → drop i ts ≡ t ∷ drop (i + 1) ts
+    → take (i + 1) ts ≡ take i ts ++ t ∷ []
+    → first_shared home symbols i (take i ts) (drop i ts) ≡ shared
+    → not (i == shared) ≡ is_found_apart home symbols (take i ts) (slice_get symbols t)
 apart-is home symbols ts i shared t front more h = chosen (is_found_apart home symbols (take i ts) (slice_get symbols t)) refl
   where
     chosen : (b : Bool) → is_found_apart home symbols (take i ts) (slice_get symbols t) ≡ b → not (i == shared) ≡ b
     chosen true e =
         let behind = shared-behind home symbols (i + 1) (take (i + 1) ts) (drop (i + 1) ts) in
-        ap not (lower i shared (omega (arith, behind, apart-step home symbols ts i t front more e, h)))
-    chosen false e = ap not (is_same i shared (sym (shared-step home symbols ts i t front e) ∙ h))
+        ap not (other i shared (omega (arith, behind, apart-step home symbols ts i t front more e, h)))
+    chosen false e = ap not (same_is i shared (sym (shared-step home symbols ts i t front e) ∙ h))
 
 -- ---- the two sections of objects that may be tagged
-
-variable-is : (h : Home) → is_variable h ≡ ((home_number h == 3) || (home_number h == 4))
-variable-is Undef = refl
-variable-is Text = refl
-variable-is Rodata = refl
-variable-is Init = refl
-variable-is Zero = refl
-
-tests : (f a x y : Bool) → ((x || y) && not f && ((not f && (not x || a)) && (not f && (not y || a)))) ≡ ((x || y) && not f && a)
-tests true true true true = refl
-tests true true true false = refl
-tests true true false true = refl
-tests true true false false = refl
-tests true false true true = refl
-tests true false true false = refl
-tests true false false true = refl
-tests true false false false = refl
-tests false true true true = refl
-tests false true true false = refl
-tests false true false true = refl
-tests false true false false = refl
-tests false false true true = refl
-tests false false true false = refl
-tests false false false true = refl
-tests false false false false = refl
-
-pub tagged-as : (symbols : List Symbol) (earlier : List ℕ) (o : Option Symbol) (s : Symbol) (apart : Bool) → o ≡ Some s
-    → apart ≡ (is_found_apart Init symbols earlier o && is_found_apart Zero symbols earlier o)
-    → (is_variable s.home && not s.function && apart) ≡ can_be_tagged symbols earlier o
-tagged-as symbols earlier o s apart there is =
-    let a : Bool = is_apart symbols earlier s in
-    let x : Bool = lies_in Init s in
-    let y : Bool = lies_in Zero s in
-    ap (λ (b : Bool). is_variable s.home && not s.function && b) (is ∙ ap (λ (p : Option Symbol). is_found_apart Init symbols earlier p && is_found_apart Zero symbols earlier p) there)
-    ∙ ap (λ (b : Bool). b && not s.function && ((not s.function && (not x || a)) && (not s.function && (not y || a)))) (variable-is s.home)
-    ∙ tests s.function a x y ∙ ap (λ (b : Bool). b && not s.function && a) (sym (variable-is s.home)) ∙ ap (can_be_tagged symbols earlier) (sym there)
 
 apart_anyway : (f a l : Bool) → not f ≡ true → a ≡ true → (not f && (not l || a)) ≡ true
 apart_anyway false true true hf ha = refl

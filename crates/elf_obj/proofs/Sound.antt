@@ -3,6 +3,10 @@ use Rattle.std.proofs.Common.{◌≡◌, ℕ, ◌+◌, ◌<◌, ◌≤◌, ◌^�
 use Rattle.std.specs.Prelude.{◌&&◌, ◌||◌, ◌==◌, ◌%◌, nat_le, nat_lt}
 use Rattle.std.specs.List.{AllByRecursion}
 use Rattle.elf_base.specs.Laws.Lengths.{IsBytes}
+use Rattle.elf_base.specs.Laws.Tests.{both, is_le, is_lt}
+use Rattle.elf_base.specs.Laws.Conditions.{head_holds}
+use Rattle.elf_base.specs.Zeros.{is_zero_between}
+use Rattle.elf_base.specs.Conditions.{first_fault}
 use Rattle.elf_obj.specs.declared.parts.Symbol.{Symbol}
 use Rattle.elf_obj.specs.declared.parts.Home.{Home}
 use Rattle.elf_obj.specs.declared.parts.Home.TheVariants.{Undef, Text, Rodata, Init, Zero}
@@ -14,10 +18,8 @@ use Rattle.elf_obj.specs.Records.{home_number}
 use Rattle.elf_obj.specs.Rules.{is_in_order, is_named, is_new, is_whole, is_within, has_place, symbol_keeps, symbols_keep}
 use Rattle.elf_obj.specs.Apart.{IsSound}
 use Rattle.elf_obj.specs.Claimed.{offset_of, claimed}
-use Rattle.elf_obj.specs.Conditions.{first_fault}
-use Rattle.elf_obj.specs.ObjectFault.{is_zero_between, symbol_conditions, table_conditions}
-use Rattle.elf_obj.specs.Laws.Held.{both}
-use Rattle.elf_obj.specs.Laws.RecordsHold.{head_holds, symbols_hold, is_le, is_lt}
+use Rattle.elf_obj.specs.ObjectFault.{symbol_conditions, table_conditions, symbol_spot}
+use Rattle.elf_obj.specs.Laws.RecordsHold.{symbols_hold}
 use Rattle.elf_obj.specs.Laws.ClaimedRanges.{size_fits}
 use Rattle.elf_obj.specs.Laws.AllHold.{content_low}
 
@@ -36,14 +38,16 @@ within-sound bytes s low h object =
     let high = is_le (s.value + s.size) bytes parts.0 in
     (omega (arith, some), omega (arith, high, low))
 
-in-init : (z : Sizes) (home : Home) (s : Symbol) → z.init < 2 ^ 64 → has_place z home s ≡ true → s.function ≡ false → home_number home ≡ 3 → Sound s
+in-init : (z : Sizes) (home : Home) (s : Symbol) → z.init < 2 ^ 64 → has_place z home s ≡ true → s.function ≡ false
+    → home_number home ≡ 3 → Sound s
 in-init z Undef s low h object is = absurd (omega (arith, is))
 in-init z Text s low h object is = absurd (omega (arith, is))
 in-init z Rodata s low h object is = absurd (omega (arith, is))
 in-init z Init s low h object is = within-sound z.init s low h object
 in-init z Zero s low h object is = absurd (omega (arith, is))
 
-in-zero : (z : Sizes) (home : Home) (s : Symbol) → z.zero < 2 ^ 64 → has_place z home s ≡ true → s.function ≡ false → home_number home ≡ 4 → Sound s
+in-zero : (z : Sizes) (home : Home) (s : Symbol) → z.zero < 2 ^ 64 → has_place z home s ≡ true → s.function ≡ false
+    → home_number home ≡ 4 → Sound s
 in-zero z Undef s low h object is = absurd (omega (arith, is))
 in-zero z Text s low h object is = absurd (omega (arith, is))
 in-zero z Rodata s low h object is = absurd (omega (arith, is))
@@ -68,15 +72,19 @@ all-zero z earlier (s ∷ ss) low h =
 
 -- ---- the symbols that a file claims
 
-keep : (file : List ℕ) → first_fault (table_conditions file (claimed file)) ≡ None → symbols_keep (sizes_of (claimed file)) [] (claimed file).symbols ≡ true
+keep : (file : List ℕ) → first_fault (table_conditions file (claimed file)) ≡ None
+    → symbols_keep (sizes_of (claimed file)) [] (claimed file).symbols ≡ true
 keep file h =
     let p : Object = claimed file in
-    let others = symbol_conditions file (sizes_of p) (offset_of file 5 + 24) 1 1 [] p.symbols in
+    let others = symbol_conditions file (sizes_of p) (symbol_spot (offset_of file 5 + 24) 1 []) 1 p.symbols in
     let parts = head_holds (is_zero_between file (offset_of file 5) (offset_of file 5 + 24)) (BadSymbol 0) (first_fault others) h in
     (symbols_hold file (sizes_of p) (offset_of file 5 + 24) 1 1 [] p.symbols parts.1).keep
 
-pub init-sound : (file : List ℕ) → length file < 2 ^ 63 → first_fault (table_conditions file (claimed file)) ≡ None → AllByRecursion (IsSound Init) (claimed file).symbols
-init-sound file short h = all-init (sizes_of (claimed file)) [] (claimed file).symbols (omega (arith, content_low file 3, short)) (keep file h)
+pub init-sound : (file : List ℕ) → length file < 2 ^ 63 → first_fault (table_conditions file (claimed file)) ≡ None
+    → AllByRecursion (IsSound Init) (claimed file).symbols
+init-sound file short h = all-init (sizes_of (claimed file)) [] (claimed file).symbols (omega (arith, content_low file 3, short))
+    (keep file h)
 
-pub zero-sound : (file : List ℕ) → IsBytes file → first_fault (table_conditions file (claimed file)) ≡ None → AllByRecursion (IsSound Zero) (claimed file).symbols
+pub zero-sound : (file : List ℕ) → IsBytes file → first_fault (table_conditions file (claimed file)) ≡ None
+    → AllByRecursion (IsSound Zero) (claimed file).symbols
 zero-sound file fits h = all-zero (sizes_of (claimed file)) [] (claimed file).symbols (size_fits file 4 fits) (keep file h)

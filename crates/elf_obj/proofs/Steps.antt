@@ -1,5 +1,6 @@
 -- One element more of a list that a loop goes through.
-use Rattle.std.proofs.Common.{◌≡◌, ℕ, zero, suc, ◌+◌, ◌<◌, ◌≤◌, ◌^◌, true, false, List, [], ◌∷◌, ◌++◌, length, drop, get_or, refl, sym, ap, subst, ◌∙◌, arith, append_assoc, drop-cons, Some}
+use Rattle.std.proofs.Common.{◌≡◌, ℕ, zero, suc, ◌+◌, ◌<◌, ◌≤◌, ◌^◌, true, false, List, [], ◌∷◌, ◌++◌, length, drop, get_or, refl, sym}
+use Rattle.std.proofs.Common.{ap, subst, ◌∙◌, arith, append_assoc, drop-cons, Some}
 use Rattle.std.specs.Prelude.{slice_get}
 use Rattle.std.specs.List.{flat_map}
 use Rattle.mt_base.specs.Granules.{round16}
@@ -33,13 +34,15 @@ pub names-step : (ss : List Symbol) (i place end : ℕ) (s : Symbol) → drop i 
     → names_end (place + length s.name + 1) (drop (i + 1) ss) ≡ end
 names-step ss i place end s is h = sym (ap (names_end place) is) ∙ h
 
-pub globals-step : (ss : List Symbol) (i n end : ℕ) (s : Symbol) → drop i ss ≡ s ∷ drop (i + 1) ss → s.local ≡ true → first_global n (drop i ss) ≡ end
+pub globals-step : (ss : List Symbol) (i n end : ℕ) (s : Symbol) → drop i ss ≡ s ∷ drop (i + 1) ss → s.local ≡ true
+    → first_global n (drop i ss) ≡ end
     → first_global (n + 1) (drop (i + 1) ss) ≡ end
 globals-step ss i n end s is local h =
     let here : first_global n (s ∷ drop (i + 1) ss) ≡ first_global (n + 1) (drop (i + 1) ss) = rw local refl in
     sym here ∙ sym (ap (first_global n) is) ∙ h
 
-pub globals-end : (ss : List Symbol) (i n end : ℕ) (s : Symbol) → drop i ss ≡ s ∷ drop (i + 1) ss → s.local ≡ false → first_global n (drop i ss) ≡ end → n ≡ end
+pub globals-end : (ss : List Symbol) (i n end : ℕ) (s : Symbol) → drop i ss ≡ s ∷ drop (i + 1) ss → s.local ≡ false
+    → first_global n (drop i ss) ≡ end → n ≡ end
 globals-end ss i n end s is local h =
     let here : first_global n (s ∷ drop (i + 1) ss) ≡ n = rw local refl in
     sym here ∙ sym (ap (first_global n) is) ∙ h
@@ -51,13 +54,15 @@ pub symbols-step : (ss : List Symbol) (i place : ℕ) (s : Symbol) (all out more
     → all ≡ more ++ symbols_bytes (place + length s.name + 1) (drop (i + 1) ss)
 symbols-step ss i place s all out more is h m =
     let rest = symbols_bytes (place + length s.name + 1) (drop (i + 1) ss) in
-    h ∙ ap (λ (l : List Symbol). out ++ symbols_bytes place l) is ∙ sym (append_assoc out (bytes_of (sym_fields (symbol_record place s))) rest)
+    h ∙ ap (λ (l : List Symbol). out ++ symbols_bytes place l) is
+    ∙ sym (append_assoc out (bytes_of (sym_fields (symbol_record place s))) rest)
     ∙ ap (λ (l : List ℕ). l ++ rest) (sym m)
 
 pub fit-here : (ss : List Symbol) (i place : ℕ) (s : Symbol) → drop i ss ≡ s ∷ drop (i + 1) ss → NamesFit place (drop i ss) → place < 2 ^ 32
 fit-here ss i place s is h = (subst (NamesFit place) is h).0
 
-pub fit-step : (ss : List Symbol) (i place : ℕ) (s : Symbol) → drop i ss ≡ s ∷ drop (i + 1) ss → NamesFit place (drop i ss) → NamesFit (place + length s.name + 1) (drop (i + 1) ss)
+pub fit-step : (ss : List Symbol) (i place : ℕ) (s : Symbol) → drop i ss ≡ s ∷ drop (i + 1) ss → NamesFit place (drop i ss)
+    → NamesFit (place + length s.name + 1) (drop (i + 1) ss)
 fit-step ss i place s is h = (subst (NamesFit place) is h).1
 
 -- ---- relocations
@@ -83,14 +88,17 @@ pub headers-step : (ss : List Section) (i at : ℕ) (s : Section) (all out more 
     → all ≡ more ++ flat_map header_bytes (headers_of (round16 at + s.bytes) (drop (i + 1) ss))
 headers-step ss i at s all out more is h m =
     let rest = flat_map header_bytes (headers_of (round16 at + s.bytes) (drop (i + 1) ss)) in
-    h ∙ ap (λ (l : List Section). out ++ flat_map header_bytes (headers_of at l)) is ∙ sym (append_assoc out (header_bytes (header_of s (round16 at))) rest)
+    h ∙ ap (λ (l : List Section). out ++ flat_map header_bytes (headers_of at l)) is
+    ∙ sym (append_assoc out (header_bytes (header_of s (round16 at))) rest)
     ∙ ap (λ (l : List ℕ). l ++ rest) (sym m)
 
 -- where a turn is, is below where all ends
-pub end-low : (ss : List Section) (i at : ℕ) → contents_end at (drop i ss) ≡ contents_end 64 ss → round16 (contents_end 64 ss) < 2 ^ 63 → at ≤ 2 ^ 63
+pub end-low : (ss : List Section) (i at : ℕ) → contents_end at (drop i ss) ≡ contents_end 64 ss → round16 (contents_end 64 ss) < 2 ^ 63
+    → at ≤ 2 ^ 63
 end-low ss i at h low = omega (arith, contents_grow at (drop i ss), h, low)
 
-pub step-low : (ss : List Section) (i at : ℕ) (s : Section) → drop i ss ≡ s ∷ drop (i + 1) ss → contents_end at (drop i ss) ≡ contents_end 64 ss
+pub step-low : (ss : List Section) (i at : ℕ) (s : Section) → drop i ss ≡ s ∷ drop (i + 1) ss
+    → contents_end at (drop i ss) ≡ contents_end 64 ss
     → round16 (contents_end 64 ss) < 2 ^ 63 → round16 at + s.bytes < 2 ^ 64
 step-low ss i at s is h low =
     let next = contents-step ss i at (contents_end 64 ss) s is h in

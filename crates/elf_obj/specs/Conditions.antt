@@ -1,23 +1,12 @@
 -- Conditions in order, each with the fault that it is where it fails.
-use Rattle.std.specs.Prelude.{◌≡◌, ℕ, Bool, List, [], ◌∷◌, length, take, drop, Option, Some, None, Result, MatchResult, if◌then◌else◌}
+use Rattle.std.specs.Prelude.{◌≡◌, ℕ, Bool, List, length, take, drop, Some, None, Result, MatchResult}
 use Rattle.std.specs.Str.{bytes_eq}
 use Rattle.elf_base.specs.Field.{Field, bytes_of}
+use Rattle.elf_base.specs.Conditions.{Condition, first_fault}
 use Rattle.elf_obj.specs.declared.refusal.ObjectRefusal.{ObjectRefusal}
 
-pub record Condition : Type 0 where
-  pub holds : Bool
-  pub fault : ObjectRefusal
-
-abbrev pub condition : Bool → ObjectRefusal → Condition
-condition holds fault = record { holds = holds; fault = fault }
-
--- the fault of the first condition that fails, if any does
-abbrev pub first_fault : List Condition → Option ObjectRefusal
-first_fault [] = None
-first_fault (c ∷ cs) = if c.holds then first_fault cs else Some c.fault
-
 -- an answer is the first fault, or Ok where no condition fails
-abbrev pub Tells : {T : Type 0} → Result T ObjectRefusal → List Condition → Type 0
+abbrev pub Tells : {T : Type 0} → Result T ObjectRefusal → List (Condition ObjectRefusal) → Type 0
 Tells r cs = MatchResult r (λ _. first_fault cs ≡ None) (λ e. first_fault cs ≡ Some e)
 
 -- the fields stand from a place on, one behind the other

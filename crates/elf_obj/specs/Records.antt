@@ -4,15 +4,11 @@ use Rattle.elf_base.specs.declared.header.Ehdr.{Ehdr}
 use Rattle.elf_base.specs.declared.symbol.Sym.{Sym}
 use Rattle.elf_base.specs.declared.relocation.Rela.{Rela}
 use Rattle.elf_base.specs.Field.{bytes_of}
-use Rattle.elf_base.specs.Records.{sym_fields, rela_fields}
+use Rattle.elf_base.specs.Records.{sym_fields, rela_fields, identification}
 use Rattle.elf_obj.specs.declared.parts.Symbol.{Symbol}
 use Rattle.elf_obj.specs.declared.parts.Reloc.{Reloc}
 use Rattle.elf_obj.specs.declared.parts.Home.{Home}
 use Rattle.elf_obj.specs.declared.parts.Home.TheVariants.{Undef, Text, Rodata, Init, Zero}
-
--- the identification: ELF, 64 bits, little-endian, version 1
-abbrev pub identification : List ℕ
-identification = 0x7f ∷ 0x45 ∷ 0x4c ∷ 0x46 ∷ 2 ∷ 1 ∷ 1 ∷ 0 ∷ 0 ∷ 0 ∷ 0 ∷ 0 ∷ 0 ∷ 0 ∷ 0 ∷ 0 ∷ []
 
 -- the file's header: ET_REL for EM_AARCH64, twelve section headers at a place, their names in section 7
 abbrev pub header : ℕ → Ehdr

@@ -7,34 +7,42 @@ use Rattle.elf_obj.specs.declared.section.Section.{Section}
 use Rattle.elf_obj.specs.declared.sizes.Sizes.{Sizes}
 use Rattle.elf_obj.specs.Object.{Object}
 
--- where its name stands in .shstrtab, its type and flags, its bytes in the file and when it is loaded, its link, info and entry size
-abbrev pub section : ℕ → ℕ → ℕ → ℕ → ℕ → ℕ → ℕ → ℕ → Section
-section name kind flags bytes size link info entsize = record {
+-- a section whose bytes are in the file: where its name stands in .shstrtab, its type, its flags and its size
+abbrev pub plain : ℕ → ℕ → ℕ → ℕ → Section
+plain name kind flags size = record {
   name = name;
   kind = kind;
   flags = flags;
-  bytes = bytes;
+  bytes = size;
   size = size;
-  link = link;
-  info = info;
-  entsize = entsize;
+  link = 0;
+  info = 0;
+  entsize = 0;
 }
+
+-- one that has no bytes in the file
+abbrev pub without_bytes : ℕ → ℕ → ℕ → ℕ → Section
+without_bytes name kind flags size = record (plain name kind flags size) { bytes = 0 }
+
+-- one of entries of 24 bytes, with its link and its info
+abbrev pub table : ℕ → ℕ → ℕ → ℕ → ℕ → Section
+table name kind size link info = record (plain name kind 0 size) { link = link; info = info; entsize = 24 }
 
 -- the sections 1 to 11: .text, .rodata, .data, .bss, .symtab, .strtab, .shstrtab, .rela.text, .rela.data,
 -- .memtag.globals.static and its relocations
 abbrev pub sections : Sizes → List Section
 sections z =
-    section 1 1 6 z.text z.text 0 0 0
-    ∷ section 7 1 2 z.rodata z.rodata 0 0 0
-    ∷ section 15 1 3 z.init z.init 0 0 0
-    ∷ section 21 8 3 0 z.zero 0 0 0
-    ∷ section 26 2 0 z.symbols z.symbols 6 z.first_global 24
-    ∷ section 34 3 0 z.strings z.strings 0 0 0
-    ∷ section 42 3 0 125 125 0 0 0
-    ∷ section 52 4 0 z.text_relocs z.text_relocs 5 1 24
-    ∷ section 63 4 0 z.init_relocs z.init_relocs 5 3 24
-    ∷ section 74 0x70000007 0 0 0 0 0 0
-    ∷ section 97 4 0 z.tagged z.tagged 5 10 24
+    plain 1 1 6 z.text
+    ∷ plain 7 1 2 z.rodata
+    ∷ plain 15 1 3 z.init
+    ∷ without_bytes 21 8 3 z.zero
+    ∷ table 26 2 z.symbols 6 z.first_global
+    ∷ plain 34 3 0 z.strings
+    ∷ plain 42 3 0 125
+    ∷ table 52 4 z.text_relocs 5 1
+    ∷ table 63 4 z.init_relocs 5 3
+    ∷ without_bytes 74 0x70000007 0 0
+    ∷ table 97 4 z.tagged 5 10
     ∷ []
 
 -- where the names of the symbols end that begin at a place: each has a zero byte behind it

@@ -1,6 +1,7 @@
 ghost use Rattle.std.specs.Prelude.{◌≡◌, ◌+◌, ◌*◌, ◌<◌, ◌≤◌, length, take, drop, IfOk};
 ghost use Rattle.elf_obj.specs.Object.{object_of};
-ghost use Rattle.elf_obj.specs.Claimed.{headers_at, offset_of, size_of, content_of, words_at, name_first, after_name, names_in, home_of, symbol_at, symbols_at, reloc_at, relocs_at, tag_at, tags_at, claimed};
+ghost use Rattle.elf_obj.specs.Claimed.{headers_at, offset_of, size_of, content_of, words_at, name_first, after_name, names_in, home_of};
+ghost use Rattle.elf_obj.specs.Claimed.{symbol_at, symbols_at, reloc_at, relocs_at, tag_at, tags_at, claimed};
 ghost use Rattle.elf_obj.specs.Laws.Held.{AreHeld};
 
 use crate::file::{content_of, offset_of, size_of};

@@ -1,7 +1,7 @@
 ghost use Rattle.std.specs.Prelude.{◌≡◌, ◌+◌, ◌<◌, ◌≤◌, ◌&&◌, length, take, drop};
 ghost use Rattle.std.specs.Str.{bytes_eq};
 ghost use Rattle.elf_obj.specs.Claimed.{headers_at, offset_of, size_of, content_of};
-ghost use Rattle.elf_obj.specs.ObjectFault.{is_held, all_held, are_zero, is_zero_between};
+ghost use Rattle.elf_obj.specs.ObjectFault.{is_held, all_held};
 
 use elf_base::u64_at;
 
@@ -85,26 +85,6 @@ pub(crate) fn content_of(file: &[u8], index: u64) -> &[u8]
     let start = offset_of(file, index) as usize;
     let size = size_of(file, index) as usize;
     &file[start..start + size]
-}
-
-// All of these bytes are zero.
-fn are_zero(bytes: &[u8]) -> bool
-    ensures { result ≡ are_zero bytes.now }
-{
-    bytes.iter().all(|byte| *byte == 0)
-}
-
-// The bytes from a place up to another are zero, as far as there are any.
-#[tactic(auto, unfolding(crate::specs::ObjectFault::is_zero_between))]
-pub(crate) fn is_zero_between(file: &[u8], from: u64, to: u64) -> bool
-    ensures { result ≡ is_zero_between file.now from to }
-{
-    let len = file.len() as u64;
-    if from >= len || to <= from {
-        return true;
-    }
-    let end = if to < len { to } else { len };
-    are_zero(&file[from as usize..end as usize])
 }
 
 // These bytes stand at a place.

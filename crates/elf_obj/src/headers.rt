@@ -3,16 +3,11 @@ ghost use Rattle.elf_obj.specs.Sections.{header_of};
 ghost use Rattle.elf_obj.specs.Records.{header};
 
 use crate::section::Section;
-use elf_base::{Ehdr, Shdr};
+use elf_base::{Ehdr, IDENTIFICATION, Shdr};
 
 /// The names of the sections, as they stand in `.shstrtab`.
 pub(crate) const SECTION_NAMES: [u8; 125] =
     *b"\0.text\0.rodata\0.data\0.bss\0.symtab\0.strtab\0.shstrtab\0.rela.text\0.rela.data\0.memtag.globals.static\0.rela.memtag.globals.static\0";
-
-/// The identification of the file: ELF, 64 bits, little-endian, version 1.
-pub(crate) const IDENTIFICATION: [u8; 16] = [
-    0x7f, b'E', b'L', b'F', 2, 1, 1, 0, 0, 0, 0, 0, 0, 0, 0, 0,
-];
 
 /// The header of a file whose section headers begin at a place.
 pub(crate) fn file_header(place: u64) -> Ehdr

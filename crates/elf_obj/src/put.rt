@@ -6,7 +6,8 @@ ghost use Rattle.elf_base.specs.Layout.{piece, word_bytes};
 ghost use Rattle.elf_base.specs.Laying.{put};
 ghost use Rattle.elf_base.specs.Records.{sym_fields, rela_fields};
 ghost use Rattle.elf_obj.specs.ObjectFile.{NamesFit, AllCounted, AllNumbered};
-ghost use Rattle.elf_obj.specs.Records.{home_number, type_of, symbol_record, reloc_record, tag_record, symbols_bytes, reloc_bytes, tag_bytes, name_bytes};
+ghost use Rattle.elf_obj.specs.Records.{home_number, type_of, symbol_record, reloc_record, tag_record, symbols_bytes, reloc_bytes};
+ghost use Rattle.elf_obj.specs.Records.{tag_bytes, name_bytes};
 ghost use Rattle.elf_obj.specs.Laying.{put_next};
 
 use crate::parts::{Home, Reloc, Symbol};

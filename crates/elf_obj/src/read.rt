@@ -8,12 +8,13 @@ ghost use Rattle.elf_obj.specs.Repeats.{first_repeat};
 ghost use Rattle.elf_obj.specs.Apart.{IsSound, first_shared};
 ghost use Rattle.elf_obj.specs.Claimed.{claimed};
 ghost use Rattle.elf_obj.specs.Conditions.{Tells};
-ghost use Rattle.elf_obj.specs.ObjectFault.{all_section_conditions, table_conditions, code_conditions, data_conditions, tagged_conditions, object_conditions, ObjectFault};
+ghost use Rattle.elf_obj.specs.ObjectFault.{all_section_conditions, table_conditions, code_conditions, data_conditions};
+ghost use Rattle.elf_obj.specs.ObjectFault.{tagged_conditions, object_conditions, ObjectFault};
 ghost use Rattle.elf_obj.specs.Laws.Held.{AreHeld};
 
 use crate::apart::{Shared, shared_of};
 use crate::claim::claimed;
-use crate::file::{is_zero_between, offset_of};
+use crate::file::offset_of;
 use crate::parts::ObjectParts;
 use crate::refusal::ObjectRefusal;
 use crate::relocs::{judge_relocs, judge_tags};
@@ -22,6 +23,7 @@ use crate::sections::judge_sections;
 use crate::sizes::{Sizes, sizes_of};
 use crate::start::judge_start;
 use crate::symbols::judge_symbols;
+use elf_base::is_zero_between;
 use std::alloc::Global;
 
 /// The parts of which the bytes are the file, or the first condition that fails. docs/FILES.md has the conditions.

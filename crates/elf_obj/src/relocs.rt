@@ -1,12 +1,13 @@
 ghost use Rattle.std.specs.Prelude.{◌≡◌, ◌+◌, ◌*◌, ◌<◌, ◌≤◌, ◌^◌, Some, None, [], ◌&&◌, IsTrue, length, slice_get, MatchResult};
 ghost use Rattle.elf_base.specs.Records.{rela_fields};
+ghost use Rattle.elf_base.specs.Conditions.{first_fault};
 ghost use Rattle.elf_obj.specs.ObjectFile.{AllCounted, AllNumbered};
 ghost use Rattle.elf_obj.specs.Records.{reloc_record, tag_record};
 ghost use Rattle.elf_obj.specs.Rules.{is_code_kind, is_got_kind, is_field, reloc_rule, is_variable, tag_keeps};
 ghost use Rattle.elf_obj.specs.declared.parts.Home.TheVariants.{Init, Zero};
 ghost use Rattle.elf_obj.specs.Apart.{is_found_apart, first_shared};
-ghost use Rattle.elf_obj.specs.Conditions.{stands, first_fault};
-ghost use Rattle.elf_obj.specs.ObjectFault.{is_reloc, reloc_conditions, is_tag, tag_conditions};
+ghost use Rattle.elf_obj.specs.Conditions.{stands};
+ghost use Rattle.elf_obj.specs.ObjectFault.{is_reloc, reloc_conditions, is_tag, tag_conditions, reloc_spot, tag_spot};
 
 use crate::apart::Shared;
 use crate::file::{both, stand_at};
@@ -91,8 +92,8 @@ pub(crate) fn judge_relocs(
     requires counted { AllCounted relocs.now }
     requires first_low { first < 2 ^ 63 }
     ensures { MatchResult result
-        (λ _. first_fault (reloc_conditions file.now (reloc_rule code bytes count) at 0 first relocs.now) ≡ None)
-        (λ e. first_fault (reloc_conditions file.now (reloc_rule code bytes count) at 0 first relocs.now) ≡ Some e) }
+        (λ _. first_fault (reloc_conditions file.now (reloc_rule code bytes count) (reloc_spot at 0) first relocs.now) ≡ None)
+        (λ e. first_fault (reloc_conditions file.now (reloc_rule code bytes count) (reloc_spot at 0) first relocs.now) ≡ Some e) }
 {
     let mut least: u64 = 0;
     for index in 0..relocs.len() {
@@ -155,8 +156,8 @@ pub(crate) fn judge_tags(
     requires init { shared.init ≡ first_shared Init symbols.now 0 [] tagged.now }
     requires zero { shared.zero ≡ first_shared Zero symbols.now 0 [] tagged.now }
     ensures { MatchResult result
-        (λ _. first_fault (tag_conditions file.now symbols.now at [] 0 first tagged.now) ≡ None)
-        (λ e. first_fault (tag_conditions file.now symbols.now at [] 0 first tagged.now) ≡ Some e) }
+        (λ _. first_fault (tag_conditions file.now symbols.now (tag_spot at [] 0) first tagged.now) ≡ None)
+        (λ e. first_fault (tag_conditions file.now symbols.now (tag_spot at [] 0) first tagged.now) ≡ Some e) }
 {
     let mut least: u64 = 0;
     for index in 0..tagged.len() {

@@ -1,5 +1,5 @@
 ghost use Rattle.std.specs.Prelude.{◌≡◌, ◌<◌, ◌^◌, Some, slice_get};
-ghost use Rattle.elf_obj.specs.Sections.{section, sections};
+ghost use Rattle.elf_obj.specs.Sections.{plain, without_bytes, table, sections};
 
 use crate::sizes::Sizes;
 
@@ -21,7 +21,7 @@ pub struct Section {
 
 // A section whose bytes are in the file, without entries.
 fn plain(name: u32, kind: u32, flags: u64, size: u64) -> Section
-    ensures { result ≡ section name kind flags size size 0 0 0 }
+    ensures { result ≡ plain name kind flags size }
 {
     Section {
         name,
@@ -37,7 +37,7 @@ fn plain(name: u32, kind: u32, flags: u64, size: u64) -> Section
 
 // A section whose bytes are not in the file.
 fn without_bytes(name: u32, kind: u32, flags: u64, size: u64) -> Section
-    ensures { result ≡ section name kind flags 0 size 0 0 0 }
+    ensures { result ≡ without_bytes name kind flags size }
 {
     Section {
         name,
@@ -53,7 +53,7 @@ fn without_bytes(name: u32, kind: u32, flags: u64, size: u64) -> Section
 
 // A section of entries of 24 bytes.
 fn table(name: u32, kind: u32, size: u64, link: u32, info: u64) -> Section
-    ensures { result ≡ section name kind 0 size size link info 24 }
+    ensures { result ≡ table name kind size link info }
 {
     Section {
         name,

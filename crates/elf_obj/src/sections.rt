@@ -1,18 +1,20 @@
 ghost use Rattle.std.specs.Prelude.{◌≡◌, ◌+◌, ◌*◌, ◌<◌, ◌≤◌, ◌^◌, Some, None, length, slice_get, MatchResult};
 ghost use Rattle.elf_base.specs.Records.{ehdr_fields, shdr_fields};
+ghost use Rattle.elf_base.specs.Conditions.{first_fault};
 ghost use Rattle.elf_obj.specs.Sections.{sections, names_end, sizes_of};
 ghost use Rattle.elf_obj.specs.Records.{header};
 ghost use Rattle.elf_obj.specs.Claimed.{headers_at, claimed};
-ghost use Rattle.elf_obj.specs.Conditions.{stands, first_fault};
-ghost use Rattle.elf_obj.specs.ObjectFault.{is_headed, is_strings, is_names, fixed_parts, sizes_in, is_section, contents_conditions, is_ended, all_section_conditions};
+ghost use Rattle.elf_obj.specs.Conditions.{stands};
+ghost use Rattle.elf_obj.specs.ObjectFault.{is_headed, is_strings, is_names, fixed_parts, sizes_in, is_section, contents_conditions};
+ghost use Rattle.elf_obj.specs.ObjectFault.{is_ended, all_section_conditions};
 ghost use Rattle.elf_obj.specs.Laws.Held.{AreHeld};
 
-use crate::file::{both, content_of, headers_at, is_zero_between, offset_of, size_of, stand_at};
+use crate::file::{both, content_of, headers_at, offset_of, size_of, stand_at};
 use crate::headers::{SECTION_NAMES, file_header, header_of};
 use crate::refusal::ObjectRefusal;
 use crate::section::{Section, section_at};
 use crate::sizes::Sizes;
-use elf_base::{write_ehdr, write_shdr};
+use elf_base::{is_zero_between, write_ehdr, write_shdr};
 use mt_base::round16;
 
 // The file's header, and the empty section header.

@@ -1,13 +1,12 @@
 ghost use Rattle.std.specs.Prelude.{◌≡◌, ◌≤◌, true, length, take, Some, None, MatchResult, IfOk};
 ghost use Rattle.std.specs.Str.{bytes_eq};
-ghost use Rattle.elf_obj.specs.Records.{identification};
-ghost use Rattle.elf_obj.specs.Conditions.{first_fault};
+ghost use Rattle.elf_base.specs.Conditions.{first_fault};
+ghost use Rattle.elf_base.specs.Records.{identification};
 ghost use Rattle.elf_obj.specs.ObjectFault.{start_conditions, all_held};
 
 use crate::file::all_held;
-use crate::headers::IDENTIFICATION;
 use crate::refusal::ObjectRefusal;
-use elf_base::u16_at;
+use elf_base::{IDENTIFICATION, u16_at};
 
 // The bytes that are there of the identification are as they should be.
 fn is_elf(file: &[u8]) -> bool

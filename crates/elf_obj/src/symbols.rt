@@ -1,13 +1,15 @@
-ghost use Rattle.std.specs.Prelude.{◌≡◌, ◌+◌, ◌*◌, ◌<◌, ◌≤◌, ◌^◌, ◌==◌, Some, None, [], length, take, slice_get, slice_index_or, get_or, MatchResult};
+ghost use Rattle.std.specs.Prelude.{◌≡◌, ◌+◌, ◌*◌, ◌<◌, ◌≤◌, ◌^◌, ◌==◌, Some, None, [], length, take, slice_get, slice_index_or, get_or};
+ghost use Rattle.std.specs.Prelude.{MatchResult};
 ghost use Rattle.std.specs.List.{list_any, list_all};
 ghost use Rattle.elf_base.specs.Records.{sym_fields};
+ghost use Rattle.elf_base.specs.Conditions.{first_fault};
 ghost use Rattle.elf_obj.specs.Sections.{names_end};
 ghost use Rattle.elf_obj.specs.Records.{symbol_record};
 ghost use Rattle.elf_obj.specs.Rules.{is_empty, is_named, is_new, is_whole, is_within, has_place, symbol_keeps};
 ghost use Rattle.elf_obj.specs.Repeats.{first_repeat};
 ghost use Rattle.elf_obj.specs.Claimed.{size_of};
-ghost use Rattle.elf_obj.specs.Conditions.{stands, first_fault};
-ghost use Rattle.elf_obj.specs.ObjectFault.{is_symbol, symbol_conditions};
+ghost use Rattle.elf_obj.specs.Conditions.{stands};
+ghost use Rattle.elf_obj.specs.ObjectFault.{is_symbol, symbol_conditions, symbol_spot};
 ghost use Rattle.elf_obj.specs.Laws.Held.{AreHeld};
 
 use crate::file::{both, size_of, stand_at};
@@ -100,7 +102,7 @@ fn is_symbol(
     requires within { at + 24 ≤ length file.now }
     requires locals { all_local ≡ list_all (λ e. e.local) earlier.now }
     requires new { new ≡ is_new earlier.now symbol.now }
-    ensures { result ≡ is_symbol file.now sizes.now at place earlier.now symbol.now }
+    ensures { result ≡ is_symbol file.now sizes.now (symbol_spot at place earlier.now) symbol.now }
 {
     if place >= 0x1_0000_0000 {
         return false;
@@ -113,7 +115,8 @@ fn is_symbol(
         && symbol_keeps(sizes, earlier, all_local, new, symbol)
 }
 
-// The first symbol that is not as it should be. Their records begin at a place of the file, and the first whose name is there already has a number.
+// The first symbol that is not as it should be. Their records begin at a place of the file, and the first whose name is there
+// already has a number.
 pub(crate) fn judge_symbols(
     file: &[u8],
     sizes: &Sizes,
@@ -127,8 +130,8 @@ pub(crate) fn judge_symbols(
     requires names { names_end 1 symbols.now < 2 ^ 64 }
     requires repeat { repeat ≡ first_repeat 0 [] symbols.now }
     ensures { MatchResult result
-        (λ _. first_fault (symbol_conditions file.now sizes.now at 1 1 [] symbols.now) ≡ None)
-        (λ e. first_fault (symbol_conditions file.now sizes.now at 1 1 [] symbols.now) ≡ Some e) }
+        (λ _. first_fault (symbol_conditions file.now sizes.now (symbol_spot at 1 []) 1 symbols.now) ≡ None)
+        (λ e. first_fault (symbol_conditions file.now sizes.now (symbol_spot at 1 []) 1 symbols.now) ≡ Some e) }
 {
     let mut place: u64 = 1;
     let mut all_local = true;

@@ -1,5 +1,6 @@
 -- What a descriptor is read as, case by case, from what its numbers are read as.
-use Rattle.std.proofs.Common.{◌≡◌, ℕ, ◌+◌, ◌-◌, ◌/◌, ◌%◌, ◌<◌, ◌≤◌, List, length, take, drop, Result, Ok, Err, sym, ap, ◌∙◌, arith, take_all, length-drop}
+use Rattle.std.proofs.Common.{◌≡◌, ℕ, ◌+◌, ◌-◌, ◌/◌, ◌%◌, ◌<◌, ◌≤◌, List, length, take, drop, Result, Ok, Err, sym, ap, ◌∙◌, arith}
+use Rattle.std.proofs.Common.{take_all, length-drop}
 use Rattle.std.specs.Result.{IsErrAnd}
 use Rattle.memtag_desc.specs.declared.number.Number.{Number}
 use Rattle.memtag_desc.specs.declared.refusal.DescRefusal.{DescRefusal}

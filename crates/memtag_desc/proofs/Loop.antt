@@ -1,5 +1,7 @@
 -- The loop over descriptors: what was read describes the bytes so far, and a refusal is the first fault.
-use Rattle.std.proofs.Common.{◌≡◌, ℕ, ◌+◌, ◌<◌, ◌≤◌, ◌⊎◌, List, [], ◌∷◌, ◌++◌, length, take, drop, Result, Ok, Err, refl, sym, ap, subst, ◌∙◌, arith, inl, inr, append_assoc, length-append, length-take, length-drop, take-append-drop, get_or-drop, take_all, take_at}
+use Rattle.std.proofs.Common.{◌≡◌, ℕ, ◌+◌, ◌<◌, ◌≤◌, ◌⊎◌, List, [], ◌∷◌, ◌++◌, length, take, drop, Result, Ok, Err, refl, sym, ap, subst}
+use Rattle.std.proofs.Common.{◌∙◌, arith, inl, inr, append_assoc, length-append, length-take, length-drop, take-append-drop, get_or-drop}
+use Rattle.std.proofs.Common.{take_all, take_at}
 use Rattle.std.specs.Prelude.{IfOk, IfErr, MatchResult}
 use Rattle.std.specs.Global.{Vec}
 use Rattle.std.proofs.lemmas.List.{append-nil}
@@ -7,7 +9,8 @@ use Rattle.memtag_desc.specs.declared.interval.Interval.{Interval}
 use Rattle.memtag_desc.specs.declared.record.Descriptor.{Descriptor}
 use Rattle.memtag_desc.specs.declared.refusal.DescRefusal.{DescRefusal}
 use Rattle.memtag_desc.specs.declared.refusal.DescRefusal.TheVariants.{NoMemory}
-use Rattle.memtag_desc.specs.Descriptors.{IsDescriptor, interval_at, end_of, end_from, address_limit, DescribesFrom, nothing, next, Describes}
+use Rattle.memtag_desc.specs.Descriptors.{IsDescriptor, interval_at, end_of, end_from, address_limit, DescribesFrom, nothing, next}
+use Rattle.memtag_desc.specs.Descriptors.{Describes}
 use Rattle.memtag_desc.specs.Faults.{RecordBreaks, HasFault}
 use Rattle.memtag_desc.specs.Laws.Reading.{ReadDescriptor, descriptor_at}
 use Rattle.memtag_desc.specs.Laws.ReadNumber.{IsBytes}

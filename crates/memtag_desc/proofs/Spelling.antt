@@ -1,10 +1,12 @@
 -- The loops of the writer: whatever spells the rest makes, with what was written, a spelling of the whole.
-use Rattle.std.proofs.Common.{◌≡◌, ℕ, zero, suc, ◌+◌, ◌*◌, ◌-◌, ◌/◌, ◌%◌, ◌^◌, ◌<◌, ◌≤◌, List, [], ◌∷◌, ◌++◌, length, drop, get_or, refl, sym, ap, subst, ◌∙◌, arith, append_assoc, drop-cons, add-one}
+use Rattle.std.proofs.Common.{◌≡◌, ℕ, zero, suc, ◌+◌, ◌*◌, ◌-◌, ◌/◌, ◌%◌, ◌^◌, ◌<◌, ◌≤◌, List, [], ◌∷◌, ◌++◌, length, drop, get_or, refl}
+use Rattle.std.proofs.Common.{sym, ap, subst, ◌∙◌, arith, append_assoc, drop-cons, add-one}
 use Rattle.std.proofs.Math.Nat.{pow-succ'}
 use Rattle.std.proofs.lemmas.List.{append-nil}
 use Rattle.memtag_desc.specs.declared.interval.Interval.{Interval}
 use Rattle.memtag_desc.specs.Numbers.{IsShortest, last, more, IsNumber}
-use Rattle.memtag_desc.specs.Descriptors.{IsDescriptor, small, large, interval_at, end_of, address_limit, DescribesFrom, nothing, next, Describes, HaveDescription}
+use Rattle.memtag_desc.specs.Descriptors.{IsDescriptor, small, large, interval_at, end_of, address_limit, DescribesFrom, nothing, next}
+use Rattle.memtag_desc.specs.Descriptors.{Describes, HaveDescription}
 use Rattle.memtag_desc.specs.Laws.Adding.{Adds}
 
 -- ---- a number

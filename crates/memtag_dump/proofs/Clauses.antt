@@ -34,7 +34,8 @@ only file (Ok t) found refused = λ text h. one_text file (string_bytes t) text 
 only file (Err e) found (inl none) = λ text h. none
 only file (Err e) found (inr fault) = λ text h. absurd (no_fault file text e h fault)
 
-pub refuses : (file : List ℕ) (result : Result (String Global) DumpRefusal) → IsFound file result → IsRefused file result → Refuses file result
+pub refuses : (file : List ℕ) (result : Result (String Global) DumpRefusal) → IsFound file result → IsRefused file result
+    → Refuses file result
 refuses file (Ok t) found refused = λ fault h. no_fault file (string_bytes t) fault found h
 refuses file (Err e) found (inl none) = λ fault h. inr none
 refuses file (Err e) found (inr first) = λ fault h. inl (one_fault file e fault first h)

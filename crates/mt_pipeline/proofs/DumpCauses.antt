@@ -6,7 +6,7 @@ use Rattle.memtag_dump.specs.Refusal.{HasNoText, number_of, place_of}
 use Rattle.memtag_dump.specs.Laws.OneText.{one_text, one_fault, no_fault}
 use Rattle.memtag_dump.specs.declared.refusal.DumpRefusal.{DumpRefusal}
 use Rattle.memtag_dump.specs.declared.refusal.DumpRefusal.TheVariants.{NoMemory as DumpNoMemory}
-use Rattle.mt_pipeline.specs.Dump.{Output, PutsAll, PutsPart, CauseOfDump, put, put_failed, refused, unread, no_memory, Dumps}
+use Rattle.mt_pipeline.specs.Dump.{Output, PutsAll, PutsPart, CauseOfDump, put, put_failed, refused, unread, no_memory, Dumps, with_output}
 use Rattle.mt_pipeline.specs.Counted.{UncountedReads, IsReadFault}
 use Rattle.mt_pipeline.specs.Answer.{ended_of}
 use Rattle.mt_pipeline.specs.Read.{CauseOfNoBytes}
@@ -23,7 +23,7 @@ use Rattle.mt_pipeline.proofs.SameBytes.{same_bytes, unread_wants}
 use Rattle.mt_pipeline.proofs.Statuses.{unread_not_usage}
 
 module _ {K : Type 0} (file : List ℕ) (before after : FilesSeen) (out now : Output K) where
-  dump_prints : {ended : Ended} → CauseOfDump file before after out now ended → (bytes text : List ℕ) →
+  dump_prints : {ended : Ended} → CauseOfDump file (with_output before out) (with_output after now) ended → (bytes text : List ℕ) →
       bytes_of before file ≡ Some bytes → HasText bytes text →
       ¬ ReadFailed before after → ¬ Rose out.faults now.faults → ((ended ≡ ends Done) × PutsAll text out now) ⊎ (ended ≡ ends NoMemory)
   dump_prints (put read found may has puts) bytes text holds is no_read no_put =
@@ -36,7 +36,8 @@ module _ {K : Type 0} (file : List ℕ) (before after : FilesSeen) (out now : Ou
       inr (ap ends (unread_wants file bytes before after cause holds no_read))
   dump_prints (no_memory silent) bytes text holds is no_read no_put = inr refl
 
-  dump_refuses : {ended : Ended} → CauseOfDump file before after out now ended → (bytes : List ℕ) (fault : DumpRefusal) →
+  dump_refuses : {ended : Ended} → CauseOfDump file (with_output before out) (with_output after now) ended
+      → (bytes : List ℕ) (fault : DumpRefusal) →
       bytes_of before file ≡ Some bytes →
       HasNoText bytes fault → ¬ ReadFailed before after → (ended ≡ ends (BadImage 0 (number_of fault) (place_of fault))) ⊎
       (ended ≡ ends NoMemory)
@@ -52,9 +53,9 @@ module _ {K : Type 0} (file : List ℕ) (before after : FilesSeen) (out now : Ou
   dump_refuses (no_memory silent) bytes fault holds is no_read = inr refl
 
   -- A cause is the whole of the answer.
-  pub dump_answers : (ended : Ended) → CauseOfDump file before after out now ended → SameFiles before after →
+  pub dump_answers : (ended : Ended) → CauseOfDump file (with_output before out) (with_output after now) ended → SameFiles before after →
       UncountedReads before after ended.why →
-      Dumps file before after out now ended
+      Dumps file (with_output before out) (with_output after now) ended
   dump_answers ended cause files counts = record {
     prints = λ bytes text holds is no_read no_put. dump_prints cause bytes text holds is no_read no_put;
     refuses = λ bytes fault holds is no_read. dump_refuses cause bytes fault holds is no_read;
@@ -63,7 +64,7 @@ module _ {K : Type 0} (file : List ℕ) (before after : FilesSeen) (out now : Ou
     counts = counts;
   }
 
-  pub dump_not_usage : {ended : Ended} → CauseOfDump file before after out now ended → ended.why ≡ Usage → ⊥
+  pub dump_not_usage : {ended : Ended} → CauseOfDump file (with_output before out) (with_output after now) ended → ended.why ≡ Usage → ⊥
   dump_not_usage (put read found may has puts) e = cc
   dump_not_usage (put_failed read found may has puts) e = cc
   dump_not_usage (refused read fault may none silent) e = cc
@@ -71,21 +72,22 @@ module _ {K : Type 0} (file : List ℕ) (before after : FilesSeen) (out now : Ou
   dump_not_usage (no_memory silent) e = cc
 
   pub dump_unread : (not : Unread) → CauseOfNoBytes file before after (why_unread not) → now ≡ out →
-      CauseOfDump file before after out now (ended_of (answer_to_unread not))
+      CauseOfDump file (with_output before out) (with_output after now) (ended_of (answer_to_unread not))
   dump_unread Absent cause silent = unread cause silent
   dump_unread Failed cause silent = unread cause silent
   dump_unread WantsMemory cause silent = unread cause silent
 
   pub dump_put : (bytes text : List ℕ) (answer : Answer) → MayHold before file bytes → HasText bytes text → IsPut text out now answer →
-      CauseOfDump file before after out now (ended_of answer)
+      CauseOfDump file (with_output before out) (with_output after now) (ended_of answer)
   dump_put bytes text _ may has (all puts) = put bytes text may has puts
   dump_put bytes text _ may has (part puts) = put_failed bytes text may has puts
 
   -- a refusal is the want of memory, or that of a file that has no text
   pub dump_refused : (bytes : List ℕ) (refusal : DumpRefusal) → MayHold before file bytes → now ≡ out →
       (refusal ≡ DumpNoMemory) ⊎ HasNoText bytes refusal →
-      CauseOfDump file before after out now (ended_of (answer_to_dump refusal))
+      CauseOfDump file (with_output before out) (with_output after now) (ended_of (answer_to_dump refusal))
   dump_refused bytes refusal may silent (inl wanting) =
-      subst (λ r. CauseOfDump file before after out now (ended_of (answer_to_dump r))) (sym wanting) (no_memory silent)
+      subst (λ r. CauseOfDump file (with_output before out) (with_output after now) (ended_of (answer_to_dump r))) (sym wanting)
+      (no_memory silent)
   dump_refused bytes DumpNoMemory may silent (inr none) = no_memory silent
   dump_refused bytes refusal may silent (inr none) = refused bytes refusal may none silent

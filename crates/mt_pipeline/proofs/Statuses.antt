@@ -4,6 +4,7 @@ use Rattle.a64_code.specs.declared.end.MachineEnd.{MachineEnd}
 use Rattle.a64_code.specs.declared.end.MachineEnd.TheVariants as end
 use Rattle.elf_image.specs.Image.{Image}
 use Rattle.mte_machine.specs.Objects.{Objects}
+use Rattle.tag_startup.specs.Machine.{ending}
 use Rattle.mt_pipeline.specs.Agrees.{ExitsAlways}
 use Rattle.mt_pipeline.specs.Ran.{RunsTo, default_choices, default_stack}
 use Rattle.mt_pipeline.specs.Read.{CauseOfNoBytes, absent, failed, no_memory}
@@ -42,4 +43,4 @@ pub exits_late : {S K : Type 0} (image : Image) (status steps : ℕ) (before aft
 exits_late image status steps before after ended always to enough =
     let runs = to.runs in
     to.answered ∙ ap ended_by
-    ((always.exits default_choices default_stack steps runs.outside to.end runs.output runs.left runs.machine).late enough)
+    ((always.exits default_choices default_stack steps runs.outside (ending to.end runs.output runs.left) runs.machine).late enough)

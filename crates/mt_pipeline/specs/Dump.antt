@@ -35,42 +35,54 @@ pub record PutsPart {K : Type 0} (text : List ℕ) (before after : Output K) : T
   pub content : WhereTold before.told after.told (PutGives text Failed)
   pub failed : Rose before.faults after.faults
 
+-- the files and the output
+pub record FilesAndOutput (K : Type 0) : Type 0 where
+  pub files : FilesSeen
+  pub output : Output K
+
+abbrev pub with_output : {K : Type 0} → FilesSeen → Output K → FilesAndOutput K
+with_output files output = record { files = files; output = output }
+
 -- The answers, each by its cause.
-pub data CauseOfDump {K : Type 0} (file : List ℕ) (before after : FilesSeen) (out now : Output K) : Ended → Type 0 where
+pub data CauseOfDump {K : Type 0} (file : List ℕ) (before after : FilesAndOutput K) : Ended → Type 0 where
   -- what the file says of memory tagging was put
-  put : (bytes text : List ℕ) → MayHold before file bytes → HasText bytes text → PutsAll text out now →
-      CauseOfDump file before after out now (ends Done)
+  put : (bytes text : List ℕ) → MayHold before.files file bytes → HasText bytes text → PutsAll text before.output after.output →
+      CauseOfDump file before after (ends Done)
   -- or the output failed
-  put_failed : (bytes text : List ℕ) → MayHold before file bytes → HasText bytes text → PutsPart text out now →
-      CauseOfDump file before after out now (ends OutputFault)
+  put_failed : (bytes text : List ℕ) → MayHold before.files file bytes → HasText bytes text → PutsPart text before.output after.output →
+      CauseOfDump file before after (ends OutputFault)
   -- the file has no text, by its first fault
-  refused : (bytes : List ℕ) (fault : DumpRefusal) → MayHold before file bytes → HasNoText bytes fault → now ≡ out →
-      CauseOfDump file before after out now (ends (BadImage 0 (number_of fault) (place_of fault)))
+  refused : (bytes : List ℕ) (fault : DumpRefusal) → MayHold before.files file bytes → HasNoText bytes fault
+      → after.output ≡ before.output →
+      CauseOfDump file before after (ends (BadImage 0 (number_of fault) (place_of fault)))
   -- it was not read
-  unread : {why : Why} → CauseOfNoBytes file before after why → now ≡ out → CauseOfDump file before after out now (ends why)
-  no_memory : now ≡ out → CauseOfDump file before after out now (ends NoMemory)
+  unread : {why : Why} → CauseOfNoBytes file before.files after.files why → after.output ≡ before.output
+      → CauseOfDump file before after (ends why)
+  no_memory : after.output ≡ before.output → CauseOfDump file before after (ends NoMemory)
 
 -- What `dump` of a file answers, and what it leaves of the files and on the output.
-pub record Dumps {K : Type 0} (file : List ℕ) (before after : FilesSeen) (out now : Output K) (ended : Ended) : Type 0 where
+pub record Dumps {K : Type 0} (file : List ℕ) (before after : FilesAndOutput K) (ended : Ended) : Type 0 where
   -- Where the file has a text, and no read and no put failed, it is put, or memory is wanting.
-  pub prints : (bytes text : List ℕ) → bytes_of before file ≡ Some bytes → HasText bytes text → ¬ ReadFailed before after →
-      ¬ Rose out.faults now.faults → ((ended ≡ ends Done) × PutsAll text out now) ⊎ (ended ≡ ends NoMemory)
+  pub prints : (bytes text : List ℕ) → bytes_of before.files file ≡ Some bytes → HasText bytes text
+      → ¬ ReadFailed before.files after.files →
+      ¬ Rose before.output.faults after.output.faults
+      → ((ended ≡ ends Done) × PutsAll text before.output after.output) ⊎ (ended ≡ ends NoMemory)
   -- Where it has a fault and no read failed, it is refused with it, or memory is wanting.
-  pub refuses : (bytes : List ℕ) (fault : DumpRefusal) → bytes_of before file ≡ Some bytes → HasNoText bytes fault →
-      ¬ ReadFailed before after → (ended ≡ ends (BadImage 0 (number_of fault) (place_of fault))) ⊎ (ended ≡ ends NoMemory)
+  pub refuses : (bytes : List ℕ) (fault : DumpRefusal) → bytes_of before.files file ≡ Some bytes → HasNoText bytes fault →
+      ¬ ReadFailed before.files after.files → (ended ≡ ends (BadImage 0 (number_of fault) (place_of fault))) ⊎ (ended ≡ ends NoMemory)
   -- Each answer comes only by its cause.
-  pub cause : CauseOfDump file before after out now ended
+  pub cause : CauseOfDump file before after ended
   -- No file changes.
-  pub files : SameFiles before after
+  pub files : SameFiles before.files after.files
   -- No fault of a file is counted but the one that is answered, and none of a write.
-  pub counts : UncountedReads before after ended.why
+  pub counts : UncountedReads before.files after.files ended.why
 
 abbrev pub output_of : {S K : Type 0} → Objects S K → Output K
 output_of streams = record { sink = streams.sink; told = streams.output; faults = streams.write_faults }
 
 -- Nothing is taken from the input.
 pub record DumpAnswers {S K : Type 0} (file : List ℕ) (before after : Seen S K) (ended : Ended) : Type 0 where
-  pub dumps : Dumps file before.files after.files (output_of before.streams) (output_of after.streams) ended
+  pub dumps : Dumps file (with_output before.files (output_of before.streams)) (with_output after.files (output_of after.streams)) ended
   pub source : after.streams.source ≡ before.streams.source
   pub input : after.streams.input ≡ before.streams.input
   pub input_faults : after.streams.read_faults ≡ before.streams.read_faults

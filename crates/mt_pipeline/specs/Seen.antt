@@ -4,9 +4,7 @@ use Rattle.std.specs.Option.{option_and_then}
 use Rattle.mt_outside.specs.Told.{Rose, WhereTold}
 use Rattle.mt_outside.specs.Files.{Contents}
 use Rattle.mt_outside.specs.declared.files.Files.{Ghosts as FilesGhosts}
-use Rattle.mt_outside.specs.declared.source.Source.{Ghosts as SourceGhosts}
-use Rattle.mt_outside.specs.declared.sink.Sink.{Ghosts as SinkGhosts}
-use Rattle.mte_machine.specs.Objects.{Objects, objects}
+use Rattle.mte_machine.specs.Objects.{Objects}
 
 -- ---- the files
 
@@ -50,11 +48,8 @@ pub record Seen (S K : Type 0) : Type 0 where
   pub files : FilesSeen
   pub streams : Objects S K
 
-abbrev pub seen : {F S K : Type 0} → FilesGhosts F → SourceGhosts S → SinkGhosts K → F → S → K → Seen S K
-seen files_show source_shows sink_shows files input output = record {
-  files = files_seen files_show files;
-  streams = objects source_shows sink_shows input output;
-}
+abbrev pub seen : {S K : Type 0} → FilesSeen → Objects S K → Seen S K
+seen files streams = record { files = files; streams = streams }
 
 -- no input was taken, nothing was put on the output, and no fault of the two was counted
 abbrev pub IsSilent : {S K : Type 0} → Seen S K → Seen S K → Type 0

@@ -1,5 +1,6 @@
 // The commands.
 ghost use Rattle.std.specs.Prelude.{◌≡◌};
+ghost use Rattle.mte_machine.specs.Objects.{objects};
 ghost use Rattle.mt_pipeline.specs.Answer.{ended_of};
 ghost use Rattle.mt_pipeline.specs.Build.{WritesBuilt};
 ghost use Rattle.mt_pipeline.specs.Go.{GoAnswers};
@@ -30,8 +31,8 @@ pub fn go<F: Files, S: Source, K: Sink>(
     input: &mut S,
     out: &mut K,
 ) -> Answer
-    ensures { GoAnswers file.now steps (seen F.Files S.Source K.Sink files.old input.old out.old)
-        (seen F.Files S.Source K.Sink files.new input.new out.new) (ended_of result) }
+    ensures { GoAnswers file.now steps (seen (files_seen F.Files files.old) (objects S.Source K.Sink input.old out.old))
+        (seen (files_seen F.Files files.new) (objects S.Source K.Sink input.new out.new)) (ended_of result) }
 {
     let bytes = match read_file(alloc, files, file) {
         Ok(bytes) => bytes,
@@ -87,8 +88,8 @@ pub fn run_file<F: Files, S: Source, K: Sink>(
     input: &mut S,
     out: &mut K,
 ) -> Answer
-    ensures { RunAnswers file.now steps (seen F.Files S.Source K.Sink files.old input.old out.old)
-        (seen F.Files S.Source K.Sink files.new input.new out.new) (ended_of result) }
+    ensures { RunAnswers file.now steps (seen (files_seen F.Files files.old) (objects S.Source K.Sink input.old out.old))
+        (seen (files_seen F.Files files.new) (objects S.Source K.Sink input.new out.new)) (ended_of result) }
 {
     let bytes = match read_file(alloc, files, file) {
         Ok(bytes) => bytes,

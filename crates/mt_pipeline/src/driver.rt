@@ -1,11 +1,12 @@
 // The top call.
 ghost use Rattle.std.specs.Prelude.{◌≡◌, ◌↔◌, map};
 ghost use Rattle.std.specs.String.{string_bytes};
+ghost use Rattle.mte_machine.specs.Objects.{objects};
 ghost use Rattle.mt_pipeline.specs.Answer.{ended_of};
 ghost use Rattle.mt_pipeline.specs.Answers.{Answers};
 ghost use Rattle.mt_pipeline.specs.Job.{Job, HasJob};
 ghost use Rattle.mt_pipeline.specs.NoWords.{why_without_words};
-ghost use Rattle.mt_pipeline.specs.Seen.{seen};
+ghost use Rattle.mt_pipeline.specs.Seen.{seen, files_seen};
 ghost use Rattle.mt_pipeline.specs.Status.{HasNoLine, ends, status_of};
 ghost use Rattle.mt_pipeline.specs.Usage.{UsageAnswers};
 
@@ -29,12 +30,12 @@ pub fn drive<F: Files, S: Source, K: Sink, E: Sink>(
     err: &mut E,
 ) -> Ended
     ensures answers { (job : Job) → HasJob (map string_bytes words.now) job →
-        Answers job (seen F.Files S.Source K.Sink files.old input.old out.old)
-        (seen F.Files S.Source K.Sink files.new input.new out.new) result }
+        Answers job (seen (files_seen F.Files files.old) (objects S.Source K.Sink input.old out.old))
+        (seen (files_seen F.Files files.new) (objects S.Source K.Sink input.new out.new)) result }
     ensures usage { (result.why ≡ Why.Usage) ↔ ((job : Job) → ¬ HasJob (map string_bytes words.now) job) }
     ensures no_job { ((job : Job) → ¬ HasJob (map string_bytes words.now) job) →
-        UsageAnswers (seen F.Files S.Source K.Sink files.old input.old out.old)
-        (seen F.Files S.Source K.Sink files.new input.new out.new) result }
+        UsageAnswers (seen (files_seen F.Files files.old) (objects S.Source K.Sink input.old out.old))
+        (seen (files_seen F.Files files.new) (objects S.Source K.Sink input.new out.new)) result }
 
     ensures status { result.status ≡ status_of result.status result.why }
     ensures quiet { HasNoLine result.why → err.new ≡ err.old }

@@ -1,7 +1,7 @@
 // The command `dump`.
 ghost use Rattle.std.specs.Prelude.{◌≡◌};
 ghost use Rattle.mt_pipeline.specs.Answer.{ended_of};
-ghost use Rattle.mt_pipeline.specs.Dump.{Dumps, output_seen};
+ghost use Rattle.mt_pipeline.specs.Dump.{Dumps, output_seen, with_output};
 ghost use Rattle.mt_pipeline.specs.Seen.{files_seen};
 ghost use Rattle.mt_pipeline.specs.Undumped.{IsPut, answer_to_dump};
 
@@ -13,8 +13,8 @@ use std::alloc::Global;
 
 /// Prints what an ELF file says of memory tagging.
 pub fn dump_file<F: Files, K: Sink>(alloc: Global, file: &str, files: &mut F, out: &mut K) -> Answer
-    ensures { Dumps file.now (files_seen F.Files files.old) (files_seen F.Files files.new)
-        (output_seen K.Sink out.old) (output_seen K.Sink out.new) (ended_of result) }
+    ensures { Dumps file.now (with_output (files_seen F.Files files.old) (output_seen K.Sink out.old))
+        (with_output (files_seen F.Files files.new) (output_seen K.Sink out.new)) (ended_of result) }
 {
     let bytes = match read_file(alloc, files, file) {
         Ok(bytes) => bytes,

@@ -6,7 +6,7 @@ ghost use Rattle.elf_image.specs.Ranges.{IsFileOf};
 ghost use Rattle.mt_pipeline.specs.RunFile.{RefusesRun};
 ghost use Rattle.mte_machine.specs.Objects.{objects};
 ghost use Rattle.tag_startup.specs.Loaded.{HoldsCodeAlone, IsStack};
-ghost use Rattle.tag_startup.specs.Machine.{RunsImage};
+ghost use Rattle.tag_startup.specs.Machine.{RunsImage, launch};
 
 use crate::refusal::RunRefusal;
 use elf_image::{ImageParts, read_image};
@@ -32,7 +32,7 @@ pub fn run_image<S: Source, K: Sink>(
     // The bytes are the file of an image, and its run ends so.
     ensures image { IfOk result (λ _. (image : Image) × IsFileOf image bytes.now) }
     ensures runs { IfOk result (λ end. (image : Image) → IsFileOf image bytes.now →
-        RunsImage image choices.now stack n (objects S.Source K.Sink source.old sink.old)
+        RunsImage (launch image choices.now stack n) (objects S.Source K.Sink source.old sink.old)
         (objects S.Source K.Sink source.new sink.new) end) }
 
     // What is refused is refused for its cause, unless memory ran out, and bytes with a cause are refused for it.
@@ -66,7 +66,7 @@ pub fn run_parts<S: Source, K: Sink>(
     requires valid { IsValid (image_of parts.now) }
     requires choices { choices.now ≢ [] }
     requires stack { IsStack stack }
-    ensures runs { IfOk result (λ end. RunsImage (image_of parts.now) choices.now stack n
+    ensures runs { IfOk result (λ end. RunsImage (launch (image_of parts.now) choices.now stack n)
         (objects S.Source K.Sink source.old sink.old) (objects S.Source K.Sink source.new sink.new) end) }
     ensures not_yet { IsErrOf result StartRefusal.NotYet → ¬ HoldsCodeAlone (image_of parts.now) }
     ensures refused { IfErr result (λ _. (source.new ≡ source.old) × (sink.new ≡ sink.old)) }

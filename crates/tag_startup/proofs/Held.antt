@@ -15,10 +15,11 @@ use Rattle.elf_image.specs.Places.{IsValid, rodata_end, code_place, code_end, dy
 use Rattle.elf_image.specs.LoadedBytes.{read_only_bytes, code_bytes, writable_bytes}
 use Rattle.elf_image.specs.Laws.CodeBytes.{file_of, file_of-is}
 use Rattle.elf_image.specs.Laws.FileBytes.{file_bytes}
-use Rattle.elf_image.specs.Laws.Loading.{length-padded, read_only_held, code_held, writable_held}
+use Rattle.elf_image.specs.Laws.Loading.{read_only_held, code_held, writable_held}
 use Rattle.elf_base.specs.Laying.{pad}
 use Rattle.mt_base.specs.Granules.{round16}
 use Rattle.mt_base.specs.Laws.Granules.{round16-covers}
+use Rattle.elf_base.specs.Laws.LaidOut.{length-pad}
 use Rattle.tag_startup.specs.Loaded.{IsStack, load_address, stack_end, part, stack_region, loaded_regions, loaded_byte}
 use Rattle.tag_startup.specs.Laws.Placed.{in_order}
 
@@ -68,7 +69,7 @@ pub extent_is : (start end : ℕ) (writable executable : Bool) (bytes items : Li
     items ≡ pad (round16 (end - start)) bytes →
     extent start writable executable (length items) ≡ part start end writable executable
 extent_is start end writable executable bytes items fits is =
-    ap (extent start writable executable) (ap length is ∙ length-padded (round16 (end - start)) bytes
+    ap (extent start writable executable) (ap length is ∙ length-pad (round16 (end - start)) bytes
     (omega (arith, fits, round16-covers (end - start))))
 
 -- the three parts of an image

@@ -10,30 +10,46 @@ use Rattle.mte_machine.specs.Objects.{Objects, MayAnswer, MayHaveTaken, Fits, Go
 use Rattle.mte_machine.specs.Run.{run, end_of, output_after, answers_after}
 use Rattle.tag_startup.specs.Loaded.{HoldsCodeAlone, loaded}
 
--- The image starts with these choices and a stack of so many bytes, and its run of at most n steps over this outside ends so,
--- with this output, and these answers of the source left. There is no run of an image that does not start.
-pub record Machine (image : Image) (choices : List ℕ) (stack n : ℕ) (outside : Outside) (end : MachineEnd) (output : List ℕ)
-    (left : List (Option ℕ)) : Type 0 where
-  pub starts : HoldsCodeAlone image
-  pub ends : end ≡ end_of (run n (loaded image choices stack outside))
-  pub puts : output ≡ output_after (run n (loaded image choices stack outside))
-  pub leaves : left ≡ answers_after (run n (loaded image choices stack outside))
+-- an image, what its start is given (the random tags that are drawn in turn, and the bytes of the stack), and how many steps it may run
+pub record Launch : Type 0 where
+  pub image : Image
+  pub choices : List ℕ
+  pub stack : ℕ
+  pub steps : ℕ
 
--- the run over this outside ends so
-pub record MachineEnds (image : Image) (choices : List ℕ) (stack n : ℕ) (outside : Outside) (end : MachineEnd) : Type 0 where
+abbrev pub launch : Image → List ℕ → ℕ → ℕ → Launch
+launch image choices stack steps = record { image = image; choices = choices; stack = stack; steps = steps }
+
+-- how a run ends, with its output, and these answers of the source left
+pub record Ending : Type 0 where
+  pub end : MachineEnd
   pub output : List ℕ
   pub left : List (Option ℕ)
-  pub machine : Machine image choices stack n outside end output left
+
+abbrev pub ending : MachineEnd → List ℕ → List (Option ℕ) → Ending
+ending end output left = record { end = end; output = output; left = left }
+
+-- The image starts so, and its run of at most so many steps over this outside ends so. There is no run of an image that does not start.
+pub record Machine (l : Launch) (outside : Outside) (e : Ending) : Type 0 where
+  pub starts : HoldsCodeAlone l.image
+  pub ends : e.end ≡ end_of (run l.steps (loaded l.image l.choices l.stack outside))
+  pub puts : e.output ≡ output_after (run l.steps (loaded l.image l.choices l.stack outside))
+  pub leaves : e.left ≡ answers_after (run l.steps (loaded l.image l.choices l.stack outside))
+
+-- the run over this outside ends so
+pub record MachineEnds (l : Launch) (outside : Outside) (end : MachineEnd) : Type 0 where
+  pub output : List ℕ
+  pub left : List (Option ℕ)
+  pub machine : Machine l outside (ending end output left)
 
 -- What a run over a source and a sink answers, and what it leaves of them: there is an outside that the two may stand for, over
 -- which the run is that of the image.
-pub record RunsImage {S K : Type 0} (image : Image) (choices : List ℕ) (stack n : ℕ) (before after : Objects S K)
-    (end : MachineEnd) : Type 0 where
+pub record RunsImage {S K : Type 0} (l : Launch) (before after : Objects S K) (end : MachineEnd) : Type 0 where
   pub outside : Outside
   pub fits : Fits before outside
   pub output : List ℕ
   pub left : List (Option ℕ)
-  pub machine : Machine image choices stack n outside end output left
+  pub machine : Machine l outside (ending end output left)
   -- what the two tell afterwards
   pub goes_on : GoesOn before after
   pub left_told : MayAnswer after.input left
@@ -44,7 +60,5 @@ pub record RunsImage {S K : Type 0} (image : Image) (choices : List ℕ) (stack 
   -- and the count of an object stays where the end is no fault of it
   pub counts : CountsUpTo before after end
   -- an object that the run asks for nothing stays as it is
-  pub source_kept : (other : MachineEnd) → MachineEnds image choices stack n (without_input outside) other → other ≢ InputFault →
-      after.source ≡ before.source
-  pub sink_kept : (other : MachineEnd) → MachineEnds image choices stack n (without_output outside) other → other ≢ OutputFault →
-      after.sink ≡ before.sink
+  pub source_kept : (other : MachineEnd) → MachineEnds l (without_input outside) other → other ≢ InputFault → after.source ≡ before.source
+  pub sink_kept : (other : MachineEnd) → MachineEnds l (without_output outside) other → other ≢ OutputFault → after.sink ≡ before.sink

@@ -139,7 +139,8 @@ seen_allowed true test ts e = refl
 seen_allowed false test [] e = cc
 seen_allowed false test (x ∷ ts) e = cc
 
-pub ending_block : (d : ℕ) (p : ParametersRead) (ts : List Token) → sees_block p ts ≡ true → ending d p ts ≡ makes body_of (block (d + 1)) ts
+pub ending_block : (d : ℕ) (p : ParametersRead) (ts : List Token) → sees_block p ts ≡ true → ending d p ts ≡
+    makes body_of (block (d + 1)) ts
 unfolding ending
 ending_block d p ts e = either_one _ p.all_named (makes body_of (block (d + 1))) (makes no_body (punct mark.Semicolon)) ts e
     (seen_allowed p.all_named (is (punctuator mark.LeftBrace)) ts e)
@@ -156,12 +157,14 @@ function_is d a ts = refl
 pub after_function : (d : ℕ) (of : CType) (a : Declared) (ts : List Token) → sees (is (punctuator mark.LeftParen)) ts ≡ true →
     after_name d of a ts ≡ function d a ts
 unfolding after_name
-after_function d of a ts e = either_one (is (punctuator mark.LeftParen)) true (function d a) (makes behind.Objects (rest (d + 1) of a)) ts e refl
+after_function d of a ts e = either_one (is (punctuator mark.LeftParen)) true (function d a) (makes behind.Objects (rest (d + 1) of a)) ts
+    e refl
 
 pub after_objects : (d : ℕ) (of : CType) (a : Declared) (ts : List Token) → sees (is (punctuator mark.LeftParen)) ts ≡ false →
     after_name d of a ts ≡ makes behind.Objects (rest (d + 1) of a) ts
 unfolding after_name
-after_objects d of a ts e = either_other (is (punctuator mark.LeftParen)) true (function d a) (makes behind.Objects (rest (d + 1) of a)) ts e
+after_objects d of a ts e = either_other (is (punctuator mark.LeftParen)) true (function d a) (makes behind.Objects (rest (d + 1) of a))
+    ts e
 
 pub named_is : (d : ℕ) (of : CType) (ts : List Token) → named d of ts ≡ makes (λ c. c.1) (thens (starred (d + 1) of) (after_name d of)) ts
 unfolding named
@@ -221,7 +224,8 @@ pub next_is : (d : ℕ) (a : Externals) (ts : List Token) → next_external d a 
 unfolding next_external
 next_is d a ts = refl
 
-pub next_read : (d : ℕ) (a b : Externals) (ts us : List Token) → external d ts ≡ Read b us → next_external d a ts ≡ Read (more_externals a b) us
+pub next_read : (d : ℕ) (a b : Externals) (ts us : List Token) → external d ts ≡ Read b us → next_external d a ts ≡
+    Read (more_externals a b) us
 next_read d a b ts us e = next_is d a ts ∙ ap (λ o. and_then o (λ b us. Read (more_externals a b) us)) e
 
 pub may_follow : (d : ℕ) (a : Externals) → a.height ≤ d + 2 → MayTurn (Low d) (λ _. true) a

@@ -54,7 +54,8 @@ after_name_grows d of a = grows_either (is (punctuator mark.LeftParen)) true tru
 tail_grows : (d : ℕ) (s : Specifiers) → Grows (tail d s) (tail (suc d) s)
 unfolding tail named
 tail_grows d s = grows_either _ (is_lone s) (is_lone s) (λ e. e) (λ _. grows_same (makes (λ _. behind.Lone) (punct mark.Semicolon)))
-    (grows_made (λ c. c.1) (grows_then (grows_above (λ d. starred d s.head.base) (λ d. starred_grows d s.head.base) d) (after_name_grows d s.head.base)))
+    (grows_made (λ c. c.1) (grows_then (grows_above (λ d. starred d s.head.base) (λ d. starred_grows d s.head.base) d)
+    (after_name_grows d s.head.base)))
 
 declaration_grows : (d : ℕ) → Grows (declaration d) (declaration (suc d))
 unfolding declaration

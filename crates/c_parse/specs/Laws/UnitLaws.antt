@@ -85,7 +85,9 @@ include_picked (lexeme.Keyword k) v e = cc
 include_picked (lexeme.Punct p) v e = cc
 
 include_low : (d : ℕ) (v : Externals) (w : List Token) → Word pick_include v w → Low d v
-include_low d v w (one_word_of {x = t} e) = let h : 0 ≡ v.height = ap (λ (v : Externals). v.height) (include_picked t.kind v e).1 in omega arith
+include_low d v w (one_word_of {x = t} e) =
+    let h : 0 ≡ v.height = ap (λ (v : Externals). v.height) (include_picked t.kind v e).1 in
+    omega arith
 
 include_good : (d : ℕ) → Good (word pick_include) (Word pick_include) (Low d) is_include nothing
 include_good d = good_as (Word pick_include) (Low d) is_include
@@ -153,7 +155,8 @@ next_begins a t e = let b = external_begins t e in record {
 
 may_go_on : (d : ℕ) (a b : Externals) (u : List Token) → NextExternal a b u → Low d b → MayTurn (Low d) (λ _. true) a
 may_go_on d a b u m low =
-    let high : max a.height m.source.height ≡ b.height = ap (λ (v : Externals). v.height) m.is in record { fits = omega arith; has_room = refl }
+    let high : max a.height m.source.height ≡ b.height = ap (λ (v : Externals). v.height) m.is in
+    record { fits = omega arith; has_room = refl }
 
 abbrev pub goes_on_unit : Externals → Token → Bool
 goes_on_unit a t = begins_external t

@@ -108,7 +108,8 @@ all_deep d front t h more program depth s =
     (some_seen program depth ((all_seen front ++ seen t ∷ []) ++ all_seen more) (some_more (seen t) (all_seen front) (all_seen more))
     (subst (λ w. TranslationUnit depth program.items w) (seen-behind front t more) s))
 
-first_too_deep : (d : ℕ) (ts : List Token) (place : ℕ) → FirstDeep UnitWord levels_below d (all_seen ts) place → FirstTooDeep (d + 2) ts place
+first_too_deep : (d : ℕ) (ts : List Token) (place : ℕ) → FirstDeep UnitWord levels_below d (all_seen ts) place →
+    FirstTooDeep (d + 2) ts place
 first_too_deep d ts place w =
     let p : Parts ts w.taken (w.token ∷ w.rest) = parts_of ts w.taken (w.token ∷ w.rest) w.before.parts in
     let f : First p.back w.token w.rest = first_of p.back w.token w.rest p.back_seen in
@@ -177,7 +178,8 @@ parsed_stop d ts us (stop.Fault Unexpected) some h =
     (all_seen ts) us Unexpected h))
 parsed_stop d ts us (stop.Fault TooDeep) some h =
     subst (λ place. FirstTooDeep (d + 2) ts place) (same_place ts us)
-    (first_too_deep d ts (place_in (all_seen ts) us) (gives_stop unit UnitWord levels_below unit_good unit_grows d (all_seen ts) us TooDeep h))
+    (first_too_deep d ts (place_in (all_seen ts) us) (gives_stop unit UnitWord levels_below unit_good unit_grows d (all_seen ts) us
+    TooDeep h))
 parsed_stop d ts us stop.NoMemory some h = tt
 
 -- a program within the limit is read, if memory is not wanting

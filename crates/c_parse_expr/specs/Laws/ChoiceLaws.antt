@@ -193,7 +193,10 @@ assign_listed w = one_chosen w (punctuator mark.Equal) None _
     (one_chosen w (punctuator mark.CaretEqual) (Some assign.BitXor) _ (punctuator mark.BarEqual ∷ [])
     (one_chosen w (punctuator mark.BarEqual) (Some assign.BitOr) None ([])
     (λ h. cc) (w == punctuator mark.BarEqual) refl) (w == punctuator
-    mark.CaretEqual) refl) (w == punctuator mark.AmpersandEqual) refl) (w == punctuator mark.ShiftRightEqual) refl) (w == punctuator mark.ShiftLeftEqual) refl) (w == punctuator mark.PercentEqual) refl) (w == punctuator mark.SlashEqual) refl) (w == punctuator mark.StarEqual) refl) (w == punctuator mark.MinusEqual) refl) (w == punctuator mark.PlusEqual) refl) (w == punctuator mark.Equal) refl
+    mark.CaretEqual) refl) (w == punctuator mark.AmpersandEqual) refl) (w == punctuator mark.ShiftRightEqual) refl)
+    (w == punctuator mark.ShiftLeftEqual) refl) (w == punctuator mark.PercentEqual) refl) (w == punctuator mark.SlashEqual) refl)
+    (w == punctuator mark.StarEqual) refl) (w == punctuator mark.MinusEqual) refl) (w == punctuator mark.PlusEqual) refl)
+    (w == punctuator mark.Equal) refl
 
 assign_is : (w : ℕ) (o : Option AssignOperator) → assign_word w ≡ Some o → w ≡ assign_number o
 assign_is w = chosen_is assign_number w (punctuator mark.Equal) None _ refl
@@ -208,7 +211,10 @@ assign_is w = chosen_is assign_number w (punctuator mark.Equal) None _ refl
     (chosen_is assign_number w (punctuator mark.CaretEqual) (Some assign.BitXor) _ refl
     (chosen_is assign_number w (punctuator mark.BarEqual) (Some assign.BitOr) None refl
     (λ b h. cc) (w == punctuator mark.BarEqual) refl) (w == punctuator
-    mark.CaretEqual) refl) (w == punctuator mark.AmpersandEqual) refl) (w == punctuator mark.ShiftRightEqual) refl) (w == punctuator mark.ShiftLeftEqual) refl) (w == punctuator mark.PercentEqual) refl) (w == punctuator mark.SlashEqual) refl) (w == punctuator mark.StarEqual) refl) (w == punctuator mark.MinusEqual) refl) (w == punctuator mark.PlusEqual) refl) (w == punctuator mark.Equal) refl
+    mark.CaretEqual) refl) (w == punctuator mark.AmpersandEqual) refl) (w == punctuator mark.ShiftRightEqual) refl)
+    (w == punctuator mark.ShiftLeftEqual) refl) (w == punctuator mark.PercentEqual) refl) (w == punctuator mark.SlashEqual) refl)
+    (w == punctuator mark.StarEqual) refl) (w == punctuator mark.MinusEqual) refl) (w == punctuator mark.PlusEqual) refl)
+    (w == punctuator mark.Equal) refl
 
 assign_found : (w : ℕ) (o : Option AssignOperator) → w ≡ assign_number o → assign_word w ≡ Some o
 assign_found w None e = ap assign_word e

@@ -58,7 +58,8 @@ unary_listed w = chosen w (punctuator mark.Ampersand) operator.AddressOf _
     (chosen w (punctuator mark.Tilde) operator.Complement _ (punctuator mark.Exclamation ∷ [])
     (chosen w (punctuator mark.Exclamation) operator.Not None []
     (λ h. cc) (w == punctuator mark.Exclamation) refl) (w == punctuator
-    mark.Tilde) refl) (w == punctuator mark.Minus) refl) (w == punctuator mark.Plus) refl) (w == punctuator mark.Star) refl) (w == punctuator mark.Ampersand) refl
+    mark.Tilde) refl) (w == punctuator mark.Minus) refl) (w == punctuator mark.Plus) refl) (w == punctuator mark.Star) refl)
+    (w == punctuator mark.Ampersand) refl
 
 pub chosen_is : {A : Type 0} (f : A → ℕ) (w v : ℕ) (a : A) (rest : Option A) → f a ≡ v → ((b : A) → rest ≡ Some b → w ≡ f b) →
     (x : Bool) → (w == v) ≡ x → (b : A) → (if x then Some a else rest) ≡ Some b → w ≡ f b
@@ -78,7 +79,8 @@ unary_is w = chosen_is operator_mark w (punctuator mark.Ampersand) operator.Addr
     (chosen_is operator_mark w (punctuator mark.Minus) operator.Minus _ refl
     (chosen_is operator_mark w (punctuator mark.Tilde) operator.Complement _ refl
     (chosen_is operator_mark w (punctuator mark.Exclamation) operator.Not None refl (λ b h. cc) (w == punctuator mark.Exclamation) refl)
-    (w == punctuator mark.Tilde) refl) (w == punctuator mark.Minus) refl) (w == punctuator mark.Plus) refl) (w == punctuator mark.Star) refl) (w == punctuator mark.Ampersand) refl
+    (w == punctuator mark.Tilde) refl) (w == punctuator mark.Minus) refl) (w == punctuator mark.Plus) refl) (w == punctuator mark.Star)
+    refl) (w == punctuator mark.Ampersand) refl
 
 unary_found : (w : ℕ) (o : UnaryOperator) → w ≡ operator_mark o → unary_word w ≡ Some o
 unary_found w operator.AddressOf e = ap unary_word e

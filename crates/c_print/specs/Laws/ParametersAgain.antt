@@ -73,4 +73,8 @@ parameters_again (grammar.void {ds} l r pl ps one pr) =
     (record { tree = []; word = grammar.void l r pl a.word (void_alike ds a.tree a.same one) pr; same = refl }))))
 parameters_again (grammar.parameters {ds} l r pl ps more pr) =
     word l pl (λ l pl. before (list_again ps) (λ v a. word r pr (λ r pr. done
-    (record { tree = a.tree; word = grammar.parameters l r pl a.word (λ one. more (void_alike a.tree ds (sym a.same) one)) pr; same = a.same }))))
+    (record {
+      tree = a.tree;
+      word = grammar.parameters l r pl a.word (λ one. more (void_alike a.tree ds (sym a.same) one)) pr;
+      same = a.same;
+    }))))

@@ -9,7 +9,8 @@ use Rattle.c_type_base.specs.declared.ty.Ty.TheFolds.{ind-Ty}
 use Rattle.c_type_base.specs.declared.typed.StructInfo.{StructInfo}
 use Rattle.c_type_base.specs.Sizes.{size, align, is_complete, complete_struct, bytes_of_struct, align_of_struct}
 use Rattle.c_type_base.specs.Layout.{round_up, places, end_of, struct_align, struct_size, IsLaidOut, type_of}
-use Rattle.c_type_base.specs.Laws.SizeLaws.{size-int, size-pointer, size-array, size-struct, align-int, align-pointer, align-array, align-struct, complete-void, complete-int, complete-pointer, complete-array, complete-struct}
+use Rattle.c_type_base.specs.Laws.SizeLaws.{size-int, size-pointer, size-array, size-struct, align-int, align-pointer, align-array}
+use Rattle.c_type_base.specs.Laws.SizeLaws.{align-struct, complete-void, complete-int, complete-pointer, complete-array, complete-struct}
 
 -- each struct that is complete in the one table is the same in the other
 abbrev pub Extends : List StructInfo → List StructInfo → Type 0

@@ -1,6 +1,7 @@
 -- What the layout of structs promises: alignments are positive, each member stands on a multiple of its own and behind the one before,
 -- and within the struct.
-use Rattle.std.proofs.Common.{◌≡◌, refl, subst, ℕ, zero, suc, ◌+◌, ◌-◌, ◌/◌, ◌%◌, ◌≤◌, ◌<◌, List, [], ◌∷◌, map, slice_get, slice_index, Option, Some, None, arith, lit≤}
+use Rattle.std.proofs.Common.{◌≡◌, refl, subst, ℕ, zero, suc, ◌+◌, ◌-◌, ◌/◌, ◌%◌, ◌≤◌, ◌<◌, List, [], ◌∷◌, map, slice_get, slice_index}
+use Rattle.std.proofs.Common.{Option, Some, None, arith, lit≤}
 use Rattle.std.proofs.Math.Nat.{mod-lt, mod-eq-sub-div-mul, div-mul-le_self, mul-mod_left}
 use Rattle.c_ast.specs.declared.int_type.IntType.{IntType}
 use Rattle.c_ast.specs.declared.int_type.IntType.TheVariants as int

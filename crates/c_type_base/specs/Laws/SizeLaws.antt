@@ -8,7 +8,8 @@ use Rattle.c_type_base.specs.declared.ty.Ty.TheVariants as ty
 use Rattle.c_type_base.specs.declared.ty.Ty.TheOpen.{Ty-F}
 use Rattle.c_type_base.specs.declared.ty.Ty.TheFolds.{fold-roll-Ty}
 use Rattle.c_type_base.specs.declared.typed.StructInfo.{StructInfo}
-use Rattle.c_type_base.specs.Sizes.{int_bytes, size, size_step, align, align_step, is_complete, complete_step, bytes_of_struct, align_of_struct, complete_struct}
+use Rattle.c_type_base.specs.Sizes.{int_bytes, size, size_step, align, align_step, is_complete, complete_step, bytes_of_struct}
+use Rattle.c_type_base.specs.Sizes.{align_of_struct, complete_struct}
 
 pub size-void : (structs : List StructInfo) → size structs ty.Void ≡ 0
 unfolding given_types

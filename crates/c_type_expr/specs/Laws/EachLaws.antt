@@ -1,5 +1,6 @@
 -- A walk that passes the constructs of a list one by one passes the list.
-use Rattle.std.proofs.Common.{◌≡◌, refl, sym, ◌∙◌, ap, subst, ℕ, ◌+◌, ◌<◌, List, [], ◌∷◌, ◌++◌, map, take, get_or, length, Option, Some, None}
+use Rattle.std.proofs.Common.{◌≡◌, refl, sym, ◌∙◌, ap, subst, ℕ, ◌+◌, ◌<◌, List, [], ◌∷◌, ◌++◌, map, take, get_or, length, Option, Some}
+use Rattle.std.proofs.Common.{None}
 use Rattle.std.proofs.lemmas.List.{take_more, map-append}
 use Rattle.c_type_expr.specs.declared.walk.Walk.{Walk}
 use Rattle.c_type_expr.specs.Outcomes.{Judged, behind, listed, each}

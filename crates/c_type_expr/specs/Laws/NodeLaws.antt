@@ -17,8 +17,10 @@ use Rattle.c_type_expr.specs.Operators.{binary_judged, sort_of}
 use Rattle.c_type_expr.specs.Said.{Said, whole}
 use Rattle.c_type_base.specs.Types.{struct_of}
 use Rattle.c_type_expr.specs.Postfix.{member_row, call}
-use Rattle.c_type_expr.specs.Expressions.{expression, written, in_parentheses, unary_row, assign_row, conditional, cast_judged, sizeof_row, sizeof_type, index_of, arrow_of, step_row}
-use Rattle.c_type_expr.specs.Laws.SaidLaws.{said-paren, said-unary, said-binary, said-assign, said-cond, said-cast, said-sizeof, said-sizeof_name, said-call, said-index, said-member, said-arrow, said-step}
+use Rattle.c_type_expr.specs.Expressions.{expression, written, in_parentheses, unary_row, assign_row, conditional, cast_judged}
+use Rattle.c_type_expr.specs.Expressions.{sizeof_row, sizeof_type, index_of, arrow_of, step_row}
+use Rattle.c_type_expr.specs.Laws.SaidLaws.{said-paren, said-unary, said-binary, said-assign, said-cond, said-cast, said-sizeof}
+use Rattle.c_type_expr.specs.Laws.SaidLaws.{said-sizeof_name, said-call, said-index, said-member, said-arrow, said-step}
 use Rattle.c_type_expr.specs.Walked.{Walked}
 use Rattle.c_type_expr.specs.Laws.WalkedLaws.{walked_on, walked_on_none, walked_either, walked_either_none}
 
@@ -85,7 +87,8 @@ pub judged-cast : (span : Span) (t : CType) (e : Expr) → (expression (expr spa
     cast_judged (written t) (expression e) span
 judged-cast span t e = ap judged_in (said-cast span t e)
 
-pub judged-sizeof : (span : Span) (e : Expr) → (expression (expr span (node.SizeofExpr e))).judged ≡ on (expression e).judged (sizeof_row span)
+pub judged-sizeof : (span : Span) (e : Expr) → (expression (expr span (node.SizeofExpr e))).judged ≡
+    on (expression e).judged (sizeof_row span)
 judged-sizeof span e = ap judged_in (said-sizeof span e)
 
 pub judged-sizeof_name : (span : Span) (t : CType) → (expression (expr span (node.SizeofName t))).judged ≡

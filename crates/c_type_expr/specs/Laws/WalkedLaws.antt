@@ -4,7 +4,8 @@ use Rattle.c_ast.specs.declared.token.Span.{Span}
 use Rattle.c_type_expr.specs.declared.fault.Fault.{Fault}
 use Rattle.c_type_expr.specs.declared.walk.Walk.{Walk}
 use Rattle.c_type_expr.specs.Faults.{Rule, rule, fault, broken, all_kept}
-use Rattle.c_type_expr.specs.Outcomes.{Outcome, Judged, behind, joined, sure, not_known, pair, both, listed, each, present, perhaps, continued, on, met, either, asked, ruled, only_kept}
+use Rattle.c_type_expr.specs.Outcomes.{Outcome, Judged, behind, joined, sure, not_known, pair, both, listed, each, present, perhaps}
+use Rattle.c_type_expr.specs.Outcomes.{continued, on, met, either, asked, ruled, only_kept}
 use Rattle.c_type_expr.specs.Operators.{breaks}
 use Rattle.c_type_expr.specs.Least.{earlier, first_with}
 use Rattle.c_type_expr.specs.Walked.{env_of, blamed, passed_by, Walked, Followed, Met}

@@ -1,7 +1,9 @@
 -- Numbers as bytes, and records by their fields: what the crates above may cite.
-use Rattle.std.proofs.Common.{◌≡◌, ℕ, ℤ, zero, suc, ◌+◌, ◌*◌, ◌/◌, ◌%◌, ◌^◌, ◌<◌, ◌≤◌, List, [], ◌∷◌, length, take, drop, get_or, refl, sym, ap, ◌∙◌, arith, length-append, drop-cons}
+use Rattle.std.proofs.Common.{◌≡◌, ℕ, ℤ, zero, suc, ◌+◌, ◌*◌, ◌/◌, ◌%◌, ◌^◌, ◌<◌, ◌≤◌, List, [], ◌∷◌, length, take, drop, get_or, refl}
+use Rattle.std.proofs.Common.{sym, ap, ◌∙◌, arith, length-append, drop-cons}
 use Rattle.std.proofs.Math.Nat.{div-div-eq-div-mul, pow-succ'}
 use Rattle.std.specs.Int.{w64, byte_at, bytes_low_first, cast_unsigned}
+use Rattle.std.specs.List.{flat_map}
 use Rattle.byteorder.specs.Endian.{little_bytes, little_from, little_number}
 use Rattle.byteorder.specs.Numbers.{length-bytes_low_first}
 use Rattle.elf_base.specs.declared.header.Ehdr.{Ehdr}
@@ -9,6 +11,7 @@ use Rattle.elf_base.specs.declared.segment.Phdr.{Phdr}
 use Rattle.elf_base.specs.declared.dynamic.Dyn.{Dyn}
 use Rattle.elf_base.specs.Records.{ehdr_fields, phdr_fields, dyn_fields}
 use Rattle.elf_base.specs.Field.{Field, number, signed, raw, width_of, field_bytes, bytes_of, total_width, FieldFits, FieldsFit}
+use Rattle.elf_base.specs.Layout.{word_bytes}
 
 -- each number of a list is a byte
 abbrev pub IsBytes : List ℕ → Type 0
@@ -18,7 +21,8 @@ IsBytes xs = (i : ℕ) → get_or xs i 0 < 256
 byte_at-above : (j a m : ℕ) → a < 256 → byte_at (suc j) (a + 256 * m) ≡ byte_at j m
 byte_at-above zero a m h = omega arith
 byte_at-above (suc j) a m h =
-    let shift : (a + 256 * m) / 256 ^ suc (suc j) ≡ (a + 256 * m) / 256 / 256 ^ suc j = ap (λ (p : ℕ). (a + 256 * m) / p) (pow-succ' 256 (suc j)) ∙ sym (div-div-eq-div-mul (a + 256 * m) 256 (256 ^ suc j)) in
+    let shift : (a + 256 * m) / 256 ^ suc (suc j) ≡ (a + 256 * m) / 256 / 256 ^ suc j =
+    ap (λ (p : ℕ). (a + 256 * m) / p) (pow-succ' 256 (suc j)) ∙ sym (div-div-eq-div-mul (a + 256 * m) 256 (256 ^ suc j)) in
     let low : (a + 256 * m) / 256 ≡ m = omega arith in
     ap (λ (q : ℕ). q % 256) (shift ∙ ap (λ (q : ℕ). q / 256 ^ suc j) low)
 
@@ -38,7 +42,8 @@ bytes-little_from (suc k) i xs fits h =
     rw (low, rest, ih, drop-cons xs i 0) refl
 
 -- the bytes of the number read from some bytes are these bytes
-pub little_bytes-little_number : (width : ℕ) (xs : List ℕ) → IsBytes xs → width ≤ length xs → little_bytes width (little_number width xs) ≡ take width xs
+pub little_bytes-little_number : (width : ℕ) (xs : List ℕ) → IsBytes xs → width ≤ length xs
+    → little_bytes width (little_number width xs) ≡ take width xs
 little_bytes-little_number width xs fits h = bytes-little_from width 0 xs fits (omega arith)
 
 -- a field has as many bytes as its width
@@ -81,3 +86,11 @@ length-phdr p = simp (length-append, length-number)
 
 pub length-dyn : (d : Dyn) → length (bytes_of (dyn_fields d)) ≡ 16
 length-dyn d = simp (length-append, length-signed, length-number)
+
+-- words, one after the other
+pub length-word_bytes : (w : ℕ) → length (word_bytes w) ≡ 4
+length-word_bytes w = simp (length-append, length-number)
+
+pub length-words : (ws : List ℕ) → length (flat_map word_bytes ws) ≡ 4 * length ws
+length-words [] = refl
+length-words (w ∷ ws) = omega (arith, length-append (word_bytes w) (flat_map word_bytes ws), length-word_bytes w, length-words ws)

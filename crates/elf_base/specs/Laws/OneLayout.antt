@@ -1,11 +1,13 @@
 -- Pieces at their places make one file.
-use Rattle.std.proofs.Common.{◌≡◌, ℕ, ◌+◌, ◌-◌, ◌≤◌, ◌<◌, List, [], ◌∷◌, length, drop, get_or, sym, ap, ◌∙◌, inl, inr, ◌⊎◌, arith, get_or-drop, get_or-take, ext_get_or}
+use Rattle.std.proofs.Common.{◌≡◌, ℕ, ◌+◌, ◌-◌, ◌≤◌, ◌<◌, List, [], ◌∷◌, length, drop, get_or, sym, ap, ◌∙◌, inl, inr, ◌⊎◌, arith}
+use Rattle.std.proofs.Common.{get_or-drop, get_or-take, ext_get_or}
 use Rattle.std.proofs.lemmas.Bool.{cases_lt}
 use Rattle.elf_base.specs.Field.{StandsAt}
 use Rattle.elf_base.specs.Layout.{Piece, AllStand, IsGap, IsLaidOut}
 
 -- a byte of what stands at a place
-pub byte_of : (file : List ℕ) (at : ℕ) (bytes : List ℕ) (i : ℕ) → StandsAt file at bytes → at ≤ i → i < at + length bytes → get_or file i 0 ≡ get_or bytes (i - at) 0
+pub byte_of : (file : List ℕ) (at : ℕ) (bytes : List ℕ) (i : ℕ) → StandsAt file at bytes → at ≤ i → i < at + length bytes
+    → get_or file i 0 ≡ get_or bytes (i - at) 0
 byte_of file at bytes i h low high =
     let within = get_or-take (length bytes) (drop at file) (i - at) 0 (omega arith) in
     let from = get_or-drop at file (i - at) 0 in

@@ -1,5 +1,6 @@
 -- A record stands at each place of a file that has room for it, and it is the one that is read.
-use Rattle.std.proofs.Common.{◌≡◌, ℕ, zero, suc, ◌+◌, ◌^◌, ◌<◌, ◌≤◌, List, [], ◌∷◌, ◌++◌, length, take, drop, refl, sym, ap, subst, ◌∙◌, arith, Result, Ok, Err, add_assoc, Fits, drop-drop, length-take, length-drop}
+use Rattle.std.proofs.Common.{◌≡◌, ℕ, zero, suc, ◌+◌, ◌^◌, ◌<◌, ◌≤◌, List, [], ◌∷◌, ◌++◌, length, take, drop, refl, sym, ap, subst, ◌∙◌}
+use Rattle.std.proofs.Common.{arith, Result, Ok, Err, add_assoc, Fits, drop-drop, length-take, length-drop}
 use Rattle.std.specs.Prelude.{IsErr, ◌↔◌}
 use Rattle.std.specs.Int.{w64, cast_signed}
 use Rattle.std.proofs.Math.Facts.{sfits_to_z}
@@ -64,7 +65,8 @@ pub record Stands (fs : List Field) (at : ℕ) (xs : List ℕ) : Type 0 where
   pub fit : FieldsFit fs
   pub stand : StandsAt xs at (bytes_of fs)
 
-pub stands : (fs : List Field) (at : ℕ) (xs : List ℕ) → IsBytes xs → at + total_width fs ≤ length xs → fs ≡ fields_like fs at xs → Stands fs at xs
+pub stands : (fs : List Field) (at : ℕ) (xs : List ℕ) → IsBytes xs → at + total_width fs ≤ length xs → fs ≡ fields_like fs at xs
+    → Stands fs at xs
 stands fs at xs fits h like =
     let fit : FieldsFit fs = subst FieldsFit (sym like) (fields_fit fs at xs fits h) in
     let bytes : bytes_of fs ≡ take (total_width fs) (drop at xs) = ap bytes_of like ∙ bytes_of-standing fs at xs fits h in

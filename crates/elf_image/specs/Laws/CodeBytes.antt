@@ -12,9 +12,10 @@ use Rattle.elf_image.specs.Pieces.{pieces, header_pieces, table_pieces, loaded_p
 use Rattle.elf_base.specs.Laying.{put_all}
 use Rattle.elf_image.specs.ImageFile.{ImageFile}
 use Rattle.elf_base.specs.Laws.OneLayout.{byte_of}
+use Rattle.elf_base.specs.Laws.Lengths.{length-word_bytes, length-words}
 use Rattle.elf_image.specs.FileByte.{byte_among}
 use Rattle.elf_image.specs.Laws.FileBytes.{file_bytes}
-use Rattle.elf_image.specs.Laws.Whole.{is_file, length-words, length-word_bytes}
+use Rattle.elf_image.specs.Laws.Whole.{is_file}
 
 -- a valid image has a file
 abbrev pub file_of : Image → List ℕ

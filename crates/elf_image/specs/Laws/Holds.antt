@@ -7,15 +7,21 @@ use Rattle.elf_base.specs.declared.header.Ehdr.{Ehdr}
 use Rattle.elf_base.specs.declared.segment.Phdr.{Phdr}
 use Rattle.elf_base.specs.declared.dynamic.Dyn.{Dyn}
 use Rattle.elf_base.specs.Standing.{dyn_at}
+use Rattle.elf_base.specs.Conditions.{Condition}
+use Rattle.elf_base.specs.Records.{identification}
+use Rattle.elf_base.specs.Laws.Tests.{both_hold}
+use Rattle.elf_base.specs.Laws.Conditions.{EachHolds, holds_append}
 use Rattle.elf_image.specs.declared.heads.Heads.{Heads}
 use Rattle.elf_image.specs.Heads.{heads_at, entry_at, reloc_bytes_at, descriptor_bytes_at}
 use Rattle.elf_image.specs.Places.{round_page}
-use Rattle.elf_image.specs.Pieces.{identification, header_with, load, dynamic_at, entry}
-use Rattle.elf_image.specs.Faults.{agrees, zeros_between, same_header, same_segment, same_entry, is_reloc_size, is_descriptor_size, Condition, opening, contents, segments, table_asks, mode_asks, last_asks, gap_asks, conditions}
-use Rattle.elf_image.specs.Laws.Tests.{two, header_same, segment_same, entry_same}
-use Rattle.elf_image.specs.Laws.Holding.{AllHold, holds_append}
+use Rattle.elf_image.specs.Pieces.{header_with, load, dynamic_at, entry}
+use Rattle.elf_image.specs.Faults.{agrees, same_header, same_segment, same_entry, is_reloc_size, is_descriptor_size, opening, contents}
+use Rattle.elf_image.specs.Faults.{segments, table_asks, mode_asks, last_asks, gap_asks, conditions}
+use Rattle.elf_image.specs.Laws.Tests.{header_same, segment_same, entry_same}
 use Rattle.elf_image.specs.Laws.Items.{AreEntries}
-use Rattle.elf_image.specs.Laws.Right.{Right, RightHeads, RightSizes, RightEntries, described, plain, rodata_at, tables_of, described_of, plain_of}
+use Rattle.elf_image.specs.Laws.Right.{Right, RightHeads, RightSizes, RightEntries, described, plain, rodata_at, tables_of, described_of}
+use Rattle.elf_image.specs.Laws.Right.{plain_of}
+use Rattle.elf_image.specs.declared.refusal.ImageRefusal.{ImageRefusal}
 
 same_as : (p q : Phdr) → p ≡ q → same_segment p q ≡ true
 same_as p q e = subst (λ (r : Phdr). same_segment p r ≡ true) e (segment_same p)
@@ -26,11 +32,11 @@ same_header_as h g e = subst (λ (r : Ehdr). same_header h r ≡ true) e (header
 same_entry_as : (d e : Dyn) → d ≡ e → same_entry d e ≡ true
 same_entry_as d e is = subst (λ (r : Dyn). same_entry d r ≡ true) is (entry_same d)
 
-choose_those : (b : Bool) (cs ds : List Condition) → b ≡ true → AllHold cs → AllHold (if b then cs else ds)
+choose_those : (b : Bool) (cs ds : List (Condition ImageRefusal)) → b ≡ true → EachHolds cs → EachHolds (if b then cs else ds)
 choose_those true cs ds h all = all
 choose_those false cs ds h all = absurd (false≢true h)
 
-choose_others : (b : Bool) (cs ds : List Condition) → b ≡ false → AllHold ds → AllHold (if b then cs else ds)
+choose_others : (b : Bool) (cs ds : List (Condition ImageRefusal)) → b ≡ false → EachHolds ds → EachHolds (if b then cs else ds)
 choose_others true cs ds h all = absurd (false≢true (sym h))
 choose_others false cs ds h all = all
 
@@ -55,7 +61,7 @@ differs n e = ap (λ (k : ℕ). k == 208) e
 
 -- ---- the groups
 
-opening_holds : (file : List ℕ) (h : Heads) → RightHeads file h → agrees file identification ≡ true → AllHold (opening file h)
+opening_holds : (file : List ℕ) (h : Heads) → RightHeads file h → agrees file identification ≡ true → EachHolds (opening file h)
 opening_holds file h r begins =
     let kind : h.header.kind ≡ 3 = ap (λ (e : Ehdr). e.kind) r.header in
     let machine : h.header.machine ≡ 183 = ap (λ (e : Ehdr). e.machine) r.header in
@@ -65,13 +71,13 @@ opening_holds file h r begins =
       (
         le-leb 64 (length file) (omega arith),
         (
-          two (h.header.kind == 3) (h.header.machine == 183) (eq-eqb h.header.kind 3 kind) (eq-eqb h.header.machine 183 machine),
+          both_hold (h.header.kind == 3) (h.header.machine == 183) (eq-eqb h.header.kind 3 kind) (eq-eqb h.header.machine 183 machine),
           (le-leb (h.header.phoff + 224) (length file) headers, tt),
         ),
       ),
     )
 
-contents_hold : (file : List ℕ) (h : Heads) → RightHeads file h → RightSizes file h → AllHold (contents file h)
+contents_hold : (file : List ℕ) (h : Heads) → RightHeads file h → RightSizes file h → EachHolds (contents file h)
 contents_hold file h r s =
     let dynamic : h.dynamic.offset ≡ h.writable.offset = ap (λ (p : Phdr). p.offset) r.dynamic in (
       le-leb (h.read_only.offset + h.read_only.filesz) (length file) s.read_only_within,
@@ -85,14 +91,15 @@ contents_hold file h r s =
     )
 
 count_holds : (file : List ℕ) (h : Heads) → RightEntries file h → (h.dynamic.filesz == 176 || h.dynamic.filesz == 208) ≡ true
-count_holds file h (described size some are) = or_right (h.dynamic.filesz == 176) (h.dynamic.filesz == 208) (eq-eqb h.dynamic.filesz 208 size)
+count_holds file h (described size some are) = or_right (h.dynamic.filesz == 176) (h.dynamic.filesz == 208)
+    (eq-eqb h.dynamic.filesz 208 size)
 count_holds file h (plain size none are) = or_left (h.dynamic.filesz == 176) (h.dynamic.filesz == 208) (eq-eqb h.dynamic.filesz 176 size)
 
 room : (file : List ℕ) (h : Heads) → RightEntries file h → 176 ≤ h.dynamic.filesz
 room file h (described size some are) = omega (arith, size)
 room file h (plain size none are) = omega (arith, size)
 
-segments_hold : (file : List ℕ) (h : Heads) → Right file h → AllHold (segments file h)
+segments_hold : (file : List ℕ) (h : Heads) → Right file h → EachHolds (segments file h)
 segments_hold file h r =
     let heads = r.heads in
     let s = r.sizes in
@@ -111,14 +118,17 @@ segments_hold file h r =
     let limit = le-leb (h.writable.offset + h.writable.memsz) 268435456 s.limit in (
       same_header_as h.header (header_with h.header.entry) heads.header,
       (
-        two _ _ (two _ _ (same_as h.read_only (load 4 0 h.read_only.filesz h.read_only.filesz) heads.read_only)
+        both_hold _ _ (both_hold _ _ (same_as h.read_only (load 4 0 h.read_only.filesz h.read_only.filesz) heads.read_only)
             (le-leb 0x140 h.read_only.filesz s.tables)) r.gaps.tables,
         (
-          two _ _ (two _ _ (two _ _ code_is code_page) (eq-eqb (h.code.filesz % 4) 0 s.words)) r.gaps.code,
+          both_hold _ _ (both_hold _ _ (both_hold _ _ code_is code_page) (eq-eqb (h.code.filesz % 4) 0 s.words)) r.gaps.code,
           (
-            two _ _ (two _ _ (two _ _ (two _ _ (two _ _ (two _ _ (two _ _ writable_is writable_page) enough) granules) more) zeros) limit) r.gaps.writable,
+            both_hold _ _ (both_hold _ _ (both_hold _ _
+                (both_hold _ _ (both_hold _ _ (both_hold _ _ (both_hold _ _ writable_is writable_page) enough) granules) more) zeros)
+                limit) r.gaps.writable,
             (
-              two _ _ (two _ _ (same_as h.dynamic (dynamic_at h.writable.offset h.dynamic.filesz) heads.dynamic) (count_holds file h r.entries))
+              both_hold _ _ (both_hold _ _ (same_as h.dynamic (dynamic_at h.writable.offset h.dynamic.filesz) heads.dynamic)
+                  (count_holds file h r.entries))
                   (le-leb h.dynamic.filesz h.writable.filesz s.entries),
               (le-leb (length file) (h.writable.offset + h.writable.filesz) (omega (arith, s.end)), tt),
             ),
@@ -131,8 +141,9 @@ module _ (file : List ℕ) (h : Heads) where
   as_asked : (i : ℕ) (d : Dyn) → dyn_at (h.dynamic.offset + 16 * i) file ≡ d → same_entry (entry_at file h i) d ≡ true
   as_asked i d is = same_entry_as (entry_at file h i) d is
 
-  tables_hold : (ds : List Dyn) → AreEntries file h.dynamic.offset 0 (tables_of (reloc_bytes_at file h) ++ ds) → is_reloc_size h (reloc_bytes_at file h) ≡ true
-      → Right file h → AllHold (table_asks file h)
+  tables_hold : (ds : List Dyn) → AreEntries file h.dynamic.offset 0 (tables_of (reloc_bytes_at file h) ++ ds)
+      → is_reloc_size h (reloc_bytes_at file h) ≡ true
+      → Right file h → EachHolds (table_asks file h)
   tables_hold ds are size r = (
     as_asked 0 (entry 5 0x138) are.0,
     (
@@ -144,7 +155,7 @@ module _ (file : List ℕ) (h : Heads) where
           (
             as_asked 4 (entry 7 0x140) are.1.1.1.1.0,
             (
-              two (same_entry (entry_at file h 5) (entry 8 (reloc_bytes_at file h))) (is_reloc_size h (reloc_bytes_at file h))
+              both_hold (same_entry (entry_at file h 5) (entry 8 (reloc_bytes_at file h))) (is_reloc_size h (reloc_bytes_at file h))
                   (as_asked 5 (entry 8 (reloc_bytes_at file h)) are.1.1.1.1.1.0) size,
               (r.tables.relative, tt),
             ),
@@ -154,7 +165,7 @@ module _ (file : List ℕ) (h : Heads) where
     ),
   )
 
-  modes_hold : (ds : List Dyn) → AreEntries file h.dynamic.offset 0 (tables_of (reloc_bytes_at file h) ++ ds) → AllHold (mode_asks file h)
+  modes_hold : (ds : List Dyn) → AreEntries file h.dynamic.offset 0 (tables_of (reloc_bytes_at file h) ++ ds) → EachHolds (mode_asks file h)
   modes_hold ds are =
       let rest = are.1.1.1.1.1.1 in (
         as_asked 6 (entry 9 24) rest.0,
@@ -170,19 +181,19 @@ module _ (file : List ℕ) (h : Heads) where
 
 -- the entries, and the sizes that they say
 record EntriesHold (file : List ℕ) (h : Heads) : Type 0 where
-  tables : AllHold (table_asks file h)
-  modes : AllHold (mode_asks file h)
-  last : AllHold (last_asks file h)
+  tables : EachHolds (table_asks file h)
+  modes : EachHolds (mode_asks file h)
+  last : EachHolds (last_asks file h)
 
 entries_hold : (file : List ℕ) (h : Heads) → Right file h → RightEntries file h → EntriesHold file h
 entries_hold file h r (described size some are) =
     let rest = behind_tables file h (described_of (reloc_bytes_at file h) (descriptor_bytes_at file h)) are in
     let with = eq-eqb h.dynamic.filesz 208 size in
-    let fits = two (reloc_bytes_at file h % 24 == 0) _ (eq-eqb (reloc_bytes_at file h % 24) 0 r.tables.relocs)
+    let fits = both_hold (reloc_bytes_at file h % 24 == 0) _ (eq-eqb (reloc_bytes_at file h % 24) 0 r.tables.relocs)
     (choose_that (h.dynamic.filesz == 208) (nat_le (0x140 + reloc_bytes_at file h) h.read_only.filesz)
     (nat_le (round16 (0x140 + reloc_bytes_at file h)) h.read_only.filesz) with
     (le-leb (0x140 + reloc_bytes_at file h) h.read_only.filesz r.tables.relocs_within)) in
-    let described_size = two (nat_le 1 (descriptor_bytes_at file h)) (nat_le (rodata_at file h) h.read_only.filesz)
+    let described_size = both_hold (nat_le 1 (descriptor_bytes_at file h)) (nat_le (rodata_at file h) h.read_only.filesz)
     (le-leb 1 (descriptor_bytes_at file h) some) (le-leb (rodata_at file h) h.read_only.filesz r.tables.rodata_within) in
     record {
       tables = tables_hold file h (described_of (reloc_bytes_at file h) (descriptor_bytes_at file h)) are fits r;
@@ -190,7 +201,8 @@ entries_hold file h r (described size some are) =
       last = choose_those (h.dynamic.filesz == 208) _ _ with (
         as_asked file h 10 (entry 0x7000000d (0x140 + reloc_bytes_at file h)) rest.0,
         (
-          two (same_entry (entry_at file h 11) (entry 0x7000000f (descriptor_bytes_at file h))) (is_descriptor_size h (reloc_bytes_at file h) (descriptor_bytes_at file h))
+          both_hold (same_entry (entry_at file h 11) (entry 0x7000000f (descriptor_bytes_at file h)))
+              (is_descriptor_size h (reloc_bytes_at file h) (descriptor_bytes_at file h))
               (as_asked file h 11 (entry 0x7000000f (descriptor_bytes_at file h)) rest.1.0) described_size,
           (as_asked file h 12 (entry 0 0) rest.1.1.0, tt),
         ),
@@ -200,7 +212,7 @@ entries_hold file h r (plain size none are) =
     let rest = behind_tables file h plain_of are in
     let without = differs h.dynamic.filesz size in
     let place : rodata_at file h ≡ round16 (0x140 + reloc_bytes_at file h) = ap round16 (omega (arith, none)) in
-    let fits = two (reloc_bytes_at file h % 24 == 0) _ (eq-eqb (reloc_bytes_at file h % 24) 0 r.tables.relocs)
+    let fits = both_hold (reloc_bytes_at file h % 24 == 0) _ (eq-eqb (reloc_bytes_at file h % 24) 0 r.tables.relocs)
     (choose_other (h.dynamic.filesz == 208) (nat_le (0x140 + reloc_bytes_at file h) h.read_only.filesz)
     (nat_le (round16 (0x140 + reloc_bytes_at file h)) h.read_only.filesz) without
     (le-leb (round16 (0x140 + reloc_bytes_at file h)) h.read_only.filesz (omega (arith, r.tables.rodata_within, place)))) in
@@ -211,7 +223,7 @@ entries_hold file h r (plain size none are) =
     }
 
 -- each condition holds
-pub holds : (file : List ℕ) (h : Heads) → Right file h → agrees file identification ≡ true → AllHold (conditions file h)
+pub holds : (file : List ℕ) (h : Heads) → Right file h → agrees file identification ≡ true → EachHolds (conditions file h)
 holds file h r begins =
     let e = entries_hold file h r r.entries in
     let r5 = last_asks file h ++ gap_asks file h in

@@ -1,13 +1,13 @@
 -- The words, relocations and dynamic entries that stand in a file.
-use Rattle.std.proofs.Common.{◌≡◌, ℕ, ℤ, zero, suc, ◌+◌, ◌*◌, ◌^◌, ◌≤◌, ◌<◌, List, [], ◌∷◌, ◌++◌, length, take, drop, refl, sym, ap, ◌∙◌, arith, drop-drop, drop_at, take_at}
-use Rattle.std.specs.Prelude.{true, ◌==◌, ◌&&◌, FitsSigned}
+use Rattle.std.proofs.Common.{◌≡◌, ℕ, zero, suc, ◌+◌, ◌*◌, ◌^◌, ◌≤◌, ◌<◌, List, [], ◌∷◌, ◌++◌, length, take, drop, refl, sym, ap, ◌∙◌}
+use Rattle.std.proofs.Common.{arith, drop-drop, drop_at, take_at}
+use Rattle.std.specs.Prelude.{true, ◌==◌}
 use Rattle.std.specs.List.{flat_map, AllByRecursion}
 use Rattle.std.specs.Int.{w64, cast_signed}
 use Rattle.std.proofs.Math.Facts.{sfits_to_z}
 use Rattle.std.proofs.Common.{Fits, append_assoc, add_assoc}
 use Rattle.std.proofs.lemmas.Bool.{eq-eqb, eqb-true}
 use Rattle.std.proofs.lemmas.List.{append-nil}
-use Rattle.byteorder.specs.Numbers.{little_from-lt}
 use Rattle.elf_base.specs.declared.dynamic.Dyn.{Dyn}
 use Rattle.elf_base.specs.Field.{Field, number, signed, bytes_of, field_bytes, StandsAt}
 use Rattle.elf_base.specs.Layout.{word_bytes}
@@ -15,15 +15,15 @@ use Rattle.elf_base.specs.Place.{number_at}
 use Rattle.elf_base.specs.Records.{dyn_fields}
 use Rattle.elf_base.specs.Standing.{dyn_at}
 use Rattle.elf_base.specs.Laws.Lengths.{IsBytes, length-dyn}
-use Rattle.elf_base.specs.Laws.Reads.{IsBytes-drop, field_bytes-read_like, fields_like}
-use Rattle.elf_base.specs.Laws.Standing.{stands, take-add}
+use Rattle.elf_base.specs.Laws.Reads.{field_bytes-read_like, fields_like}
+use Rattle.elf_base.specs.Laws.Standing.{stands, take-add, number_fits}
 use Rattle.elf_base.specs.Laws.RecordsStand.{fields_again, dyn_again}
+use Rattle.elf_base.specs.Laws.Tests.{both, both_hold}
 use Rattle.elf_image.specs.declared.parts.RelativeReloc.{RelativeReloc}
 use Rattle.elf_image.specs.Faults.{are_relative}
 use Rattle.elf_image.specs.Pieces.{reloc_bytes, dyn_bytes, entries_bytes}
 use Rattle.elf_image.specs.Ranges.{RelocFits}
 use Rattle.elf_image.specs.Laws.OneImage.{EntryFits}
-use Rattle.elf_image.specs.Laws.Tests.{both, two}
 use Rattle.elf_image.specs.Laws.Whole.{length-reloc_bytes}
 
 -- so many words from a place on
@@ -40,10 +40,6 @@ relocs_at zero at file = []
 relocs_at (suc count) at file = reloc_at at file ∷ relocs_at count (at + 24) file
 
 -- ---- as many as are asked for, each within its range
-
-pub number_fits : (width at : ℕ) (xs : List ℕ) → IsBytes xs → number_at width at xs < 256 ^ width
-unfolding number_at
-number_fits width at xs fits = little_from-lt 0 width (drop at xs) (IsBytes-drop at xs fits)
 
 pub length-words_at : (n at : ℕ) (file : List ℕ) → length (words_at n at file) ≡ n
 length-words_at zero at file = refl
@@ -70,7 +66,8 @@ relocs_fit (suc n) at file fits =
 -- ---- their bytes are those that stand there
 
 word_taken : (at : ℕ) (file : List ℕ) → IsBytes file → at + 4 ≤ length file → word_bytes (number_at 4 at file) ≡ take 4 (drop at file)
-word_taken at file fits within = append-nil (field_bytes (number 4 (number_at 4 at file))) ∙ field_bytes-read_like (number 4 0) at file fits within
+word_taken at file fits within = append-nil (field_bytes (number 4 (number_at 4 at file)))
+    ∙ field_bytes-read_like (number 4 0) at file fits within
 
 one_more : (n at step : ℕ) (file first rest : List ℕ) → first ≡ take step (drop at file) → rest ≡ take (step * n) (drop (at + step) file)
     → first ++ rest ≡ take (step * suc n) (drop at file)
@@ -124,7 +121,7 @@ relocs_relative (r ∷ rs) at file rest fit here =
     let info : number_at 8 (at + 8) file ≡ 1027 = cc in
     let back : drop (at + 24) file ≡ flat_map reloc_bytes rs ++ rest =
     sym (drop-drop 24 at file) ∙ ap (drop 24) front ∙ drop_at (reloc_bytes r) (flat_map reloc_bytes rs ++ rest) 24 (length-reloc_bytes r) in
-    two _ _ (eq-eqb (number_at 8 (at + 8) file) 1027 info) (relocs_relative rs (at + 24) file rest fit.1 back)
+    both_hold _ _ (eq-eqb (number_at 8 (at + 8) file) 1027 info) (relocs_relative rs (at + 24) file rest fit.1 back)
 
 -- ---- dynamic entries
 
@@ -158,7 +155,8 @@ entries_again (d ∷ ds) at i file rest fit here =
     let front : drop (at + 16 * i) file ≡ dyn_bytes d ++ (entries_bytes ds ++ rest) =
     here ∙ append_assoc (dyn_bytes d) (entries_bytes ds) rest in
     let stands_there : StandsAt file (at + 16 * i) (bytes_of (dyn_fields d)) =
-    ap (take (length (bytes_of (dyn_fields d)))) front ∙ take_at (bytes_of (dyn_fields d)) (entries_bytes ds ++ rest) (length (bytes_of (dyn_fields d))) refl in
+    ap (take (length (bytes_of (dyn_fields d)))) front
+    ∙ take_at (bytes_of (dyn_fields d)) (entries_bytes ds ++ rest) (length (bytes_of (dyn_fields d))) refl in
     let next : at + 16 * (i + 1) ≡ at + 16 * i + 16 = omega arith in
     let back : drop (at + 16 * (i + 1)) file ≡ entries_bytes ds ++ rest =
     ap (λ (k : ℕ). drop k file) next ∙ sym (drop-drop 16 (at + 16 * i) file) ∙ ap (drop 16) front

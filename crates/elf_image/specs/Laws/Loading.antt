@@ -1,25 +1,24 @@
 -- The file of an image is made of the bytes of its loaded parts, with zeros between; each part has the file's bytes from its place on.
-use Rattle.std.proofs.Common.{◌≡◌, ℕ, ◌+◌, ◌-◌, ◌≤◌, ◌<◌, List, [], ◌++◌, length, get_or, replicate, refl, sym, ap, ◌∙◌, inl, inr, arith, append_assoc, length-append}
+use Rattle.std.proofs.Common.{◌≡◌, ℕ, ◌+◌, ◌-◌, ◌≤◌, ◌<◌, List, [], ◌++◌, length, get_or, replicate, refl, sym, ap, ◌∙◌, inl, inr, arith}
+use Rattle.std.proofs.Common.{append_assoc, length-append}
 use Rattle.std.proofs.lemmas.Bool.{cases_lt}
-use Rattle.std.proofs.lemmas.List.{append-nil, length-replicate, get_or-replicate, get_or_append_left, get_or-append_right, get_or-append-add}
+use Rattle.std.proofs.lemmas.List.{append-nil, length-replicate, get_or-replicate, get_or_append_left, get_or-append_right}
+use Rattle.std.proofs.lemmas.List.{get_or-append-add}
 use Rattle.elf_base.specs.Layout.{piece}
 use Rattle.elf_base.specs.Laying.{pad, put}
-use Rattle.elf_base.specs.Laws.LaidOut.{AreInOrder, length-put_all}
-use Rattle.elf_base.specs.Laws.Lengths.{length-ehdr, length-phdr}
+use Rattle.elf_base.specs.Laws.LaidOut.{AreInOrder, length-put_all, length-pad}
+use Rattle.elf_base.specs.Laws.Lengths.{length-ehdr, length-phdr, length-words}
 use Rattle.elf_image.specs.Image.{Image}
 use Rattle.elf_image.specs.Places.{rodata_end, code_place, code_end, dynamic_place, dynamic_end, filled_place, file_end}
-use Rattle.elf_image.specs.Pieces.{header, read_only_part, code_part, writable_part, dynamic_part, header_pieces, table_pieces, entries_bytes, dynamic_entries}
+use Rattle.elf_image.specs.Pieces.{header, read_only_part, code_part, writable_part, dynamic_part, header_pieces, table_pieces}
+use Rattle.elf_image.specs.Pieces.{entries_bytes, dynamic_entries}
 use Rattle.elf_image.specs.LoadedBytes.{read_only_bytes, code_bytes, writable_bytes}
 use Rattle.elf_image.specs.Laws.CodeBytes.{file_of}
 use Rattle.elf_image.specs.Laws.Entries.{length-dynamic_entries}
 use Rattle.elf_image.specs.Laws.Order.{InOrder, in_order}
-use Rattle.elf_image.specs.Laws.Whole.{length-relocs, length-words}
+use Rattle.elf_image.specs.Laws.Whole.{length-relocs}
 
 -- ---- zeros up to a place
-
-pub length-padded : (place : ℕ) (out : List ℕ) → length out ≤ place → length (pad place out) ≡ place
-unfolding pad
-length-padded place out h = omega (arith, length-append out (replicate (place - length out) 0), length-replicate {A = ℕ} (place - length out) 0)
 
 reaches : (place : ℕ) (out : List ℕ) → place ≤ length (pad place out)
 unfolding pad
@@ -94,7 +93,8 @@ length-writable p =
 -- ---- the bytes of each part, with zeros up to its end
 
 -- bytes with zeros behind them, as they stand in a file where zeros follow
-within : (before bytes rest : List ℕ) (place n k : ℕ) → length before ≡ place → k < n → ((i : ℕ) → i < n - length bytes → get_or rest i 0 ≡ 0) →
+within : (before bytes rest : List ℕ) (place n k : ℕ) → length before ≡ place → k < n
+    → ((i : ℕ) → i < n - length bytes → get_or rest i 0 ≡ 0) →
     get_or (pad n bytes) k 0 ≡ get_or (before ++ (bytes ++ rest)) (place + k) 0
 unfolding pad
 within before bytes rest place n k start below zeros =
@@ -113,12 +113,14 @@ within before bytes rest place n k start below zeros =
 -- zeros that begin the rest
 zeros_first : (n m i : ℕ) (rest : List ℕ) → n ≤ m → i < n → get_or (replicate m 0 ++ rest) i 0 ≡ 0
 zeros_first n m i rest most below =
-    get_or_append_left (replicate m 0) rest 0 i (omega (arith, most, below, length-replicate {A = ℕ} m 0)) ∙ get_or-replicate m i 0 0 (omega (arith, most, below))
+    get_or_append_left (replicate m 0) rest 0 i (omega (arith, most, below, length-replicate {A = ℕ} m 0))
+    ∙ get_or-replicate m i 0 0 (omega (arith, most, below))
 
 pub read_only_held : (p : Image) (n k : ℕ) → n ≤ code_place p → k < n → get_or (pad n (read_only_bytes p)) k 0 ≡ get_or (file_of p) k 0
 unfolding pad
 read_only_held p n k most below =
-    within [] first (replicate (code_place p - length first) 0 ++ rest) 0 n k refl below (λ i small. zeros_first (n - length first) (code_place p - length first) i rest (omega (arith, most)) small)
+    within [] first (replicate (code_place p - length first) 0 ++ rest) 0 n k refl below
+    (λ i small. zeros_first (n - length first) (code_place p - length first) i rest (omega (arith, most)) small)
     ∙ ap (λ (file : List ℕ). get_or file (0 + k) 0) (sym file)
     ∙ ap (λ i. get_or (file_of p) i 0) (let e : 0 + k ≡ k = omega arith in e)
   where
@@ -131,7 +133,8 @@ read_only_held p n k most below =
     file : file_of p ≡ first ++ (replicate (code_place p - length first) 0 ++ rest)
     file = file_is p ∙ simp append_assoc
 
-pub code_held : (p : Image) (n k : ℕ) → code_place p + n ≤ dynamic_place p → k < n → get_or (pad n (code_bytes p)) k 0 ≡ get_or (file_of p) (code_place p + k) 0
+pub code_held : (p : Image) (n k : ℕ) → code_place p + n ≤ dynamic_place p → k < n
+    → get_or (pad n (code_bytes p)) k 0 ≡ get_or (file_of p) (code_place p + k) 0
 unfolding pad
 code_held p n k most below =
     within before (code_bytes p) rest (code_place p) n k start below
@@ -146,15 +149,16 @@ code_held p n k most below =
     rest = replicate (dynamic_place p - length (before ++ code_bytes p)) 0 ++ writable_bytes p
 
     start : length before ≡ code_place p
-    start = let o : InOrder p = in_order p in length-padded (code_place p) (read_only_bytes p) (omega (arith, o.code, length-read_only p))
+    start = let o : InOrder p = in_order p in length-pad (code_place p) (read_only_bytes p) (omega (arith, o.code, length-read_only p))
 
     file : file_of p ≡ before ++ (code_bytes p ++ rest)
     file = file_is p ∙ simp append_assoc
 
 pub writable_held : (p : Image) (n k : ℕ) → k < n → get_or (pad n (writable_bytes p)) k 0 ≡ get_or (file_of p) (dynamic_place p + k) 0
 writable_held p n k below =
-    within before (writable_bytes p) [] (dynamic_place p) n k (length-padded (dynamic_place p) code short) below (λ i small. refl)
-    ∙ ap (λ (file : List ℕ). get_or file (dynamic_place p + k) 0) (ap (λ (l : List ℕ). before ++ l) (append-nil (writable_bytes p)) ∙ sym (file_is p))
+    within before (writable_bytes p) [] (dynamic_place p) n k (length-pad (dynamic_place p) code short) below (λ i small. refl)
+    ∙ ap (λ (file : List ℕ). get_or file (dynamic_place p + k) 0)
+    (ap (λ (l : List ℕ). before ++ l) (append-nil (writable_bytes p)) ∙ sym (file_is p))
   where
     code : List ℕ
     code = pad (code_place p) (read_only_bytes p) ++ code_bytes p
@@ -165,5 +169,5 @@ writable_held p n k below =
     short : length code ≤ dynamic_place p
     short =
         let o : InOrder p = in_order p in
-        let start = length-padded (code_place p) (read_only_bytes p) (omega (arith, o.code, length-read_only p)) in
+        let start = length-pad (code_place p) (read_only_bytes p) (omega (arith, o.code, length-read_only p)) in
         omega (arith, o.dynamic, start, length-code p, length-append (pad (code_place p) (read_only_bytes p)) (code_bytes p))

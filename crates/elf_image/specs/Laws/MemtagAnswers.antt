@@ -6,10 +6,15 @@ use Rattle.std.proofs.lemmas.Slice.Eq.{bytes_eq-Decides}
 use Rattle.elf_base.specs.declared.segment.Phdr.{Phdr}
 use Rattle.elf_image.specs.declared.memtag.Found.{Found}
 use Rattle.elf_image.specs.declared.memtag.MemtagInfo.{MemtagInfo}
-use Rattle.elf_image.specs.MemtagFile.{ident, BeginsElf, header_of, HasHeader, HasSegments, segments_of, is_dynamic, HasDynamic, entries_of, first_of}
+use Rattle.elf_image.specs.MemtagFile.{ident, BeginsElf, header_of, HasHeader, HasSegments, segments_of, is_dynamic, HasDynamic}
+use Rattle.elf_image.specs.MemtagFile.{entries_of, first_of}
 use Rattle.elf_base.specs.Index.{told_index}
-use Rattle.elf_image.specs.MemtagEntries.{mode_tag, heap_tag, stack_tag, globals_tag, size_tag, loaded_bytes, AreDescriptors, value_of, Entries, MemtagFault, not_elf, no_header, other_machine, other_headers, headers_cut, no_dynamic, dynamic_cut, no_descriptors}
-use Rattle.elf_image.specs.Laws.ReadMemtag.{Answer, Descriptors, located, described, told, with_entries, with_dynamic, with_segments, with_header, with_start, read_as, begun, not_begun, start_cut, start_other, started, header_other, header_cut, headed, dynamic_none, dynamic_short, dynamic_whole}
+use Rattle.elf_image.specs.MemtagEntries.{mode_tag, heap_tag, stack_tag, globals_tag, size_tag, loaded_bytes, AreDescriptors, value_of}
+use Rattle.elf_image.specs.MemtagEntries.{Entries, MemtagFault, not_elf, no_header, other_machine, other_headers, headers_cut, no_dynamic}
+use Rattle.elf_image.specs.MemtagEntries.{dynamic_cut, no_descriptors}
+use Rattle.elf_image.specs.Laws.ReadMemtag.{Answer, Descriptors, located, described, told, with_entries, with_dynamic, with_segments}
+use Rattle.elf_image.specs.Laws.ReadMemtag.{with_header, with_start, read_as, begun, not_begun, start_cut, start_other, started}
+use Rattle.elf_image.specs.Laws.ReadMemtag.{header_other, header_cut, headed, dynamic_none, dynamic_short, dynamic_whole}
 
 -- the answer is what the file says, or its first fault
 abbrev pub IsAnswer : List ℕ → Answer → Type 0
@@ -60,7 +65,8 @@ said_described : (file : List ℕ) (segment : Phdr) → HasDynamic file segment 
 unfolding described
 said_described file segment h (Some globals) (Some size) globals_is size_is =
     said_located file segment h globals size (loaded_bytes file globals.value size.value) globals_is size_is refl
-said_described file segment h (Some globals) None globals_is size_is = said_all file segment h (Some globals) None None globals_is size_is refl
+said_described file segment h (Some globals) None globals_is size_is =
+    said_all file segment h (Some globals) None None globals_is size_is refl
 said_described file segment h None size globals_is size_is = said_all file segment h None size None globals_is size_is refl
 
 said_dynamic : (file : List ℕ) → HasSegments file → (found : Option Phdr) → find is_dynamic (segments_of file) ≡ found

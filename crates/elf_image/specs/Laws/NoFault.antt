@@ -1,5 +1,6 @@
 -- The file of an image has no fault.
-use Rattle.std.proofs.Common.{◌≡◌, ℕ, ◌+◌, ◌-◌, ◌*◌, ◌/◌, ◌%◌, ◌≤◌, ◌<◌, List, [], ◌∷◌, ◌++◌, length, take, drop, get_or, replicate, refl, sym, ap, ◌∙◌, subst, inl, inr, arith, append_assoc}
+use Rattle.std.proofs.Common.{◌≡◌, ℕ, ◌+◌, ◌-◌, ◌*◌, ◌/◌, ◌%◌, ◌≤◌, ◌<◌, List, [], ◌∷◌, ◌++◌, length, take, drop, get_or, replicate, refl}
+use Rattle.std.proofs.Common.{sym, ap, ◌∙◌, subst, inl, inr, arith, append_assoc}
 use Rattle.std.proofs.lemmas.Bool.{cases_lt}
 use Rattle.std.proofs.lemmas.List.{get_or-replicate}
 use Rattle.std.specs.Prelude.{◌==◌, true, if◌then◌else◌}
@@ -10,29 +11,36 @@ use Rattle.elf_base.specs.declared.segment.Phdr.{Phdr}
 use Rattle.elf_base.specs.declared.dynamic.Dyn.{Dyn}
 use Rattle.elf_base.specs.Field.{raw, number, field_bytes, bytes_of, StandsAt}
 use Rattle.elf_base.specs.Layout.{Piece, piece, AllStand, IsGap, word_bytes}
-use Rattle.elf_base.specs.Records.{ehdr_fields, phdr_fields}
+use Rattle.elf_base.specs.Records.{ehdr_fields, phdr_fields, identification}
 use Rattle.elf_base.specs.Standing.{ehdr_at, phdr_at}
 use Rattle.elf_base.specs.Laws.LaidOut.{AreInOrder}
 use Rattle.elf_base.specs.Laws.OneLayout.{byte_of}
 use Rattle.elf_base.specs.Laws.RecordsStand.{begins_there, ehdr_again, phdr_again}
+use Rattle.elf_base.specs.Conditions.{first_fault}
+use Rattle.elf_base.specs.Laws.Zeros.{zero_between}
+use Rattle.elf_base.specs.Laws.Conditions.{none_fails}
+use Rattle.elf_base.specs.Laws.Lengths.{length-words}
 use Rattle.elf_image.specs.declared.heads.Heads.{Heads}
 use Rattle.elf_image.specs.Image.{Image}
 use Rattle.elf_image.specs.Ranges.{IsFileOf}
 use Rattle.elf_image.specs.Heads.{heads_of, heads_at, entry_at, reloc_bytes_at, descriptor_bytes_at}
-use Rattle.elf_image.specs.Places.{IsValid, round_page, dynamic_count, descriptors_place, rodata_place, rodata_end, code_place, code_end, dynamic_place, dynamic_end, filled_place, file_end, memory_end}
-use Rattle.elf_image.specs.Pieces.{identification, header, header_with, load, dynamic_at, read_only_part, code_part, writable_part, dynamic_part, entry, entries_bytes, dynamic_entries, reloc_bytes, header_pieces, table_pieces, loaded_pieces, pieces}
-use Rattle.elf_image.specs.Faults.{agrees, zeros_between, are_relative, conditions, first_fault, fault_of}
+use Rattle.elf_image.specs.Places.{IsValid, round_page, dynamic_count, descriptors_place, rodata_place, rodata_end, code_place, code_end}
+use Rattle.elf_image.specs.Places.{dynamic_place, dynamic_end, filled_place, file_end, memory_end}
+use Rattle.elf_image.specs.Pieces.{header, header_with, load, dynamic_at, read_only_part, code_part, writable_part, dynamic_part, entry}
+use Rattle.elf_image.specs.Pieces.{entries_bytes, dynamic_entries, reloc_bytes, header_pieces, table_pieces, loaded_pieces, pieces}
+use Rattle.elf_image.specs.Faults.{agrees, are_relative, conditions, fault_of, no_fault}
 use Rattle.elf_image.specs.Laws.Entries.{length-dynamic_entries}
 use Rattle.elf_image.specs.Laws.Gaps.{gap_between, in_order_front}
-use Rattle.elf_image.specs.Laws.Holding.{no_fault, all_hold}
 use Rattle.elf_image.specs.Laws.Holds.{holds}
 use Rattle.elf_image.specs.Laws.Items.{AreEntries, entries_again, relocs_relative}
 use Rattle.elf_image.specs.Laws.OneImage.{header_fits, load_fits, dynamic_fits, entries_fit}
 use Rattle.elf_image.specs.Laws.Order.{InOrder, in_order, Within, within}
-use Rattle.elf_image.specs.Laws.ReadBack.{count_some, count_none, all_some, all_none, code_place_eq, dynamic_place_eq, filled_place_eq, rodata_place_eq, granules_behind}
-use Rattle.elf_image.specs.Laws.Right.{Right, RightHeads, RightSizes, RightTables, RightGaps, RightEntries, described, plain, rodata_at, tables_of, described_of, plain_of}
-use Rattle.elf_image.specs.Laws.Tests.{agrees_front, are_zeros}
-use Rattle.elf_image.specs.Laws.Whole.{length-words, length-relocs, pieces_in_order}
+use Rattle.elf_image.specs.Laws.ReadBack.{count_some, count_none, all_some, all_none, code_place_eq, dynamic_place_eq, filled_place_eq}
+use Rattle.elf_image.specs.Laws.ReadBack.{rodata_place_eq, granules_behind}
+use Rattle.elf_image.specs.Laws.Right.{Right, RightHeads, RightSizes, RightTables, RightGaps, RightEntries, described, plain, rodata_at}
+use Rattle.elf_image.specs.Laws.Right.{tables_of, described_of, plain_of}
+use Rattle.elf_image.specs.Laws.Tests.{agrees_front}
+use Rattle.elf_image.specs.Laws.Whole.{length-relocs, pieces_in_order}
 
 -- what the headers of an image's file say
 abbrev pub heads_from : Image → Heads
@@ -51,7 +59,8 @@ heads_are p file f =
     let all = f.is_file.laid_out.stand in
     let e : ehdr_at 0 file ≡ header p = ehdr_again file 0 (header p) (header_fits p f.ranges.entry) all.0 in
     let one : phdr_at 64 file ≡ read_only_part p =
-    phdr_again file 64 (read_only_part p) (load_fits 4 0 (rodata_end p) (rodata_end p) (omega arith) (omega arith) (omega arith) (omega arith)) all.1.0 in
+    phdr_again file 64 (read_only_part p) (load_fits 4 0 (rodata_end p) (rodata_end p) (omega arith) (omega arith) (omega arith)
+    (omega arith)) all.1.0 in
     let two : phdr_at 120 file ≡ code_part p =
     phdr_again file 120 (code_part p) (load_fits 5 (code_place p) (4 * length p.words) (4 * length p.words) (omega arith) (omega arith)
     (omega arith) (omega arith)) all.1.1.0 in
@@ -59,7 +68,8 @@ heads_are p file f =
     phdr_again file 176 (writable_part p) (load_fits 6 (dynamic_place p) (file_end p - dynamic_place p) (memory_end p - dynamic_place p)
     (omega arith) (omega arith) (omega arith) (omega arith)) all.1.1.1.0 in
     let four : phdr_at 232 file ≡ dynamic_part p =
-    phdr_again file 232 (dynamic_part p) (dynamic_fits (dynamic_place p) (16 * dynamic_count p.descriptors) (omega arith) (omega arith)) all.1.1.1.1.0 in
+    phdr_again file 232 (dynamic_part p) (dynamic_fits (dynamic_place p) (16 * dynamic_count p.descriptors) (omega arith) (omega arith))
+    all.1.1.1.1.0 in
     ap (λ (h : Ehdr). heads_of h file) e
     ∙ (λ i. record { header = header p; read_only = one i; code = two i; writable = three i; dynamic = four i })
 
@@ -74,7 +84,8 @@ to_symbols p = header_pieces p ++ piece 0x120 (replicate 25 0) ∷ []
 
 abbrev to_descriptors : Image → List Piece
 to_descriptors p =
-    header_pieces p ++ piece 0x120 (replicate 25 0) ∷ piece 0x140 (flat_map reloc_bytes p.relocs) ∷ piece (descriptors_place p) p.descriptors ∷ []
+    header_pieces p ++ piece 0x120 (replicate 25 0) ∷ piece 0x140 (flat_map reloc_bytes p.relocs) ∷ piece
+    (descriptors_place p) p.descriptors ∷ []
 
 abbrev to_rodata : Image → List Piece
 to_rodata p = header_pieces p ++ table_pieces p
@@ -135,9 +146,11 @@ module _ (p : Image) (file : List ℕ) (f : IsFileOf p file) where
   entries =
       let all = f.is_file.laid_out.stand in
       let place : dynamic_place p + 16 * 0 ≡ dynamic_place p = omega arith in
-      entries_again (dynamic_entries p) (dynamic_place p) 0 file (drop (length (entries_bytes (dynamic_entries p))) (drop (dynamic_place p) file))
+      entries_again (dynamic_entries p) (dynamic_place p) 0 file
+      (drop (length (entries_bytes (dynamic_entries p))) (drop (dynamic_place p) file))
       (entries_fit p f.is_file.valid)
-      (ap (λ (k : ℕ). drop k file) place ∙ begins_there file (dynamic_place p) (entries_bytes (dynamic_entries p)) all.1.1.1.1.1.1.1.1.1.1.0)
+      (ap (λ (k : ℕ). drop k file) place ∙ begins_there file (dynamic_place p)
+      (entries_bytes (dynamic_entries p)) all.1.1.1.1.1.1.1.1.1.1.0)
 
   relocs_are : reloc_bytes_at file (heads_from p) ≡ 24 * length p.relocs
   relocs_are = ap (λ (d : Dyn). d.value) entries.1.1.1.1.1.0
@@ -209,7 +222,8 @@ module _ (p : Image) (file : List ℕ) (f : IsFileOf p file) where
       let relocs = relocs_are p file f in
       let descriptors = descriptors_are p file f in
       let place : rodata_at file h ≡ rodata_place p =
-      sym (rodata_place_eq p (0x140 + reloc_bytes_at file h + descriptor_bytes_at file h) (omega (arith, order.relocs, relocs, descriptors))) in
+      sym (rodata_place_eq p (0x140 + reloc_bytes_at file h + descriptor_bytes_at file h)
+      (omega (arith, order.relocs, relocs, descriptors))) in
       let count : reloc_bytes_at file h / 24 ≡ length p.relocs = omega (arith, relocs) in
       let relative = relocs_relative p.relocs 0x140 file _ f.ranges.relocs
       (begins_there file 0x140 (flat_map reloc_bytes p.relocs) f.is_file.laid_out.stand.1.1.1.1.1.1.0) in
@@ -260,13 +274,14 @@ module _ (p : Image) (file : List ℕ) (f : IsFileOf p file) where
       let relocs = relocs_are p file f in
       let descriptors = descriptors_are p file f in
       let place : rodata_at file h ≡ rodata_place p =
-      sym (rodata_place_eq p (0x140 + reloc_bytes_at file h + descriptor_bytes_at file h) (omega (arith, order.relocs, relocs, descriptors))) in
+      sym (rodata_place_eq p (0x140 + reloc_bytes_at file h + descriptor_bytes_at file h)
+      (omega (arith, order.relocs, relocs, descriptors))) in
       record {
-        tables = are_zeros 0x120 0x140 file (symbols_zero p file f);
-        rodata = are_zeros (0x140 + reloc_bytes_at file h + descriptor_bytes_at file h) (rodata_at file h) file
+        tables = zero_between file 0x120 0x140 (symbols_zero p file f);
+        rodata = zero_between file (0x140 + reloc_bytes_at file h + descriptor_bytes_at file h) (rodata_at file h)
             (λ i low high. rodata_zero p file f i (omega (arith, low, order.relocs, relocs, descriptors)) (omega (arith, high, place)));
-        code = are_zeros (rodata_end p) (code_place p) file (code_zero p file f);
-        writable = are_zeros (code_place p + 4 * length p.words) (dynamic_place p) file (writable_zero p file f);
+        code = zero_between file (rodata_end p) (code_place p) (code_zero p file f);
+        writable = zero_between file (code_place p + 4 * length p.words) (dynamic_place p) (writable_zero p file f);
       }
 
 -- the file of an image has no fault
@@ -282,4 +297,4 @@ no_fault_of p file f =
       entries = right_entries p file f;
     } in
     ap (λ (g : Heads). first_fault (conditions file g)) (heads_are p file f)
-    ∙ all_hold (conditions file h) (holds file h r (identified p file f))
+    ∙ none_fails (conditions file h) (holds file h r (identified p file f))

@@ -5,8 +5,7 @@ use Rattle.elf_image.specs.declared.refusal.ImageRefusal.{ImageRefusal}
 use Rattle.elf_image.specs.Image.{Image}
 use Rattle.elf_image.specs.Ranges.{IsFileOf}
 use Rattle.elf_image.specs.Heads.{heads_at}
-use Rattle.elf_image.specs.Faults.{fault_of, ImageFault}
-use Rattle.elf_image.specs.Laws.Holding.{no_fault}
+use Rattle.elf_image.specs.Faults.{fault_of, ImageFault, no_fault}
 use Rattle.elf_image.specs.Laws.NoFault.{no_fault_of}
 use Rattle.elf_image.specs.Laws.ReadBack.{image_at, read_back}
 

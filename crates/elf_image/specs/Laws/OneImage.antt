@@ -1,5 +1,6 @@
 -- A file has one list of parts.
-use Rattle.std.proofs.Common.{◌≡◌, ℕ, ◌-◌, ◌*◌, ◌^◌, ◌<◌, ◌≤◌, List, [], ◌∷◌, ◌++◌, length, take, drop, refl, sym, ap, ◌∙◌, arith, rules, take_at, drop_at}
+use Rattle.std.proofs.Common.{◌≡◌, ℕ, ◌-◌, ◌*◌, ◌^◌, ◌<◌, ◌≤◌, List, [], ◌∷◌, ◌++◌, length, take, drop, refl, sym, ap, ◌∙◌, arith, rules}
+use Rattle.std.proofs.Common.{take_at, drop_at}
 use Rattle.std.specs.Prelude.{FitsSigned}
 use Rattle.std.specs.List.{AllByRecursion, flat_map}
 use Rattle.std.specs.Int.{w64}
@@ -10,16 +11,18 @@ use Rattle.elf_base.specs.declared.dynamic.Dyn.{Dyn}
 use Rattle.elf_base.specs.Field.{Field, number, signed, bytes_of, FieldsFit, StandsAt}
 use Rattle.elf_base.specs.Layout.{word_bytes}
 use Rattle.elf_base.specs.Records.{ehdr_fields, phdr_fields, dyn_fields}
-use Rattle.elf_base.specs.Laws.Lengths.{length-ehdr, length-phdr}
+use Rattle.elf_base.specs.Laws.Lengths.{length-ehdr, length-phdr, length-word_bytes, length-words}
 use Rattle.elf_base.specs.Laws.Reads.{fields_like, fields_like-bytes_of}
 use Rattle.elf_image.specs.declared.parts.RelativeReloc.{RelativeReloc}
 use Rattle.elf_image.specs.Image.{Image}
-use Rattle.elf_image.specs.Places.{IsValid, dynamic_count, descriptors_place, rodata_place, rodata_end, code_place, dynamic_place, dynamic_end, filled_place, file_end, memory_end}
-use Rattle.elf_image.specs.Pieces.{header, read_only_part, code_part, writable_part, dynamic_part, reloc_bytes, load, dynamic_at, entry, descriptor_entries, dyn_bytes, entries_bytes, dynamic_entries}
+use Rattle.elf_image.specs.Places.{IsValid, dynamic_count, descriptors_place, rodata_place, rodata_end, code_place, dynamic_place}
+use Rattle.elf_image.specs.Places.{dynamic_end, filled_place, file_end, memory_end}
+use Rattle.elf_image.specs.Pieces.{header, read_only_part, code_part, writable_part, dynamic_part, reloc_bytes, load, dynamic_at, entry}
+use Rattle.elf_image.specs.Pieces.{descriptor_entries, dyn_bytes, entries_bytes, dynamic_entries}
 use Rattle.elf_image.specs.Ranges.{RelocFits, IsFileOf}
 use Rattle.elf_image.specs.Laws.Order.{InOrder, in_order, Within, within}
 use Rattle.elf_image.specs.Laws.Entries.{length-dyn_bytes, length-entries_bytes, length-dynamic_entries}
-use Rattle.elf_image.specs.Laws.Whole.{length-reloc_bytes, length-relocs, length-word_bytes, length-words}
+use Rattle.elf_image.specs.Laws.Whole.{length-reloc_bytes, length-relocs}
 
 -- bytes that stand at one place, as many of each
 stands_once : (file : List ℕ) (a b : ℕ) (xs ys : List ℕ) → StandsAt file a xs → StandsAt file b ys → a ≡ b → length xs ≡ length ys → xs ≡ ys
@@ -172,7 +175,10 @@ entries_fit p valid =
                     (
                       entry_fits 0x7000000b 0
                           (omega arith) (omega arith),
-                      (entry_fits 0x7000000c 1 (omega arith) (omega arith), last_fit (descriptors_place p) p.descriptors (omega arith) (omega arith)),
+                      (
+                        entry_fits 0x7000000c 1 (omega arith) (omega arith),
+                        last_fit (descriptors_place p) p.descriptors (omega arith) (omega arith),
+                      ),
                     ),
                   ),
                 ),
@@ -369,4 +375,12 @@ same_parts file p q a b =
 pub one_image : (p q : Image) (file : List ℕ) → IsFileOf p file → IsFileOf q file → p ≡ q
 one_image p q file a b =
     let s : SameParts p q = same_parts file p q a b in
-    λ i. record { entry = s.entry_is i; relocs = s.relocs i; descriptors = s.descriptors i; rodata = s.rodata i; words = s.words i; filled = s.filled i; zero_bytes = s.zero_bytes i }
+    λ i. record {
+      entry = s.entry_is i;
+      relocs = s.relocs i;
+      descriptors = s.descriptors i;
+      rodata = s.rodata i;
+      words = s.words i;
+      filled = s.filled i;
+      zero_bytes = s.zero_bytes i;
+    }

@@ -2,9 +2,10 @@
 use Rattle.std.proofs.Common.{◌≡◌, ℕ, ◌+◌, ◌*◌, ◌≤◌, length, refl, arith}
 use Rattle.mt_base.specs.Laws.Granules.{round16-covers}
 use Rattle.elf_image.specs.Image.{Image}
-use Rattle.elf_image.specs.Places.{IsValid, round_page, dynamic_count, descriptors_place, rodata_place, rodata_end, code_place, code_end, dynamic_place, dynamic_end, filled_place, file_end, memory_end}
+use Rattle.elf_image.specs.Places.{IsValid, round_page, dynamic_count, descriptors_place, rodata_place, rodata_end, code_place, code_end}
+use Rattle.elf_image.specs.Places.{dynamic_place, dynamic_end, filled_place, file_end, memory_end}
 
-le-round_page : (x : ℕ) → x ≤ round_page x
+pub le-round_page : (x : ℕ) → x ≤ round_page x
 le-round_page x = omega arith
 
 pub record InOrder (p : Image) : Type 0 where

@@ -1,5 +1,7 @@
 -- A file without a fault is that of the image that its headers say.
-use Rattle.std.proofs.Common.{◌≡◌, ℕ, ◌+◌, ◌-◌, ◌*◌, ◌/◌, ◌%◌, ◌^◌, ◌≤◌, ◌<◌, ◌⊎◌, List, [], ◌∷◌, ◌++◌, length, take, drop, get_or, replicate, refl, sym, ap, ap₂, ◌∙◌, subst, inl, inr, arith, length-take, length-drop, length-append, ext_get_or, get_or-take, get_or-drop}
+use Rattle.std.proofs.Common.{◌≡◌, ℕ, ◌+◌, ◌-◌, ◌*◌, ◌/◌, ◌%◌, ◌^◌, ◌≤◌, ◌<◌, ◌⊎◌, List, [], ◌∷◌, ◌++◌, length, take, drop, get_or}
+use Rattle.std.proofs.Common.{replicate, refl, sym, ap, ap₂, ◌∙◌, subst, inl, inr, arith, length-take, length-drop, length-append}
+use Rattle.std.proofs.Common.{ext_get_or, get_or-take, get_or-drop}
 use Rattle.std.proofs.lemmas.List.{get_or_past, get_or-replicate}
 use Rattle.std.specs.List.{flat_map}
 use Rattle.mt_base.specs.Granules.{round16}
@@ -10,23 +12,26 @@ use Rattle.elf_base.specs.Field.{bytes_of, StandsAt}
 use Rattle.elf_base.specs.Layout.{AllStand, IsGap, IsLaidOut, word_bytes}
 use Rattle.elf_base.specs.Records.{ehdr_fields, phdr_fields}
 use Rattle.elf_base.specs.Standing.{ehdr_at, phdr_at}
-use Rattle.elf_base.specs.Laws.Lengths.{IsBytes, length-ehdr, length-phdr}
+use Rattle.elf_base.specs.Laws.Lengths.{IsBytes, length-ehdr, length-phdr, length-words}
 use Rattle.elf_base.specs.Laws.RecordsStand.{stands_taken, ehdr_stands, phdr_stands}
+use Rattle.elf_base.specs.Laws.Zeros.{zero_there}
+use Rattle.elf_base.specs.Laws.Standing.{number_fits}
 use Rattle.elf_image.specs.declared.heads.Heads.{Heads}
 use Rattle.elf_image.specs.Image.{Image}
 use Rattle.elf_image.specs.ImageFile.{ImageFile}
 use Rattle.elf_image.specs.Ranges.{IsFileOf}
 use Rattle.elf_image.specs.Heads.{heads_at, reloc_bytes_at, descriptor_bytes_at}
-use Rattle.elf_image.specs.Places.{IsValid, round_page, dynamic_count, descriptors_place, rodata_place, rodata_end, code_place, code_end, dynamic_place, dynamic_end, filled_place, file_end, memory_end}
-use Rattle.elf_image.specs.Pieces.{header, load, dynamic_at, read_only_part, code_part, writable_part, dynamic_part, entry, descriptor_entries, table_entries, dynamic_entries, entries_bytes, reloc_bytes, pieces}
-use Rattle.elf_image.specs.Faults.{fault_of}
+use Rattle.elf_image.specs.Places.{IsValid, round_page, dynamic_count, descriptors_place, rodata_place, rodata_end, code_place, code_end}
+use Rattle.elf_image.specs.Places.{dynamic_place, dynamic_end, filled_place, file_end, memory_end}
+use Rattle.elf_image.specs.Pieces.{header, load, dynamic_at, read_only_part, code_part, writable_part, dynamic_part, entry}
+use Rattle.elf_image.specs.Pieces.{descriptor_entries, table_entries, dynamic_entries, entries_bytes, reloc_bytes, pieces}
+use Rattle.elf_image.specs.Faults.{fault_of, no_fault}
 use Rattle.elf_image.specs.Laws.Entries.{length-dynamic_entries}
-use Rattle.elf_image.specs.Laws.Holding.{no_fault}
-use Rattle.elf_image.specs.Laws.Items.{number_fits, words_at, relocs_at, length-words_at, length-relocs_at, words_fit, relocs_fit, words_taken, relocs_taken, entries_taken, AreEntries}
-use Rattle.elf_image.specs.Laws.Order.{InOrder, in_order}
+use Rattle.elf_image.specs.Laws.Items.{words_at, relocs_at, length-words_at, length-relocs_at, words_fit, relocs_fit, words_taken}
+use Rattle.elf_image.specs.Laws.Items.{relocs_taken, entries_taken, AreEntries}
+use Rattle.elf_image.specs.Laws.Order.{InOrder, in_order, le-round_page}
 use Rattle.elf_image.specs.Laws.Right.{Right, RightEntries, described, plain, right, rodata_at, tables_of, described_of, plain_of}
-use Rattle.elf_image.specs.Laws.Tests.{zeros_are}
-use Rattle.elf_image.specs.Laws.Whole.{length-relocs, length-words}
+use Rattle.elf_image.specs.Laws.Whole.{length-relocs}
 
 -- the image that the headers of a file say
 abbrev pub image_at : List ℕ → Heads → Image
@@ -69,7 +74,8 @@ all_some p relocs descriptors a b c some =
     let ends : descriptor_entries (descriptors_place p) p.descriptors
     ≡ (entry 0x7000000d (descriptors_place p) ∷ entry 0x7000000f (length p.descriptors) ∷ []) =
     entries_some (descriptors_place p) p.descriptors (omega arith) in
-    let first : dynamic_entries p ≡ table_entries p ++ (entry 0x7000000d (descriptors_place p) ∷ entry 0x7000000f (length p.descriptors) ∷ entry 0 0 ∷ []) =
+    let first : dynamic_entries p ≡ table_entries p ++
+    (entry 0x7000000d (descriptors_place p) ∷ entry 0x7000000f (length p.descriptors) ∷ entry 0 0 ∷ []) =
     ap (λ (ds : List Dyn). table_entries p ++ ds ++ entry 0 0 ∷ []) ends in
     first ∙ (λ i. tables_of (a i) ++ (entry 0x7000000d (b i) ∷ entry 0x7000000f (c i) ∷ entry 0 0 ∷ []))
 
@@ -102,9 +108,6 @@ record Placed (file : List ℕ) (h : Heads) (p : Image) : Type 0 where
   file_ends : file_end p ≡ h.writable.offset + h.writable.filesz
   memory : memory_end p ≡ h.writable.offset + h.writable.memsz
   entries_size : h.dynamic.filesz % 16 ≡ 0
-
-page_from : (x : ℕ) → x ≤ round_page x
-page_from x = omega arith
 
 -- a page and whole granules behind it
 pub granules_behind : (x y : ℕ) → y % 16 ≡ 0 → round16 (round_page x + y) ≡ round_page x + y
@@ -163,7 +166,8 @@ placed file h r =
     length-part (h.read_only.filesz - rodata_at file h) (rodata_at file h) file
     (omega (arith, tables.rodata_within, sizes.read_only_within, first)) in
     let filled : length p.filled ≡ h.writable.filesz - h.dynamic.filesz =
-    length-part (h.writable.filesz - h.dynamic.filesz) (h.writable.offset + h.dynamic.filesz) file (omega (arith, sizes.end, sizes.entries)) in
+    length-part (h.writable.filesz - h.dynamic.filesz) (h.writable.offset + h.dynamic.filesz) file
+    (omega (arith, sizes.end, sizes.entries)) in
     let s : Sized file h p = sized file h p descriptors r.entries in
     let at_descriptors : descriptors_place p ≡ 0x140 + reloc_bytes_at file h = omega (arith, o.relocs, relocs) in
     let at_rodata : rodata_place p ≡ rodata_at file h =
@@ -192,10 +196,10 @@ placed file h r =
       rodata_place_is = at_rodata;
       rodata = rodata_ends;
       code = at_code;
-      code_from = omega (arith, code_at, page_from h.read_only.filesz);
+      code_from = omega (arith, code_at, le-round_page h.read_only.filesz);
       code_end_is = code_ends;
       dynamic = at_dynamic;
-      dynamic_from = omega (arith, writable_at, page_from (h.code.offset + h.code.filesz));
+      dynamic_from = omega (arith, writable_at, le-round_page (h.code.offset + h.code.filesz));
       dynamic_end_is = dynamic_ends;
       filled = at_filled;
       file_ends = file_ends;
@@ -215,7 +219,8 @@ valid file h r s =
 
 -- ---- what stands
 
-zeros_stand : (file : List ℕ) → 0x140 ≤ length file → ((i : ℕ) → 0x120 ≤ i → i < 0x140 → get_or file i 0 ≡ 0) → StandsAt file 0x120 (replicate 25 0)
+zeros_stand : (file : List ℕ) → 0x140 ≤ length file → ((i : ℕ) → 0x120 ≤ i → i < 0x140 → get_or file i 0 ≡ 0)
+    → StandsAt file 0x120 (replicate 25 0)
 zeros_stand file long zero =
     ext_get_or 0 (take 25 (drop 0x120 file)) (replicate 25 0) (length-part 25 0x120 file (omega arith))
     (λ i within.
@@ -275,7 +280,8 @@ all_stand file fits r =
     part_stands file (h.header.phoff + 56) 120 (code_part p) fits (omega (arith, s.phoff)) (omega (arith, heads_long))
     (r.heads.code ∙ ap₂ (λ (a n : ℕ). load 5 a n n) (sym (code_place_eq p h.read_only.filesz s.rodata)) (sym s.words)) in
     let third : StandsAt file 176 (bytes_of (phdr_fields (writable_part p))) =
-    let place : round_page (h.code.offset + h.code.filesz) ≡ dynamic_place p = sym (dynamic_place_eq p (h.code.offset + h.code.filesz) s.code_end_is) in
+    let place : round_page (h.code.offset + h.code.filesz) ≡ dynamic_place p =
+    sym (dynamic_place_eq p (h.code.offset + h.code.filesz) s.code_end_is) in
     let filesz : h.writable.filesz ≡ file_end p - dynamic_place p = omega (arith, s.file_ends, s.dynamic) in
     let memsz : h.writable.memsz ≡ memory_end p - dynamic_place p = omega (arith, s.memory, s.dynamic) in
     part_stands file (h.header.phoff + 112) 176 (writable_part p) fits (omega (arith, s.phoff)) (omega (arith, heads_long))
@@ -286,7 +292,8 @@ all_stand file fits r =
     let k = reloc_bytes_at file h / 24 in
     let whole : 24 * k ≡ reloc_bytes_at file h = omega (arith, tables.relocs) in
     let relocs : StandsAt file 0x140 (flat_map reloc_bytes p.relocs) =
-    stands_taken file 0x140 (24 * k) (flat_map reloc_bytes p.relocs) (omega (arith, whole, tables.relocs_within, sizes.read_only_within, s.first))
+    stands_taken file 0x140 (24 * k) (flat_map reloc_bytes p.relocs)
+    (omega (arith, whole, tables.relocs_within, sizes.read_only_within, s.first))
     (relocs_taken k 0x140 file fits (omega (arith, whole, tables.relocs_within, sizes.read_only_within, s.first)) tables.relative) in
     let descriptors : StandsAt file (descriptors_place p) p.descriptors =
     moved file (descriptors_place p) (0x140 + reloc_bytes_at file h) p.descriptors s.descriptors_at
@@ -303,12 +310,14 @@ all_stand file fits r =
     (stands_taken file h.code.offset (4 * n) (flat_map word_bytes p.words) (omega (arith, words, sizes.code_within))
     (words_taken n h.code.offset file fits (omega (arith, words, sizes.code_within)))) in
     let entries : StandsAt file (dynamic_place p) (entries_bytes (dynamic_entries p)) =
-    moved file (dynamic_place p) h.writable.offset (entries_bytes (dynamic_entries p)) s.dynamic (entries_stand file h fits r s r.entries) in
+    moved file (dynamic_place p) h.writable.offset (entries_bytes (dynamic_entries p)) s.dynamic
+    (entries_stand file h fits r s r.entries) in
     let filled : StandsAt file (filled_place p) p.filled =
     moved file (filled_place p) (h.writable.offset + h.dynamic.filesz) p.filled s.filled
     (stands_taken file (h.writable.offset + h.dynamic.filesz) (h.writable.filesz - h.dynamic.filesz) p.filled
     (omega (arith, sizes.end, sizes.entries)) refl) in
-    let symbols = zeros_stand file (omega (arith, sizes.tables, sizes.read_only_within, s.first)) (zeros_are 0x120 0x140 file r.gaps.tables) in
+    let symbols = zeros_stand file (omega (arith, sizes.tables, sizes.read_only_within, s.first))
+    (zero_there file 0x120 0x140 r.gaps.tables) in
     (head, (one, (second, (third, (fourth, (symbols, (relocs, (descriptors, (rodata, (code, (entries, (filled, tt))))))))))))
 
 behind : (i place n : ℕ) → (i < place) ⊎ (place + n ≤ i) → place ≤ i → place + n ≤ i
@@ -337,18 +346,18 @@ gaps file r i gap =
     let a3 : 232 ≤ i = omega (arith, behind i 176 (length (bytes_of (phdr_fields (writable_part p)))) gap.1.1.1.0 a2, l3) in
     let a4 : 0x120 ≤ i = omega (arith, behind i 232 (length (bytes_of (phdr_fields (dynamic_part p)))) gap.1.1.1.1.0 a3, l4) in
     elim g5.1.0 [
-      | inl tables ↦ zeros_are 0x120 0x140 file r.gaps.tables i a4 tables
+      | inl tables ↦ zero_there file 0x120 0x140 r.gaps.tables i a4 tables
       | inr relocs ↦
           let a6 : descriptors_place p ≤ i = omega (arith, relocs, l6, s.relocs, s.descriptors_at) in
           let a7 = behind i (descriptors_place p) (length p.descriptors) g5.1.1.0 a6 in
           elim g5.1.1.1.0 [
-            | inl rodata ↦ zeros_are (0x140 + reloc_bytes_at file h + descriptor_bytes_at file h) (rodata_at file h) file r.gaps.rodata i
+            | inl rodata ↦ zero_there file (0x140 + reloc_bytes_at file h + descriptor_bytes_at file h) (rodata_at file h) r.gaps.rodata i
                 (omega (arith, a7, s.descriptors_at, s.descriptors)) (omega (arith, rodata, s.rodata_place_is))
             | inr behind_rodata ↦ elim g5.1.1.1.1.0 [
-              | inl code ↦ zeros_are h.read_only.filesz h.code.offset file r.gaps.code i
+              | inl code ↦ zero_there file h.read_only.filesz h.code.offset r.gaps.code i
                   (omega (arith, behind_rodata, (in_order p).rodata, s.rodata)) (omega (arith, code, s.code))
               | inr behind_code ↦ elim g5.1.1.1.1.1.0 [
-                | inl writable ↦ zeros_are (h.code.offset + h.code.filesz) h.writable.offset file r.gaps.writable i
+                | inl writable ↦ zero_there file (h.code.offset + h.code.filesz) h.writable.offset r.gaps.writable i
                     (omega (arith, behind_code, l9, s.words, s.code)) (omega (arith, writable, s.dynamic))
                 | inr behind_entries ↦
                     let a10 : filled_place p ≤ i = omega (arith, behind_entries, l10, s.count, s.dynamic, s.filled) in

@@ -1,5 +1,6 @@
 -- Each file has one answer: what it says of memory tagging, or its first fault.
-use Rattle.std.proofs.Common.{◌≡◌, ℕ, ◌+◌, ◌*◌, ◌<◌, ◌≤◌, List, length, take, Result, Ok, Err, Option, Some, None, refl, sym, ap, ◌∙◌, arith, inl, inr}
+use Rattle.std.proofs.Common.{◌≡◌, ℕ, ◌+◌, ◌*◌, ◌<◌, ◌≤◌, List, length, take, Result, Ok, Err, Option, Some, None, refl, sym, ap, ◌∙◌}
+use Rattle.std.proofs.Common.{arith, inl, inr}
 use Rattle.std.specs.Prelude.{◌==◌, nat_lt, Bool, true, false, if◌then◌else◌, bytes_eq, option_map, find, IsSome, ◌⊎◌}
 use Rattle.std.proofs.lemmas.Bool.{cases_lt, lt-ltb, le-ltb, ne_eqb, eq-eqb}
 use Rattle.std.proofs.lemmas.Slice.Eq.{bytes_eq-Decides}
@@ -11,9 +12,12 @@ use Rattle.elf_image.specs.declared.memtag.Headers.{Headers}
 use Rattle.elf_image.specs.declared.memtag.MemtagInfo.{MemtagInfo}
 use Rattle.elf_image.specs.declared.refusal.ImageRefusal.{ImageRefusal}
 use Rattle.elf_image.specs.declared.refusal.ImageRefusal.TheVariants.{NotElf, NotThisMachine, Truncated, BadSegment, BadDynamic}
-use Rattle.elf_image.specs.MemtagFile.{ident, BeginsElf, header_of, HasHeader, HasSegments, segments_of, is_dynamic, HasDynamic, entries_of, first_of}
+use Rattle.elf_image.specs.MemtagFile.{ident, BeginsElf, header_of, HasHeader, HasSegments, segments_of, is_dynamic, HasDynamic}
+use Rattle.elf_image.specs.MemtagFile.{entries_of, first_of}
 use Rattle.elf_base.specs.Index.{told_index}
-use Rattle.elf_image.specs.MemtagEntries.{mode_tag, heap_tag, stack_tag, globals_tag, size_tag, loaded_bytes, AreDescriptors, value_of, Entries, MemtagFault, not_elf, no_header, other_machine, other_headers, headers_cut, no_dynamic, dynamic_cut, no_descriptors}
+use Rattle.elf_image.specs.MemtagEntries.{mode_tag, heap_tag, stack_tag, globals_tag, size_tag, loaded_bytes, AreDescriptors, value_of}
+use Rattle.elf_image.specs.MemtagEntries.{Entries, MemtagFault, not_elf, no_header, other_machine, other_headers, headers_cut, no_dynamic}
+use Rattle.elf_image.specs.MemtagEntries.{dynamic_cut, no_descriptors}
 
 -- the program headers are where the file's header says
 pub record AreHeaders (file : List ℕ) (headers : Headers) : Type 0 where
@@ -71,7 +75,8 @@ with_segments file = with_dynamic file (find is_dynamic (segments_of file))
 unfoldable pub with_header : List ℕ → Answer
 with_header file =
     if (header_of file).phentsize == 56
-    then (if nat_lt (length file) ((header_of file).phoff + 56 * (header_of file).phnum) then Err (Truncated (length file)) else with_segments file)
+    then (if nat_lt (length file) ((header_of file).phoff + 56 * (header_of file).phnum) then Err
+    (Truncated (length file)) else with_segments file)
     else Err (BadSegment 0)
 
 unfoldable pub with_start : List ℕ → Answer
@@ -190,7 +195,8 @@ told_fault file segment fault = refl
 pub entries_read : (file : List ℕ) (info : MemtagInfo) → Entries file info → read_as file ≡ Ok info
 entries_read file info e =
     of_dynamic file e.segment e.dynamic
-    ∙ ap (told file e.segment) (described_so file (first_of globals_tag (entries_of file e.segment)) (first_of size_tag (entries_of file e.segment))
+    ∙ ap (told file e.segment) (described_so file (first_of globals_tag (entries_of file e.segment))
+    (first_of size_tag (entries_of file e.segment))
     info.descriptors e.descriptors)
     ∙ told_found file e.segment info e.mode e.heap e.stack
 

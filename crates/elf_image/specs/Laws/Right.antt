@@ -1,19 +1,26 @@
 -- What holds of the headers and the bytes of a file without a fault.
-use Rattle.std.proofs.Common.{◌≡◌, ℕ, ◌+◌, ◌*◌, ◌/◌, ◌%◌, ◌≤◌, ◌⊎◌, List, [], ◌∷◌, ◌++◌, length, take, drop, refl, sym, ap, ◌∙◌, subst, inl, inr, arith, length-take, length-drop}
+use Rattle.std.proofs.Common.{◌≡◌, ℕ, ◌+◌, ◌*◌, ◌/◌, ◌%◌, ◌≤◌, ◌⊎◌, List, [], ◌∷◌, ◌++◌, length, take, drop, refl, sym, ap, ◌∙◌, subst}
+use Rattle.std.proofs.Common.{inl, inr, arith, length-take, length-drop}
 use Rattle.std.specs.Prelude.{Bool, true, false, ◌&&◌, ◌||◌, ◌==◌, nat_le, if◌then◌else◌}
 use Rattle.std.proofs.lemmas.Bool.{leb-true, eqb-true, cases_Bool, false≢true}
 use Rattle.mt_base.specs.Granules.{round16}
 use Rattle.mt_base.specs.Laws.Granules.{round16-covers}
 use Rattle.elf_base.specs.declared.dynamic.Dyn.{Dyn}
 use Rattle.elf_base.specs.Standing.{ehdr_at, dyn_at}
+use Rattle.elf_base.specs.Conditions.{Condition}
+use Rattle.elf_base.specs.Zeros.{is_zero_between}
+use Rattle.elf_base.specs.Laws.Tests.{both}
+use Rattle.elf_base.specs.Laws.Conditions.{EachHolds, each_holds, holds_front, holds_back}
 use Rattle.elf_image.specs.declared.heads.Heads.{Heads}
 use Rattle.elf_image.specs.Heads.{heads_at, entry_at, reloc_bytes_at, descriptor_bytes_at}
 use Rattle.elf_image.specs.Places.{round_page}
 use Rattle.elf_image.specs.Pieces.{header_with, load, dynamic_at, entry}
-use Rattle.elf_image.specs.Faults.{zeros_between, are_relative, same_header, same_segment, same_entry, reaches, is_read_only, is_code, is_writable, is_dynamic, is_reloc_size, is_descriptor_size, Condition, opening, contents, segments, asks, table_asks, mode_asks, last_asks, gap_asks, conditions, first_fault, fault_of}
-use Rattle.elf_image.specs.Laws.Tests.{both, header_is, segment_is, entry_is}
-use Rattle.elf_image.specs.Laws.Holding.{no_fault, AllHold, each_holds, holds_front, holds_back}
+use Rattle.elf_image.specs.Faults.{are_relative, same_header, same_segment, same_entry, reaches, is_read_only, is_code, is_writable}
+use Rattle.elf_image.specs.Faults.{is_dynamic, is_reloc_size, is_descriptor_size, opening, contents, segments, asks, table_asks}
+use Rattle.elf_image.specs.Faults.{mode_asks, last_asks, gap_asks, conditions, fault_of, no_fault}
+use Rattle.elf_image.specs.Laws.Tests.{header_is, segment_is, entry_is}
 use Rattle.elf_image.specs.Laws.Items.{AreEntries}
+use Rattle.elf_image.specs.declared.refusal.ImageRefusal.{ImageRefusal}
 
 -- where the read-only data begins, by the sizes in the dynamic entries
 abbrev pub rodata_at : List ℕ → Heads → ℕ
@@ -62,15 +69,16 @@ pub record RightTables (file : List ℕ) (h : Heads) : Type 0 where
 
 -- the gaps
 pub record RightGaps (file : List ℕ) (h : Heads) : Type 0 where
-  pub tables : zeros_between 0x120 0x140 file ≡ true
-  pub rodata : zeros_between (0x140 + reloc_bytes_at file h + descriptor_bytes_at file h) (rodata_at file h) file ≡ true
-  pub code : zeros_between h.read_only.filesz h.code.offset file ≡ true
-  pub writable : zeros_between (h.code.offset + h.code.filesz) h.writable.offset file ≡ true
+  pub tables : is_zero_between file 0x120 0x140 ≡ true
+  pub rodata : is_zero_between file (0x140 + reloc_bytes_at file h + descriptor_bytes_at file h) (rodata_at file h) ≡ true
+  pub code : is_zero_between file h.read_only.filesz h.code.offset ≡ true
+  pub writable : is_zero_between file (h.code.offset + h.code.filesz) h.writable.offset ≡ true
 
 -- the dynamic entries, with descriptors or without
 pub data RightEntries (file : List ℕ) (h : Heads) : Type 0 where
   described : h.dynamic.filesz ≡ 208 → 1 ≤ descriptor_bytes_at file h
-      → AreEntries file h.dynamic.offset 0 (tables_of (reloc_bytes_at file h) ++ described_of (reloc_bytes_at file h) (descriptor_bytes_at file h))
+      → AreEntries file h.dynamic.offset 0 (tables_of (reloc_bytes_at file h) ++ described_of (reloc_bytes_at file h)
+      (descriptor_bytes_at file h))
       → RightEntries file h
   plain : h.dynamic.filesz ≡ 176 → descriptor_bytes_at file h ≡ 0
       → AreEntries file h.dynamic.offset 0 (tables_of (reloc_bytes_at file h) ++ plain_of) → RightEntries file h
@@ -84,20 +92,23 @@ pub record Right (file : List ℕ) (h : Heads) : Type 0 where
 
 -- ---- each group of conditions
 
-right_heads : (file : List ℕ) (h : Heads) → length h.header.ident ≡ 16 → AllHold (opening file h) → AllHold (segments file h) → RightHeads file h
+right_heads : (file : List ℕ) (h : Heads) → length h.header.ident ≡ 16 → EachHolds (opening file h) → EachHolds (segments file h)
+    → RightHeads file h
 right_heads file h ident o s =
-    let read_only = both _ (zeros_between 0x120 0x140 file) s.1.0 in
+    let read_only = both _ (is_zero_between file 0x120 0x140) s.1.0 in
     let read_only_is = both (same_segment h.read_only (load 4 0 h.read_only.filesz h.read_only.filesz)) _ read_only.0 in
-    let code = both _ (zeros_between h.read_only.filesz h.code.offset file) s.1.1.0 in
+    let code = both _ (is_zero_between file h.read_only.filesz h.code.offset) s.1.1.0 in
     let words = both _ (h.code.filesz % 4 == 0) code.0 in
-    let code_is = both (same_segment h.code (load 5 h.code.offset h.code.filesz h.code.filesz)) (round_page h.read_only.filesz == h.code.offset) words.0 in
-    let w1 = both _ (zeros_between (h.code.offset + h.code.filesz) h.writable.offset file) s.1.1.1.0 in
+    let code_is = both (same_segment h.code (load 5 h.code.offset h.code.filesz h.code.filesz))
+    (round_page h.read_only.filesz == h.code.offset) words.0 in
+    let w1 = both _ (is_zero_between file (h.code.offset + h.code.filesz) h.writable.offset) s.1.1.1.0 in
     let w2 = both _ (nat_le (h.writable.offset + h.writable.memsz) 268435456) w1.0 in
     let w3 = both _ (h.writable.memsz % 16 == 0) w2.0 in
     let w4 = both _ (nat_le h.writable.filesz h.writable.memsz) w3.0 in
     let w5 = both _ (h.writable.filesz % 16 == 0) w4.0 in
     let w6 = both _ (nat_le 176 h.writable.filesz) w5.0 in
-    let w7 = both (same_segment h.writable (load 6 h.writable.offset h.writable.filesz h.writable.memsz)) (round_page (h.code.offset + h.code.filesz) == h.writable.offset) w6.0 in
+    let w7 = both (same_segment h.writable (load 6 h.writable.offset h.writable.filesz h.writable.memsz))
+    (round_page (h.code.offset + h.code.filesz) == h.writable.offset) w6.0 in
     let d1 = both _ (nat_le h.dynamic.filesz h.writable.filesz) s.1.1.1.1.0 in
     let d2 = both (same_segment h.dynamic (dynamic_at h.writable.offset h.dynamic.filesz)) _ d1.0 in
     record {
@@ -112,13 +123,13 @@ right_heads file h ident o s =
       dynamic = segment_is h.dynamic (dynamic_at h.writable.offset h.dynamic.filesz) d2.0;
     }
 
-pub right_sizes : (file : List ℕ) (h : Heads) → AllHold (contents file h) → AllHold (segments file h) → RightSizes file h
+pub right_sizes : (file : List ℕ) (h : Heads) → EachHolds (contents file h) → EachHolds (segments file h) → RightSizes file h
 right_sizes file h c s =
-    let read_only = both _ (zeros_between 0x120 0x140 file) s.1.0 in
+    let read_only = both _ (is_zero_between file 0x120 0x140) s.1.0 in
     let tables = both _ (nat_le 0x140 h.read_only.filesz) read_only.0 in
-    let code = both _ (zeros_between h.read_only.filesz h.code.offset file) s.1.1.0 in
+    let code = both _ (is_zero_between file h.read_only.filesz h.code.offset) s.1.1.0 in
     let words = both _ (h.code.filesz % 4 == 0) code.0 in
-    let w1 = both _ (zeros_between (h.code.offset + h.code.filesz) h.writable.offset file) s.1.1.1.0 in
+    let w1 = both _ (is_zero_between file (h.code.offset + h.code.filesz) h.writable.offset) s.1.1.1.0 in
     let w2 = both _ (nat_le (h.writable.offset + h.writable.memsz) 268435456) w1.0 in
     let w3 = both _ (h.writable.memsz % 16 == 0) w2.0 in
     let w4 = both _ (nat_le h.writable.filesz h.writable.memsz) w3.0 in
@@ -139,26 +150,26 @@ right_sizes file h c s =
       end = omega (arith, there, no_more);
     }
 
-right_gaps : (file : List ℕ) (h : Heads) → AllHold (segments file h) → AllHold (gap_asks file h) → RightGaps file h
+right_gaps : (file : List ℕ) (h : Heads) → EachHolds (segments file h) → EachHolds (gap_asks file h) → RightGaps file h
 right_gaps file h s g = record {
-  tables = (both _ (zeros_between 0x120 0x140 file) s.1.0).1;
+  tables = (both _ (is_zero_between file 0x120 0x140) s.1.0).1;
   rodata = g.0;
-  code = (both _ (zeros_between h.read_only.filesz h.code.offset file) s.1.1.0).1;
-  writable = (both _ (zeros_between (h.code.offset + h.code.filesz) h.writable.offset file) s.1.1.1.0).1;
+  code = (both _ (is_zero_between file h.read_only.filesz h.code.offset) s.1.1.0).1;
+  writable = (both _ (is_zero_between file (h.code.offset + h.code.filesz) h.writable.offset) s.1.1.1.0).1;
 }
 
 -- ---- the dynamic entries
 
-either : (a b : Bool) → (a || b) ≡ true → (a ≡ true) ⊎ (b ≡ true)
+pub either : (a b : Bool) → (a || b) ≡ true → (a ≡ true) ⊎ (b ≡ true)
 either true b h = inl refl
 either false b h = inr h
 
 -- what a test chooses
-those : (b : Bool) (cs ds : List Condition) → b ≡ true → AllHold (if b then cs else ds) → AllHold cs
+those : (b : Bool) (cs ds : List (Condition ImageRefusal)) → b ≡ true → EachHolds (if b then cs else ds) → EachHolds cs
 those true cs ds h all = all
 those false cs ds h all = absurd (false≢true h)
 
-others : (b : Bool) (cs ds : List Condition) → b ≡ false → AllHold (if b then cs else ds) → AllHold ds
+others : (b : Bool) (cs ds : List (Condition ImageRefusal)) → b ≡ false → EachHolds (if b then cs else ds) → EachHolds ds
 others true cs ds h all = absurd (false≢true (sym h))
 others false cs ds h all = all
 
@@ -179,19 +190,22 @@ pub record RightLast (file : List ℕ) (h : Heads) : Type 0 where
   pub tables : RightTables file h
   pub entries : RightEntries file h
 
-module _ (file : List ℕ) (h : Heads) (t : AllHold (table_asks file h)) (m : AllHold (mode_asks file h)) (l : AllHold (last_asks file h)) where
+module _ (file : List ℕ) (h : Heads) (t : EachHolds (table_asks file h)) (m : EachHolds (mode_asks file h))
+    (l : EachHolds (last_asks file h)) where
   is : (i : ℕ) (d : Dyn) → same_entry (entry_at file h i) d ≡ true → dyn_at (h.dynamic.offset + 16 * i) file ≡ d
   is i d same = entry_is (entry_at file h i) d same
 
   size : (same_entry (entry_at file h 5) (entry 8 (reloc_bytes_at file h)) ≡ true) × (is_reloc_size h (reloc_bytes_at file h) ≡ true)
   size = both (same_entry (entry_at file h 5) (entry 8 (reloc_bytes_at file h))) (is_reloc_size h (reloc_bytes_at file h)) t.1.1.1.1.1.0
 
-  size_fits : (reloc_bytes_at file h % 24 == 0) ≡ true × ((if h.dynamic.filesz == 208 then nat_le (0x140 + reloc_bytes_at file h) h.read_only.filesz else
+  size_fits : (reloc_bytes_at file h % 24 == 0) ≡ true
+      × ((if h.dynamic.filesz == 208 then nat_le (0x140 + reloc_bytes_at file h) h.read_only.filesz else
       nat_le (round16 (0x140 + reloc_bytes_at file h)) h.read_only.filesz) ≡ true)
   size_fits = both (reloc_bytes_at file h % 24 == 0) _ size.1
 
   -- the first ten entries and others
-  with_tables : (ds : List Dyn) → AreEntries file h.dynamic.offset 10 ds → AreEntries file h.dynamic.offset 0 (tables_of (reloc_bytes_at file h) ++ ds)
+  with_tables : (ds : List Dyn) → AreEntries file h.dynamic.offset 10 ds
+      → AreEntries file h.dynamic.offset 0 (tables_of (reloc_bytes_at file h) ++ ds)
   with_tables ds rest = (
     is 0 (entry 5 0x138) t.0,
     (
@@ -221,7 +235,8 @@ module _ (file : List ℕ) (h : Heads) (t : AllHold (table_asks file h)) (m : Al
   with_descriptors : (h.dynamic.filesz == 208) ≡ true → RightLast file h
   with_descriptors with =
       let last = those (h.dynamic.filesz == 208) _ _ with l in
-      let described_size = both (same_entry (entry_at file h 11) (entry 0x7000000f (descriptor_bytes_at file h))) (is_descriptor_size h (reloc_bytes_at file h) (descriptor_bytes_at file h)) last.1.0 in
+      let described_size = both (same_entry (entry_at file h 11) (entry 0x7000000f (descriptor_bytes_at file h)))
+      (is_descriptor_size h (reloc_bytes_at file h) (descriptor_bytes_at file h)) last.1.0 in
       let fits = both (nat_le 1 (descriptor_bytes_at file h)) _ described_size.1 in
       record {
         tables = record {
@@ -254,10 +269,11 @@ module _ (file : List ℕ) (h : Heads) (t : AllHold (table_asks file h)) (m : Al
         entries = plain size none (with_tables plain_of (is 10 (entry 0 0) last.0, tt));
       }
 
-  pub right_last : AllHold (segments file h) → RightLast file h
+  pub right_last : EachHolds (segments file h) → RightLast file h
   right_last s =
       let d1 = both _ (nat_le h.dynamic.filesz h.writable.filesz) s.1.1.1.1.0 in
-      let d2 = both (same_segment h.dynamic (dynamic_at h.writable.offset h.dynamic.filesz)) (h.dynamic.filesz == 176 || h.dynamic.filesz == 208) d1.0 in
+      let d2 = both (same_segment h.dynamic (dynamic_at h.writable.offset h.dynamic.filesz))
+      (h.dynamic.filesz == 176 || h.dynamic.filesz == 208) d1.0 in
       elim (cases_Bool (h.dynamic.filesz == 208)) [
         | inl with ↦ with_descriptors with
         | inr without ↦ elim (either (h.dynamic.filesz == 176) (h.dynamic.filesz == 208) d2.1) [
@@ -273,7 +289,7 @@ pub right : (file : List ℕ) → fault_of file ≡ no_fault → Right file (hea
 unfolding fault_of
 right file none =
     let h = heads_at file in
-    let all : AllHold (conditions file h) = each_holds (conditions file h) none in
+    let all : EachHolds (conditions file h) = each_holds (conditions file h) none in
     let r5 = last_asks file h ++ gap_asks file h in
     let r4 = mode_asks file h ++ r5 in
     let r3 = table_asks file h ++ r4 in

@@ -1,24 +1,16 @@
 -- What the tests of a file's fields and bytes say.
-use Rattle.std.proofs.Common.{◌≡◌, ℕ, zero, suc, ◌+◌, ◌-◌, ◌%◌, ◌≤◌, ◌<◌, List, [], ◌∷◌, ◌++◌, length, take, drop, get_or, refl, sym, ap, ◌∙◌, inl, inr, arith, get_or-drop, get_or-take, length-take}
-use Rattle.std.specs.Prelude.{Bool, true, false, ◌&&◌, ◌==◌}
-use Rattle.std.specs.List.{list_all}
+use Rattle.std.proofs.Common.{◌≡◌, ℕ, ◌+◌, ◌-◌, ◌%◌, ◌≤◌, ◌<◌, List, [], ◌∷◌, ◌++◌, length, refl, ap}
+use Rattle.std.proofs.Common.{◌∙◌, inl, inr, arith}
+use Rattle.std.specs.Prelude.{true, false, ◌==◌}
 use Rattle.std.specs.Ordering.{int_eq}
-use Rattle.std.proofs.lemmas.Bool.{cases_lt, cases_Bool, eq-eqb, eqb-true, false≢true}
+use Rattle.std.proofs.lemmas.Bool.{cases_Bool, eq-eqb, eqb-true}
 use Rattle.std.proofs.lemmas.Bool.Decides.{Decides-int_eq}
-use Rattle.std.proofs.lemmas.List.{get_or_past}
 use Rattle.elf_base.specs.declared.header.Ehdr.{Ehdr}
 use Rattle.elf_base.specs.declared.segment.Phdr.{Phdr}
 use Rattle.elf_base.specs.declared.dynamic.Dyn.{Dyn}
+use Rattle.elf_base.specs.Laws.Tests.{both, both_hold}
 use Rattle.elf_image.specs.Places.{round_page}
-use Rattle.elf_image.specs.Faults.{agrees, same_header, same_segment, same_entry, is_zero, zeros_between}
-
-pub both : (a b : Bool) → (a && b) ≡ true → (a ≡ true) × (b ≡ true)
-both true b h = (refl, h)
-both false b h = absurd (false≢true h)
-
-pub two : (a b : Bool) → a ≡ true → b ≡ true → (a && b) ≡ true
-two true b h g = g
-two false b h g = absurd (false≢true h)
+use Rattle.elf_image.specs.Faults.{agrees, same_header, same_segment, same_entry}
 
 -- ---- records
 
@@ -40,7 +32,16 @@ segment_is p q h =
     let filesz = eqb-true p.filesz q.filesz s6.1 in
     let memsz = eqb-true p.memsz q.memsz s7.1 in
     let align = eqb-true p.align q.align s8.1 in
-    λ i. record { kind = kind i; flags = flags i; offset = offset i; vaddr = vaddr i; paddr = paddr i; filesz = filesz i; memsz = memsz i; align = align i }
+    λ i. record {
+      kind = kind i;
+      flags = flags i;
+      offset = offset i;
+      vaddr = vaddr i;
+      paddr = paddr i;
+      filesz = filesz i;
+      memsz = memsz i;
+      align = align i;
+    }
 
 equal : (a : ℕ) → (a == a) ≡ true
 equal a = eq-eqb a a refl
@@ -48,7 +49,8 @@ equal a = eq-eqb a a refl
 pub segment_same : (p : Phdr) → same_segment p p ≡ true
 unfolding same_segment
 segment_same p =
-    two _ _ (two _ _ (two _ _ (two _ _ (two _ _ (two _ _ (two _ _ (equal p.kind) (equal p.flags)) (equal p.offset)) (equal p.vaddr))
+    both_hold _ _ (both_hold _ _ (both_hold _ _ (both_hold _ _
+    (both_hold _ _ (both_hold _ _ (both_hold _ _ (equal p.kind) (equal p.flags)) (equal p.offset)) (equal p.vaddr))
     (equal p.paddr)) (equal p.filesz)) (equal p.memsz)) (equal p.align)
 
 pub entry_is : (d e : Dyn) → same_entry d e ≡ true → d ≡ e
@@ -61,7 +63,7 @@ entry_is d e h =
 
 pub entry_same : (d : Dyn) → same_entry d d ≡ true
 unfolding same_entry
-entry_same d = two _ _ ((Decides-int_eq d.tag d.tag).1 refl) (equal d.value)
+entry_same d = both_hold _ _ ((Decides-int_eq d.tag d.tag).1 refl) (equal d.value)
 
 pub agrees_is : (xs ys : List ℕ) → length xs ≡ length ys → agrees xs ys ≡ true → xs ≡ ys
 unfolding agrees
@@ -77,12 +79,12 @@ pub agrees_front : (wanted rest : List ℕ) → agrees (wanted ++ rest) wanted �
 unfolding agrees
 agrees_front [] [] = refl
 agrees_front [] (b ∷ bs) = refl
-agrees_front (w ∷ ws) rest = two _ _ (equal w) (agrees_front ws rest)
+agrees_front (w ∷ ws) rest = both_hold _ _ (equal w) (agrees_front ws rest)
 
 pub agrees_same : (xs : List ℕ) → agrees xs xs ≡ true
 unfolding agrees
 agrees_same [] = refl
-agrees_same (x ∷ xs) = two _ _ (equal x) (agrees_same xs)
+agrees_same (x ∷ xs) = both_hold _ _ (equal x) (agrees_same xs)
 
 pub header_is : (h g : Ehdr) → length h.ident ≡ length g.ident → same_header h g ≡ true → h ≡ g
 unfolding same_header
@@ -114,42 +116,33 @@ header_is h g len same =
     let shentsize = eqb-true h.shentsize g.shentsize s12.1 in
     let shnum = eqb-true h.shnum g.shnum s13.1 in
     let shstrndx = eqb-true h.shstrndx g.shstrndx s14.1 in
-    λ i. record { ident = ident i; kind = kind i; machine = machine i; version = version i; entry = entry i; phoff = phoff i; shoff = shoff i; flags = flags i; ehsize = ehsize i; phentsize = phentsize i; phnum = phnum i; shentsize = shentsize i; shnum = shnum i; shstrndx = shstrndx i }
+    λ i. record {
+      ident = ident i;
+      kind = kind i;
+      machine = machine i;
+      version = version i;
+      entry = entry i;
+      phoff = phoff i;
+      shoff = shoff i;
+      flags = flags i;
+      ehsize = ehsize i;
+      phentsize = phentsize i;
+      phnum = phnum i;
+      shentsize = shentsize i;
+      shnum = shnum i;
+      shstrndx = shstrndx i;
+    }
 
 pub header_same : (h : Ehdr) → same_header h h ≡ true
 unfolding same_header
 header_same h =
-    two _ _ (two _ _ (two _ _ (two _ _ (two _ _ (two _ _ (two _ _ (two _ _ (two _ _ (two _ _ (two _ _ (two _ _ (two _ _
+    both_hold _ _ (both_hold _ _ (both_hold _ _ (both_hold _ _
+    (both_hold _ _ (both_hold _ _ (both_hold _ _
+    (both_hold _ _ (both_hold _ _ (both_hold _ _ (both_hold _ _ (both_hold _ _ (both_hold _ _
     (agrees_same h.ident) (equal h.kind)) (equal h.machine)) (equal h.version)) (equal h.entry)) (equal h.phoff)) (equal h.shoff))
     (equal h.flags)) (equal h.ehsize)) (equal h.phentsize)) (equal h.phnum)) (equal h.shentsize)) (equal h.shnum)) (equal h.shstrndx)
 
--- ---- zeros
-
-all_zero : (xs : List ℕ) → list_all is_zero xs ≡ true → (i : ℕ) → get_or xs i 0 ≡ 0
-all_zero [] h i = get_or_past [] i 0 (omega arith)
-all_zero (b ∷ bs) h zero = eqb-true b 0 (both (b == 0) (list_all is_zero bs) h).0
-all_zero (b ∷ bs) h (suc i) = all_zero bs (both (b == 0) (list_all is_zero bs) h).1 i
-
-zero_all : (xs : List ℕ) → ((i : ℕ) → get_or xs i 0 ≡ 0) → list_all is_zero xs ≡ true
-zero_all [] h = refl
-zero_all (b ∷ bs) h = two (b == 0) (list_all is_zero bs) (eq-eqb b 0 (h 0)) (zero_all bs (λ i. h (suc i)))
-
--- each byte there is zero
-pub zeros_are : (start end : ℕ) (file : List ℕ) → zeros_between start end file ≡ true → (i : ℕ) → start ≤ i → i < end → get_or file i 0 ≡ 0
-unfolding zeros_between
-zeros_are start end file h i low high =
-    let here : get_or (take (end - start) (drop start file)) (i - start) 0 ≡ 0 = all_zero (take (end - start) (drop start file)) h (i - start) in
-    let within = get_or-take (end - start) (drop start file) (i - start) 0 (omega arith) in
-    let from = get_or-drop start file (i - start) 0 in
-    let place : start + (i - start) ≡ i = omega arith in
-    ap (λ (k : ℕ). get_or file k 0) (sym place) ∙ sym from ∙ sym within ∙ here
-
-pub are_zeros : (start end : ℕ) (file : List ℕ) → ((i : ℕ) → start ≤ i → i < end → get_or file i 0 ≡ 0) → zeros_between start end file ≡ true
-unfolding zeros_between
-are_zeros start end file h = zero_all (take (end - start) (drop start file)) (λ i. elim (cases_lt i (end - start)) [
-  | inl lt ↦ get_or-take (end - start) (drop start file) i 0 lt ∙ get_or-drop start file i 0 ∙ h (start + i) (omega arith) (omega arith)
-  | inr le ↦ get_or_past (take (end - start) (drop start file)) i 0 (omega (arith, length-take (end - start) (drop start file)))
-])
+-- ---- pages
 
 -- the next page begins there
 pub next_page : (end place : ℕ) → end ≤ place → place < end + 4096 → place % 4096 ≡ 0 → (round_page end == place) ≡ true

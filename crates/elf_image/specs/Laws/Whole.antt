@@ -1,12 +1,13 @@
 -- The pieces of an image follow one another up to the end of its file.
 use Rattle.std.proofs.Common.{◌≡◌, ℕ, ◌*◌, List, [], ◌∷◌, length, refl, sym, subst, arith, length-append}
 use Rattle.std.specs.List.{flat_map}
-use Rattle.elf_base.specs.Laws.Lengths.{length-ehdr, length-phdr, length-number, length-signed}
+use Rattle.elf_base.specs.Laws.Lengths.{length-ehdr, length-phdr, length-number, length-signed, length-words}
 use Rattle.elf_image.specs.declared.parts.RelativeReloc.{RelativeReloc}
 use Rattle.elf_image.specs.Image.{Image}
 use Rattle.elf_image.specs.Places.{IsValid, file_end}
-use Rattle.elf_base.specs.Layout.{word_bytes, IsLaidOut}
-use Rattle.elf_image.specs.Pieces.{header, read_only_part, code_part, writable_part, dynamic_part, reloc_bytes, pieces, header_pieces, table_pieces, loaded_pieces}
+use Rattle.elf_base.specs.Layout.{IsLaidOut}
+use Rattle.elf_image.specs.Pieces.{header, read_only_part, code_part, writable_part, dynamic_part, reloc_bytes, pieces, header_pieces}
+use Rattle.elf_image.specs.Pieces.{table_pieces, loaded_pieces}
 use Rattle.elf_base.specs.Laying.{put_all}
 use Rattle.elf_image.specs.ImageFile.{ImageFile}
 use Rattle.elf_image.specs.Laws.Order.{InOrder, in_order}
@@ -19,13 +20,6 @@ length-reloc_bytes r = simp (length-append, length-number, length-signed)
 pub length-relocs : (rs : List RelativeReloc) → length (flat_map reloc_bytes rs) ≡ 24 * length rs
 length-relocs [] = refl
 length-relocs (r ∷ rs) = omega (arith, length-append (reloc_bytes r) (flat_map reloc_bytes rs), length-reloc_bytes r, length-relocs rs)
-
-pub length-word_bytes : (w : ℕ) → length (word_bytes w) ≡ 4
-length-word_bytes w = simp (length-append, length-number)
-
-pub length-words : (ws : List ℕ) → length (flat_map word_bytes ws) ≡ 4 * length ws
-length-words [] = refl
-length-words (w ∷ ws) = omega (arith, length-append (word_bytes w) (flat_map word_bytes ws), length-word_bytes w, length-words ws)
 
 pub pieces_in_order : (p : Image) → AreInOrder 0 (pieces p)
 pieces_in_order p =

@@ -1,20 +1,27 @@
 -- What is within a file whose headers have been judged so far, and the first condition that fails by its number.
-use Rattle.std.proofs.Common.{◌≡◌, ℕ, zero, suc, ◌+◌, ◌*◌, ◌/◌, ◌%◌, ◌≤◌, ◌⊎◌, List, [], ◌∷◌, ◌++◌, length, take, get_or, refl, sym, ap, ◌∙◌, inl, inr, arith, Option, Some, None}
-use Rattle.std.specs.Prelude.{Bool, true, false, ◌&&◌, ◌||◌, ◌==◌, nat_le, if◌then◌else◌}
+use Rattle.std.proofs.Common.{◌≡◌, ℕ, zero, suc, ◌+◌, ◌*◌, ◌/◌, ◌%◌, ◌≤◌, ◌⊎◌, List, [], ◌∷◌, length, take, get_or, sym, ap}
+use Rattle.std.proofs.Common.{◌∙◌, inl, inr, arith}
+use Rattle.std.specs.Prelude.{true, false, ◌||◌, ◌==◌, nat_le}
 use Rattle.std.proofs.lemmas.Bool.{leb-true, eqb-true, cases_Bool, false≢true}
 use Rattle.mt_base.specs.Granules.{round16}
 use Rattle.mt_base.specs.Laws.Granules.{round16-covers}
 use Rattle.elf_base.specs.declared.segment.Phdr.{Phdr}
+use Rattle.elf_base.specs.Conditions.{Condition, condition, first_fault}
+use Rattle.elf_base.specs.Zeros.{is_zero_between}
+use Rattle.elf_base.specs.Laws.Tests.{both}
+use Rattle.elf_base.specs.Laws.Conditions.{EachHolds, each_holds, fails_is, holds_is}
 use Rattle.elf_image.specs.declared.heads.Heads.{Heads}
 use Rattle.elf_image.specs.declared.refusal.ImageRefusal.{ImageRefusal}
 use Rattle.elf_image.specs.declared.refusal.ImageRefusal.TheVariants.{NotElf}
 use Rattle.elf_image.specs.Heads.{heads_at, entry_at, reloc_bytes_at, descriptor_bytes_at}
 use Rattle.elf_image.specs.Places.{round_page}
 use Rattle.elf_image.specs.Pieces.{load, dynamic_at, entry}
-use Rattle.elf_image.specs.Faults.{Condition, condition, first_fault, same_segment, same_entry, zeros_between, is_reloc_size, contents, segments, table_asks, mode_asks, last_asks, fault_of}
-use Rattle.elf_image.specs.Laws.Tests.{both, segment_is}
-use Rattle.elf_image.specs.Laws.Holding.{no_fault, AllHold, each_holds}
-use Rattle.elf_image.specs.Laws.Right.{Right, RightEntries, described, plain, right, right_sizes, RightLast, right_last, rodata_at, that, other}
+use Rattle.elf_image.specs.Faults.{same_segment, same_entry, is_reloc_size, contents, segments, table_asks, mode_asks, last_asks}
+use Rattle.elf_image.specs.Faults.{fault_of, no_fault, fault_is}
+use Rattle.elf_image.specs.Laws.Tests.{segment_is}
+use Rattle.elf_image.specs.Laws.Right.{Right, RightEntries, described, plain, right, right_sizes, right_last, rodata_at, that}
+use Rattle.elf_image.specs.Laws.Right.{other, either}
+use Rattle.elf_image.specs.Laws.Order.{le-round_page}
 
 -- the bytes that the program headers name
 pub record Reaching (file : List ℕ) (h : Heads) : Type 0 where
@@ -45,12 +52,8 @@ pub record Lying (file : List ℕ) (h : Heads) : Type 0 where
   pub entries : h.dynamic.filesz ≤ h.writable.filesz
   pub end : length file ≡ h.writable.offset + h.writable.filesz
 
-one_of : (a b : Bool) → (a || b) ≡ true → (a ≡ true) ⊎ (b ≡ true)
-one_of true b h = inl refl
-one_of false b h = inr h
-
 size_of : (n : ℕ) → (n == 176 || n == 208) ≡ true → (n ≡ 176) ⊎ (n ≡ 208)
-size_of n h = elim (one_of (n == 176) (n == 208) h) [
+size_of n h = elim (either (n == 176) (n == 208) h) [
   | inl small ↦ inl (eqb-true n 176 small)
   | inr large ↦ inr (eqb-true n 208 large)
 ]
@@ -60,15 +63,15 @@ lying file h none no_other =
     let c = each_holds (contents file h) none in
     let s = each_holds (segments file h) no_other in
     let sizes = right_sizes file h c s in
-    let read_only = both _ (zeros_between 0x120 0x140 file) s.1.0 in
+    let read_only = both _ (is_zero_between file 0x120 0x140) s.1.0 in
     let read_only_is = both (same_segment h.read_only (load 4 0 h.read_only.filesz h.read_only.filesz)) _ read_only.0 in
     let first : h.read_only.offset ≡ 0 =
     ap (λ (q : Phdr). q.offset) (segment_is h.read_only (load 4 0 h.read_only.filesz h.read_only.filesz) read_only_is.0) in
-    let code = both _ (zeros_between h.read_only.filesz h.code.offset file) s.1.1.0 in
+    let code = both _ (is_zero_between file h.read_only.filesz h.code.offset) s.1.1.0 in
     let words = both _ (h.code.filesz % 4 == 0) code.0 in
     let code_is = both _ (round_page h.read_only.filesz == h.code.offset) words.0 in
     let code_at : round_page h.read_only.filesz ≡ h.code.offset = eqb-true (round_page h.read_only.filesz) h.code.offset code_is.1 in
-    let w1 = both _ (zeros_between (h.code.offset + h.code.filesz) h.writable.offset file) s.1.1.1.0 in
+    let w1 = both _ (is_zero_between file (h.code.offset + h.code.filesz) h.writable.offset) s.1.1.1.0 in
     let w2 = both _ (nat_le (h.writable.offset + h.writable.memsz) 268435456) w1.0 in
     let w3 = both _ (h.writable.memsz % 16 == 0) w2.0 in
     let w4 = both _ (nat_le h.writable.filesz h.writable.memsz) w3.0 in
@@ -78,7 +81,8 @@ lying file h none no_other =
     let writable_at : round_page (h.code.offset + h.code.filesz) ≡ h.writable.offset =
     eqb-true (round_page (h.code.offset + h.code.filesz)) h.writable.offset w7.1 in
     let d1 = both _ (nat_le h.dynamic.filesz h.writable.filesz) s.1.1.1.1.0 in
-    let d2 = both (same_segment h.dynamic (dynamic_at h.writable.offset h.dynamic.filesz)) (h.dynamic.filesz == 176 || h.dynamic.filesz == 208) d1.0 in
+    let d2 = both (same_segment h.dynamic (dynamic_at h.writable.offset h.dynamic.filesz))
+    (h.dynamic.filesz == 176 || h.dynamic.filesz == 208) d1.0 in
     record {
       first = first;
       tables = sizes.tables;
@@ -110,9 +114,6 @@ counted : (file : List ℕ) (h : Heads) → RightEntries file h → (h.dynamic.f
 counted file h (described size some are) = inr size
 counted file h (plain size none are) = inl size
 
-page_from : (x : ℕ) → x ≤ round_page x
-page_from x = omega arith
-
 pub room : (file : List ℕ) → fault_of file ≡ no_fault → Room file (heads_at file)
 room file none = of (heads_at file) (right file none)
   where
@@ -133,7 +134,14 @@ room file none = of (heads_at file) (right file none)
           descriptors = covers;
           rodata = t.rodata_within;
           read_only = omega (arith, s.read_only_within, first);
-          small = omega (arith, s.limit, code_at, writable_at, page_from h.read_only.filesz, page_from (h.code.offset + h.code.filesz));
+          small = omega (
+            arith,
+            s.limit,
+            code_at,
+            writable_at,
+            le-round_page h.read_only.filesz,
+            le-round_page (h.code.offset + h.code.filesz),
+          );
           words = omega (arith, s.words, s.code_within);
           entries = s.entries;
           writable = sym s.end;
@@ -142,70 +150,35 @@ room file none = of (heads_at file) (right file none)
 
 -- ---- the first condition that fails, by its number
 
-abbrev pub no_condition : Condition
+abbrev pub no_condition : Condition ImageRefusal
 no_condition = condition true NotElf
 
-abbrev pub fault_is : ImageRefusal → Option ImageRefusal
-fault_is e = Some e
-
-fails_first : (c : Condition) (cs : List Condition) → c.holds ≡ false → first_fault (c ∷ cs) ≡ fault_is c.refusal
-fails_first c cs h = first c.holds c.refusal cs h
-  where
-    first : (holds : Bool) (refusal : ImageRefusal) (cs : List Condition) → holds ≡ false
-        → first_fault (record { holds = holds; refusal = refusal } ∷ cs) ≡ fault_is refusal
-    first false refusal cs h = refl
-    first true refusal cs h = absurd (false≢true (sym h))
-
-goes_on : (c : Condition) (cs : List Condition) → c.holds ≡ true → first_fault (c ∷ cs) ≡ first_fault cs
-goes_on c cs h = on c.holds c.refusal cs h
-  where
-    on : (holds : Bool) (refusal : ImageRefusal) (cs : List Condition) → holds ≡ true
-        → first_fault (record { holds = holds; refusal = refusal } ∷ cs) ≡ first_fault cs
-    on true refusal cs h = refl
-    on false refusal cs h = absurd (false≢true h)
-
 -- those before the condition of that number hold, and it does not
-pub fails_at : (k : ℕ) (cs : List Condition) → AllHold (take k cs) → (get_or cs k no_condition).holds ≡ false
+pub fails_at : (k : ℕ) (cs : List (Condition ImageRefusal)) → EachHolds (take k cs) → (get_or cs k no_condition).holds ≡ false
     → first_fault cs ≡ fault_is (get_or cs k no_condition).refusal
 fails_at k [] before fails = absurd (false≢true (sym (none k fails)))
   where
     none : (k : ℕ) → (get_or [] k no_condition).holds ≡ false → true ≡ false
     none zero h = h
     none (suc k) h = h
-fails_at zero (c ∷ cs) before fails = fails_first c cs fails
-fails_at (suc k) (c ∷ cs) before fails = goes_on c cs before.0 ∙ fails_at k cs before.1 fails
-
--- conditions one after the other
-pub first_passes : (cs ds : List Condition) → first_fault cs ≡ no_fault → first_fault (cs ++ ds) ≡ first_fault ds
-first_passes cs ds none = pass cs ds (each_holds cs none)
-  where
-    pass : (cs ds : List Condition) → AllHold cs → first_fault (cs ++ ds) ≡ first_fault ds
-    pass [] ds h = refl
-    pass (c ∷ cs) ds h = goes_on c (cs ++ ds) h.0 ∙ pass cs ds h.1
-
-pub first_stops : (cs ds : List Condition) (e : ImageRefusal) → first_fault cs ≡ fault_is e → first_fault (cs ++ ds) ≡ fault_is e
-first_stops [] ds e h = let none : no_fault ≡ fault_is e = h in absurd cc
-first_stops (c ∷ cs) ds e h = stops c.holds c.refusal cs ds e (first_stops cs ds e) h
-  where
-    stops : (holds : Bool) (refusal : ImageRefusal) (cs ds : List Condition) (e : ImageRefusal)
-        → (first_fault cs ≡ fault_is e → first_fault (cs ++ ds) ≡ fault_is e)
-        → first_fault (record { holds = holds; refusal = refusal } ∷ cs) ≡ fault_is e
-        → first_fault (record { holds = holds; refusal = refusal } ∷ (cs ++ ds)) ≡ fault_is e
-    stops true refusal cs ds e later h = later h
-    stops false refusal cs ds e later h = h
+fails_at zero (c ∷ cs) before fails = fails_is c.holds c.refusal (first_fault cs) fails
+fails_at (suc k) (c ∷ cs) before fails = holds_is c.holds c.refusal (first_fault cs) before.0 ∙ fails_at k cs before.1 fails
 
 -- ---- what the entries that were judged say
 
-pub relocs_fit : (file : List ℕ) (h : Heads) → first_fault (table_asks file h) ≡ no_fault → 0x140 + reloc_bytes_at file h ≤ h.read_only.filesz
+pub relocs_fit : (file : List ℕ) (h : Heads) → first_fault (table_asks file h) ≡ no_fault
+    → 0x140 + reloc_bytes_at file h ≤ h.read_only.filesz
 relocs_fit file h none =
     let t = each_holds (table_asks file h) none in
-    let size = both (same_entry (entry_at file h 5) (entry 8 (reloc_bytes_at file h))) (is_reloc_size h (reloc_bytes_at file h)) t.1.1.1.1.1.0 in
+    let size = both (same_entry (entry_at file h 5) (entry 8 (reloc_bytes_at file h)))
+    (is_reloc_size h (reloc_bytes_at file h)) t.1.1.1.1.1.0 in
     let fits = both (reloc_bytes_at file h % 24 == 0) _ size.1 in
     let covers = round16-covers (0x140 + reloc_bytes_at file h) in
     elim (cases_Bool (h.dynamic.filesz == 208)) [
       | inl with ↦ leb-true (0x140 + reloc_bytes_at file h) h.read_only.filesz (that (h.dynamic.filesz == 208) _ _ with fits.1)
       | inr without ↦
-          let within = leb-true (round16 (0x140 + reloc_bytes_at file h)) h.read_only.filesz (other (h.dynamic.filesz == 208) _ _ without fits.1) in
+          let within = leb-true (round16 (0x140 + reloc_bytes_at file h)) h.read_only.filesz
+          (other (h.dynamic.filesz == 208) _ _ without fits.1) in
           omega (arith, covers, within)
     ]
 

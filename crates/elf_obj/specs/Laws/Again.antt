@@ -1,5 +1,6 @@
 -- In the file of an object stand its contents and headers, and the file claims that object.
-use Rattle.std.proofs.Common.{◌≡◌, ℕ, ◌+◌, ◌-◌, ◌*◌, ◌/◌, ◌<◌, ◌≤◌, ◌^◌, true, List, [], ◌∷◌, ◌++◌, length, take, drop, replicate, refl, sym, ap, subst, ◌∙◌, arith}
+use Rattle.std.proofs.Common.{◌≡◌, ℕ, ◌+◌, ◌-◌, ◌*◌, ◌/◌, ◌<◌, ◌≤◌, ◌^◌, true, List, [], ◌∷◌, ◌++◌, length, take, drop, replicate, refl}
+use Rattle.std.proofs.Common.{sym, ap, subst, ◌∙◌, arith}
 use Rattle.std.specs.List.{AllByRecursion, flat_map}
 use Rattle.std.proofs.lemmas.List.{length-replicate}
 use Rattle.mt_base.specs.Granules.{round16}
@@ -10,6 +11,7 @@ use Rattle.elf_base.specs.Records.{ehdr_fields}
 use Rattle.elf_base.specs.Standing.{ehdr_at}
 use Rattle.elf_base.specs.Laws.Lengths.{length-ehdr}
 use Rattle.elf_base.specs.Laws.RecordsStand.{ehdr_again}
+use Rattle.elf_base.specs.Zeros.{is_zero_between}
 use Rattle.elf_obj.specs.declared.parts.Reloc.{Reloc}
 use Rattle.elf_obj.specs.declared.section.Section.{Section}
 use Rattle.elf_obj.specs.declared.sizes.Sizes.{Sizes}
@@ -18,8 +20,8 @@ use Rattle.elf_obj.specs.Sections.{sections, sizes_of, names_end, contents_end, 
 use Rattle.elf_obj.specs.Records.{header, symbols_bytes, reloc_bytes, tag_bytes, name_bytes}
 use Rattle.elf_obj.specs.Contents.{contents, content_pieces, header_bytes, pieces}
 use Rattle.elf_obj.specs.ObjectFile.{AllCounted, AllNumbered, RelocFits, IsFileOf}
-use Rattle.elf_obj.specs.Claimed.{headers_at, offset_of, size_of, content_of, names_in, names_of, symbols_at, relocs_at, tags_at, words_at, claimed}
-use Rattle.elf_obj.specs.ObjectFault.{is_zero_between}
+use Rattle.elf_obj.specs.Claimed.{headers_at, offset_of, size_of, content_of, names_in, names_of, symbols_at, relocs_at, tags_at}
+use Rattle.elf_obj.specs.Claimed.{words_at, claimed}
 use Rattle.elf_obj.specs.Laws.Lengths.{AreAsLong, contents_are_as_long, length-names}
 use Rattle.elf_obj.specs.Laws.Whole.{first_bytes, last_bytes, pieces_in_order}
 use Rattle.elf_obj.specs.Laws.SectionsHold.{SectionsHold, AllHere}
@@ -90,13 +92,15 @@ sections_fit p file f =
       ),
     )
 
-last_stands : (file : List ℕ) (at : ℕ) (ss : List Section) (cs : List (List ℕ)) (last : Piece) → AllStand file (content_pieces at ss cs ++ last ∷ [])
+last_stands : (file : List ℕ) (at : ℕ) (ss : List Section) (cs : List (List ℕ)) (last : Piece)
+    → AllStand file (content_pieces at ss cs ++ last ∷ [])
     → StandsAt file last.place last.bytes
 last_stands file at [] cs last h = h.0
 last_stands file at (s ∷ ss) [] last h = h.0
 last_stands file at (s ∷ ss) (c ∷ cs) last h = last_stands file (round16 at + s.bytes) ss cs last h.1
 
-here_again : (file : List ℕ) (at k : ℕ) (ss : List Section) (cs : List (List ℕ)) (last : Piece) → SectionsHold file at k ss → AreAsLong ss cs
+here_again : (file : List ℕ) (at k : ℕ) (ss : List Section) (cs : List (List ℕ)) (last : Piece) → SectionsHold file at k ss
+    → AreAsLong ss cs
     → AllStand file (content_pieces at ss cs ++ last ∷ []) → AllHere file k cs
 here_again file at k [] [] last hold long h = tt
 here_again file at k [] (c ∷ cs) last hold long h = absurd long
@@ -158,7 +162,8 @@ ends_low n h = omega (arith, h)
 pub hold_again : (p : Object) (file : List ℕ) → IsFileOf p file → SectionsHold file 64 1 (sections (sizes_of p))
 hold_again p file f =
     let q : Frame (sizes_of p) file = frame p file f in
-    good_hold file 64 1 (sections (sizes_of p)) (sections_fit p file f) (ends_low (contents_end 64 (sections (sizes_of p))) (valid_end p f.is_file.valid)) q.good
+    good_hold file 64 1 (sections (sizes_of p)) (sections_fit p file f)
+    (ends_low (contents_end 64 (sections (sizes_of p))) (valid_end p f.is_file.valid)) q.good
 
 ends_within : (z : Sizes) (file : List ℕ) → Frame z file → contents_end 64 (sections z) ≤ length file
 unfolding headers_place
@@ -173,12 +178,14 @@ within_again p file f =
 
 pub all_again : (p : Object) (file : List ℕ) → IsFileOf p file → AllHere file 1 (contents p)
 all_again p file f =
-    here_again file 64 1 (sections (sizes_of p)) (contents p) (piece (headers_place (sizes_of p)) (last_bytes p)) (hold_again p file f) (contents_are_as_long p)
+    here_again file 64 1 (sections (sizes_of p)) (contents p) (piece (headers_place (sizes_of p)) (last_bytes p)) (hold_again p file f)
+    (contents_are_as_long p)
     f.is_file.laid_out.stand.1
 
 -- ---- the parts
 
-pub content_again : (file : List ℕ) (k : ℕ) (bytes : List ℕ) → size_of file k ≡ length bytes → StandsAt file (offset_of file k) bytes → content_of file k ≡ bytes
+pub content_again : (file : List ℕ) (k : ℕ) (bytes : List ℕ) → size_of file k ≡ length bytes → StandsAt file (offset_of file k) bytes
+    → content_of file k ≡ bytes
 unfolding content_of
 content_again file k bytes size h = ap (λ (n : ℕ). take n (drop (offset_of file k) file)) size ∙ h
 
@@ -194,7 +201,8 @@ counted_relocs n rs at file size fit counted h =
     let count : n / 24 ≡ length rs = omega (arith, size) in
     ap (λ (k : ℕ). relocs_at k at file) count ∙ relocs_again rs at file fit counted h
 
-counted_tags : (n : ℕ) (ts : List ℕ) (at : ℕ) (file : List ℕ) → n ≡ 24 * length ts → AllNumbered ts → StandsAt file at (flat_map tag_bytes ts)
+counted_tags : (n : ℕ) (ts : List ℕ) (at : ℕ) (file : List ℕ) → n ≡ 24 * length ts → AllNumbered ts
+    → StandsAt file at (flat_map tag_bytes ts)
     → tags_at (n / 24) at file ≡ ts
 counted_tags n ts at file size low h =
     let count : n / 24 ≡ length ts = omega (arith, size) in
@@ -222,7 +230,8 @@ symbols_are p file f =
     let records : List ℕ = symbols_bytes 1 p.symbols in
     let parts = apart file (offset_of file 5) 24 (replicate 24 0) records (length-replicate {A = ℕ} 24 0) here.1.1.1.1.0 in
     ap (λ (ns : List (List ℕ)). symbols_at ns (offset_of file 5 + 24) file) (names_are p file f)
-    ∙ symbols_again (sizes_of p) [] p.symbols 1 (offset_of file 5 + 24) file f.is_file.valid.symbols f.ranges.symbols f.is_file.valid.numbers.names parts.1
+    ∙ symbols_again (sizes_of p) [] p.symbols 1 (offset_of file 5 + 24) file f.is_file.valid.symbols f.ranges.symbols
+    f.is_file.valid.numbers.names parts.1
 
 -- a file claims its object
 pub claims : (p : Object) (file : List ℕ) → IsFileOf p file → claimed file ≡ p
@@ -230,15 +239,28 @@ claims p file f =
     let hold = hold_again p file f in
     let here = all_again p file f in
     let numbers = f.is_file.valid.numbers in
-    let words : (claimed file).words ≡ p.words = counted_words (size_of file 1) p.words (offset_of file 1) file hold.0.size f.ranges.words here.0 in
+    let words : (claimed file).words ≡ p.words =
+    counted_words (size_of file 1) p.words (offset_of file 1) file hold.0.size f.ranges.words here.0 in
     let rodata : content_of file 2 ≡ p.rodata = content_again file 2 p.rodata hold.1.0.size here.1.0 in
     let init_bytes : content_of file 3 ≡ p.init_bytes = content_again file 3 p.init_bytes hold.1.1.0.size here.1.1.0 in
     let zero_bytes : size_of file 4 ≡ p.zero_bytes = hold.1.1.1.0.size in
     let symbols : (claimed file).symbols ≡ p.symbols = symbols_are p file f in
     let text_relocs : (claimed file).text_relocs ≡ p.text_relocs =
-    counted_relocs (size_of file 8) p.text_relocs (offset_of file 8) file hold.1.1.1.1.1.1.1.0.size f.ranges.text_relocs numbers.text_relocs here.1.1.1.1.1.1.1.0 in
+    counted_relocs (size_of file 8) p.text_relocs
+    (offset_of file 8) file hold.1.1.1.1.1.1.1.0.size f.ranges.text_relocs numbers.text_relocs here.1.1.1.1.1.1.1.0 in
     let init_relocs : (claimed file).init_relocs ≡ p.init_relocs =
-    counted_relocs (size_of file 9) p.init_relocs (offset_of file 9) file hold.1.1.1.1.1.1.1.1.0.size f.ranges.init_relocs numbers.init_relocs here.1.1.1.1.1.1.1.1.0 in
+    counted_relocs (size_of file 9) p.init_relocs
+    (offset_of file 9) file hold.1.1.1.1.1.1.1.1.0.size f.ranges.init_relocs numbers.init_relocs here.1.1.1.1.1.1.1.1.0 in
     let tagged : (claimed file).tagged ≡ p.tagged =
-    counted_tags (size_of file 11) p.tagged (offset_of file 11) file hold.1.1.1.1.1.1.1.1.1.1.0.size numbers.tagged here.1.1.1.1.1.1.1.1.1.1.0 in
-    λ i. record { words = words i; rodata = rodata i; init_bytes = init_bytes i; zero_bytes = zero_bytes i; symbols = symbols i; text_relocs = text_relocs i; init_relocs = init_relocs i; tagged = tagged i }
+    counted_tags (size_of file 11) p.tagged (offset_of file 11) file hold.1.1.1.1.1.1.1.1.1.1.0.size numbers.tagged
+    here.1.1.1.1.1.1.1.1.1.1.0 in
+    λ i. record {
+      words = words i;
+      rodata = rodata i;
+      init_bytes = init_bytes i;
+      zero_bytes = zero_bytes i;
+      symbols = symbols i;
+      text_relocs = text_relocs i;
+      init_relocs = init_relocs i;
+      tagged = tagged i;
+    }

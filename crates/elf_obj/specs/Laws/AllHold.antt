@@ -1,26 +1,32 @@
 -- What bytes of which no condition fails say, part by part.
-use Rattle.std.proofs.Common.{◌≡◌, ℕ, ◌+◌, ◌<◌, ◌≤◌, ◌^◌, true, List, [], ◌∷◌, ◌++◌, length, take, drop, refl, sym, ap, subst, ◌∙◌, arith, None, length-append, length-take, length-drop}
+use Rattle.std.proofs.Common.{◌≡◌, ℕ, ◌+◌, ◌<◌, ◌≤◌, ◌^◌, true, List, [], ◌∷◌, ◌++◌, length, take, drop, refl, sym, ap, subst, ◌∙◌, arith}
+use Rattle.std.proofs.Common.{None, length-append, length-take, length-drop}
 use Rattle.std.specs.Prelude.{◌&&◌, ◌==◌, nat_le}
 use Rattle.std.specs.Str.{bytes_eq}
-use Rattle.std.proofs.lemmas.Bool.Decides.{nat_tests}
 use Rattle.std.proofs.lemmas.Slice.Eq.{bytes_eq-Decides}
 use Rattle.mt_base.specs.Granules.{round16}
 use Rattle.elf_base.specs.Field.{Field, number, raw, bytes_of, StandsAt}
 use Rattle.elf_base.specs.Place.{number_at}
-use Rattle.elf_base.specs.Records.{ehdr_fields}
+use Rattle.elf_base.specs.Records.{ehdr_fields, identification}
 use Rattle.elf_base.specs.Laws.Lengths.{length-number, length-raw}
+use Rattle.elf_base.specs.Laws.Tests.{both, is_le, is_same}
+use Rattle.elf_base.specs.Laws.Conditions.{head_holds, split_none}
+use Rattle.elf_base.specs.Zeros.{is_zero_between}
+use Rattle.elf_base.specs.Conditions.{Condition, condition, first_fault}
 use Rattle.elf_obj.specs.declared.refusal.ObjectRefusal.TheVariants.{NotElf, NotThisMachine, Truncated, BadSection}
 use Rattle.elf_obj.specs.Object.{Object}
 use Rattle.elf_obj.specs.Sections.{names_end}
-use Rattle.elf_obj.specs.Records.{identification, header}
+use Rattle.elf_obj.specs.Records.{header}
 use Rattle.elf_obj.specs.Contents.{section_names}
 use Rattle.elf_obj.specs.Claimed.{headers_at, offset_of, size_of, content_of, claimed}
-use Rattle.elf_obj.specs.Conditions.{Condition, condition, first_fault, stands}
-use Rattle.elf_obj.specs.ObjectFault.{all_held, is_zero_between, is_headed, is_strings, is_names, sizes_in, is_ended, start_conditions, all_section_conditions, contents_conditions, table_conditions, code_conditions, data_conditions, tagged_conditions, object_conditions, conditions}
+use Rattle.elf_obj.specs.Conditions.{stands}
+use Rattle.elf_obj.specs.ObjectFault.{all_held, is_headed, is_strings, is_names, sizes_in, is_ended, start_conditions}
+use Rattle.elf_obj.specs.ObjectFault.{all_section_conditions, contents_conditions, table_conditions, code_conditions, data_conditions}
+use Rattle.elf_obj.specs.ObjectFault.{tagged_conditions, object_conditions, conditions}
 use Rattle.elf_obj.specs.Laws.Fields.{stands-is, field_there}
-use Rattle.elf_obj.specs.Laws.Held.{AreHeld, are_held, both}
+use Rattle.elf_obj.specs.Laws.Held.{AreHeld, are_held}
 use Rattle.elf_obj.specs.Laws.Together.{stands-taken}
-use Rattle.elf_obj.specs.Laws.RecordsHold.{is_le, head_holds, split_none}
+use Rattle.elf_obj.specs.declared.refusal.ObjectRefusal.{ObjectRefusal}
 
 -- ---- the conditions, one by one
 
@@ -47,7 +53,7 @@ all_hold file h =
     let p : Object = claimed file in
     let parts = split_none (start_conditions file ++ all_section_conditions file) (object_conditions file p) h in
     let first = split_none (start_conditions file) (all_section_conditions file) parts.0 in
-    let end : List Condition = condition (is_ended file) (BadSection 12) ∷ [] in
+    let end : List (Condition ObjectRefusal) = condition (is_ended file) (BadSection 12) ∷ [] in
     let headed = head_holds (is_headed file) (BadSection 0) (first_fault (contents_conditions file (sizes_in file) ++ end)) first.1 in
     let sections_and = split_none (contents_conditions file (sizes_in file)) end headed.1 in
     let o3 = split_none (table_conditions file p ++ code_conditions file p ++ data_conditions file p) (tagged_conditions file p) parts.1 in
@@ -92,14 +98,12 @@ pub record Ended (file : List ℕ) : Type 0 where
   pub gap : is_zero_between file (offset_of file 11 + size_of file 11) (headers_at file) ≡ true
   pub len : length file ≡ headers_at file + 768
 
-same_number : (a b : ℕ) → (a == b) ≡ true → a ≡ b
-same_number a b h = grind (arith, nat_tests)
-
 pub ended_at : (file : List ℕ) → is_ended file ≡ true → Ended file
 unfolding is_ended
 ended_at file h =
-    let parts = both (is_zero_between file (offset_of file 11 + size_of file 11) (headers_at file)) (length file == headers_at file + 768) h in
-    record { gap = parts.0; len = same_number (length file) (headers_at file + 768) parts.1 }
+    let parts = both (is_zero_between file (offset_of file 11 + size_of file 11) (headers_at file))
+    (length file == headers_at file + 768) h in
+    record { gap = parts.0; len = is_same (length file) (headers_at file + 768) parts.1 }
 
 -- ---- names
 
@@ -119,7 +123,8 @@ strings_hold file h =
       high = is_le (size_of file 6) (names_end 1 (claimed file).symbols) last.1;
     }
 
-pub content_stands : (file : List ℕ) (k : ℕ) → offset_of file k + size_of file k ≤ length file → StandsAt file (offset_of file k) (content_of file k)
+pub content_stands : (file : List ℕ) (k : ℕ) → offset_of file k + size_of file k ≤ length file
+    → StandsAt file (offset_of file k) (content_of file k)
 unfolding content_of
 content_stands file k within = stands-taken file (offset_of file k) (size_of file k) (content_of file k) refl within
 
@@ -127,7 +132,8 @@ pub content_low : (file : List ℕ) (k : ℕ) → length (content_of file k) ≤
 unfolding content_of
 content_low file k = omega (arith, length-take (size_of file k) (drop (offset_of file k) file), length-drop (offset_of file k) file)
 
-pub section_names_stand : (file : List ℕ) → is_names file ≡ true → offset_of file 7 + size_of file 7 ≤ length file → StandsAt file (offset_of file 7) section_names
+pub section_names_stand : (file : List ℕ) → is_names file ≡ true → offset_of file 7 + size_of file 7 ≤ length file
+    → StandsAt file (offset_of file 7) section_names
 unfolding is_names
 section_names_stand file h within =
     let same : content_of file 7 ≡ section_names = (bytes_eq-Decides (content_of file 7) section_names).0 h in

@@ -9,7 +9,8 @@ use Rattle.elf_base.specs.Laws.Lengths.{IsBytes}
 use Rattle.elf_base.specs.Laws.Reads.{IsBytes-take, IsBytes-drop}
 use Rattle.elf_base.specs.Laws.Standing.{number_fits}
 use Rattle.elf_obj.specs.ObjectFile.{SymbolFits, RelocFits, HasRanges}
-use Rattle.elf_obj.specs.Claimed.{offset_of, size_of, content_of, name_first, after_name, names_in, names_of, symbols_at, relocs_at, tags_at, words_at, claimed}
+use Rattle.elf_obj.specs.Claimed.{offset_of, size_of, content_of, name_first, after_name, names_in, names_of, symbols_at, relocs_at}
+use Rattle.elf_obj.specs.Claimed.{tags_at, words_at, claimed}
 
 words_fit : (n at : ℕ) (file : List ℕ) → IsBytes file → AllByRecursion (λ w. w < 2 ^ 32) (words_at n at file)
 words_fit zero at file fits = tt
@@ -94,7 +95,8 @@ claimed_ranges file fits =
     record {
       words = words_fit (size_of file 1 / 4) (offset_of file 1) file fits;
       zero_bytes = size_fits file 4 fits;
-      symbols = symbols_fit (size_of file 5 / 24 - 1) (offset_of file 5 + 24) strings file fits (all_low strings (IsBytes-drop 1 (content_of file 6) (content_bytes file 6 fits)));
+      symbols = symbols_fit (size_of file 5 / 24 - 1) (offset_of file 5 + 24) strings file fits
+          (all_low strings (IsBytes-drop 1 (content_of file 6) (content_bytes file 6 fits)));
       text_relocs = relocs_fit (size_of file 8 / 24) (offset_of file 8) file fits;
       init_relocs = relocs_fit (size_of file 9 / 24) (offset_of file 9) file fits;
       tagged = tags_fit (size_of file 11 / 24) (offset_of file 11) file fits;

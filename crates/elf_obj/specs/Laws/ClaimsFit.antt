@@ -1,5 +1,6 @@
 -- What bytes claim may be counted: it is no longer than they are.
-use Rattle.std.proofs.Common.{◌≡◌, ℕ, zero, suc, ◌+◌, ◌-◌, ◌*◌, ◌/◌, ◌<◌, ◌≤◌, ◌^◌, Bool, true, false, List, [], ◌∷◌, length, drop, refl, ◌∙◌, arith, length-take, length-drop}
+use Rattle.std.proofs.Common.{◌≡◌, ℕ, zero, suc, ◌+◌, ◌-◌, ◌*◌, ◌/◌, ◌<◌, ◌≤◌, ◌^◌, Bool, true, false, List, [], ◌∷◌, length, drop, refl}
+use Rattle.std.proofs.Common.{◌∙◌, arith, length-take, length-drop}
 use Rattle.std.specs.Prelude.{if◌then◌else◌, ◌==◌}
 use Rattle.elf_base.specs.Place.{number_at}
 use Rattle.elf_base.specs.Laws.Lengths.{IsBytes}
@@ -7,7 +8,8 @@ use Rattle.elf_base.specs.Laws.Standing.{number_fits}
 use Rattle.elf_obj.specs.Sections.{names_end}
 use Rattle.elf_obj.specs.Small.{IsSmall}
 use Rattle.elf_obj.specs.ObjectFile.{AllCounted, AllNumbered}
-use Rattle.elf_obj.specs.Claimed.{offset_of, size_of, content_of, each_from, name_first, after_name, names_in, names_of, symbols_at, reloc_at, relocs_at, tag_at, tags_at, claimed}
+use Rattle.elf_obj.specs.Claimed.{offset_of, size_of, content_of, each_from, name_first, after_name, names_in, names_of, symbols_at}
+use Rattle.elf_obj.specs.Claimed.{reloc_at, relocs_at, tag_at, tags_at, claimed}
 use Rattle.elf_obj.specs.Laws.Held.{AreHeld}
 
 pub length-each : {A : Type 0} (read : ℕ → A) (width count at : ℕ) → length (each_from read width count at) ≡ count
@@ -65,12 +67,18 @@ unfolding names_of content_of
 claims_fit file fits short h =
     let n = size_of file 5 / 24 - 1 in
     let strings = drop 1 (content_of file 6) in
-    let symbols : length (claimed file).symbols ≡ n = length-symbols_at (names_of file) (offset_of file 5 + 24) file ∙ length-names_in n strings in
+    let symbols : length (claimed file).symbols ≡ n =
+    length-symbols_at (names_of file) (offset_of file 5 + 24) file ∙ length-names_in n strings in
     let words = length-each (λ (place : ℕ). number_at 4 place file) 4 (size_of file 1 / 4) (offset_of file 1) in
     let text = length-each (λ (place : ℕ). reloc_at place file) 24 (size_of file 8 / 24) (offset_of file 8) in
     let init = length-each (λ (place : ℕ). reloc_at place file) 24 (size_of file 9 / 24) (offset_of file 9) in
     let tags = length-each (λ (place : ℕ). tag_at place file) 24 (size_of file 11 / 24) (offset_of file 11) in
-    let long : length strings ≤ length file = omega (arith, length-drop 1 (content_of file 6), length-take (size_of file 6) (drop (offset_of file 6) file), length-drop (offset_of file 6) file) in
+    let long : length strings ≤ length file = omega (
+      arith,
+      length-drop 1 (content_of file 6),
+      length-take (size_of file 6) (drop (offset_of file 6) file),
+      length-drop (offset_of file 6) file,
+    ) in
     let names = names-low n 1 (offset_of file 5 + 24) strings file in
     record {
       small = record {

@@ -25,7 +25,8 @@ contents_reach at (x ∷ xs) zero s h =
     omega (arith, ap (λ (t : Section). t.bytes) same, contents_grow (round16 at + x.bytes) xs)
 contents_reach at (x ∷ xs) (suc i) s h = contents_reach (round16 at + x.bytes) xs i s h
 
-part_low : (ss : List Section) (i : ℕ) (s : Section) → slice_get ss i ≡ Some s → round16 (contents_end 64 ss) + 768 < 2 ^ 63 → s.bytes < 2 ^ 63
+part_low : (ss : List Section) (i : ℕ) (s : Section) → slice_get ss i ≡ Some s → round16 (contents_end 64 ss) + 768 < 2 ^ 63
+    → s.bytes < 2 ^ 63
 part_low ss i s h low = omega (arith, contents_reach 64 ss i s h, low)
 
 -- ---- valid objects

@@ -1,5 +1,6 @@
 -- Bytes of which no condition fails are the file of the object that they claim to be.
-use Rattle.std.proofs.Common.{◌≡◌, ℕ, ◌+◌, ◌-◌, ◌*◌, ◌/◌, ◌<◌, ◌≤◌, ◌^◌, inl, inr, true, false, List, [], ◌++◌, length, get_or, replicate, refl, sym, ap, subst, arith, None, ◌⊎◌}
+use Rattle.std.proofs.Common.{◌≡◌, ℕ, ◌+◌, ◌-◌, ◌*◌, ◌/◌, ◌<◌, ◌≤◌, ◌^◌, inl, inr, true, false, List, [], ◌++◌, length, get_or, replicate}
+use Rattle.std.proofs.Common.{refl, sym, ap, subst, arith, None, ◌⊎◌}
 use Rattle.std.specs.List.{flat_map}
 use Rattle.std.proofs.lemmas.List.{length-replicate, get_or_past}
 use Rattle.std.proofs.lemmas.Bool.{cases_lt}
@@ -7,6 +8,10 @@ use Rattle.mt_base.specs.Granules.{round16}
 use Rattle.elf_base.specs.Field.{StandsAt}
 use Rattle.elf_base.specs.Layout.{Piece, piece, AllStand, IsGap}
 use Rattle.elf_base.specs.Laws.Lengths.{IsBytes, length-ehdr}
+use Rattle.elf_base.specs.Laws.Conditions.{head_holds}
+use Rattle.elf_base.specs.Laws.Zeros.{zero_there}
+use Rattle.elf_base.specs.Zeros.{is_zero_between}
+use Rattle.elf_base.specs.Conditions.{first_fault}
 use Rattle.elf_obj.specs.declared.refusal.ObjectRefusal.TheVariants.{BadSymbol}
 use Rattle.elf_obj.specs.declared.sizes.Sizes.{Sizes}
 use Rattle.elf_obj.specs.Object.{Object}
@@ -16,18 +21,19 @@ use Rattle.elf_obj.specs.Contents.{contents, header_bytes, pieces}
 use Rattle.elf_obj.specs.Rules.{reloc_rule}
 use Rattle.elf_obj.specs.ObjectFile.{ObjectFile, IsFileOf}
 use Rattle.elf_obj.specs.Claimed.{headers_at, offset_of, size_of, names_of, claimed}
-use Rattle.elf_obj.specs.Conditions.{first_fault}
-use Rattle.elf_obj.specs.ObjectFault.{is_zero_between, fixed_parts, sizes_in, symbol_conditions, contents_conditions, conditions}
+use Rattle.elf_obj.specs.ObjectFault.{fixed_parts, sizes_in, symbol_conditions, contents_conditions, conditions, symbol_spot}
 use Rattle.elf_obj.specs.Laws.Lengths.{contents_are_as_long}
 use Rattle.elf_obj.specs.Laws.Whole.{first_bytes, last_bytes, length-last}
 use Rattle.elf_obj.specs.Laws.ClaimsFit.{ClaimsFit, claims_fit}
 use Rattle.elf_obj.specs.Laws.ClaimedRanges.{size_fits, claimed_ranges}
-use Rattle.elf_obj.specs.Laws.Together.{stands-both, words_stand, zeros_stand, zero_there}
-use Rattle.elf_obj.specs.Laws.RecordsHold.{head_holds, relocs_hold, tags_hold, SymbolsHold, symbols_hold}
-use Rattle.elf_obj.specs.Laws.SectionsHold.{SectionsHold, AllReach, AllTrue, AllHere, sections_hold, fixed_hold, contents_stand, headers_stand, gap_zero, gap_last}
+use Rattle.elf_obj.specs.Laws.Together.{stands-both, words_stand, zeros_stand}
+use Rattle.elf_obj.specs.Laws.RecordsHold.{relocs_hold, tags_hold, SymbolsHold, symbols_hold}
+use Rattle.elf_obj.specs.Laws.SectionsHold.{SectionsHold, AllReach, AllTrue, AllHere, sections_hold, fixed_hold, contents_stand}
+use Rattle.elf_obj.specs.Laws.SectionsHold.{headers_stand, gap_zero, gap_last}
 use Rattle.elf_obj.specs.Laws.NamesHold.{names_stand}
 use Rattle.elf_obj.specs.Laws.OneFile.{HasFault, all_or_first}
-use Rattle.elf_obj.specs.Laws.AllHold.{AllHold, all_hold, Headed, headed_at, Ended, ended_at, StringsHold, strings_hold, content_stands, content_low, section_names_stand}
+use Rattle.elf_obj.specs.Laws.AllHold.{AllHold, all_hold, Headed, headed_at, Ended, ended_at, StringsHold, strings_hold, content_stands}
+use Rattle.elf_obj.specs.Laws.AllHold.{content_low, section_names_stand}
 
 -- ---- the records
 
@@ -38,7 +44,7 @@ record TableHolds (file : List ℕ) : Type 0 where
 table_holds : (file : List ℕ) → AllHold file → TableHolds file
 table_holds file q =
     let p : Object = claimed file in
-    let rest = symbol_conditions file (sizes_of p) (offset_of file 5 + 24) 1 1 [] p.symbols in
+    let rest = symbol_conditions file (sizes_of p) (symbol_spot (offset_of file 5 + 24) 1 []) 1 p.symbols in
     let parts = head_holds (is_zero_between file (offset_of file 5) (offset_of file 5 + 24)) (BadSymbol 0) (first_fault rest) q.table in
     record { empty = parts.0; symbols = symbols_hold file (sizes_of p) (offset_of file 5 + 24) 1 1 [] p.symbols parts.1 }
 
@@ -93,12 +99,14 @@ all_reach file fits short q =
       ),
     )
 
-all_sections : (file : List ℕ) → IsBytes file → length file < 2 ^ 63 → AllHold file → SectionsHold file 64 1 (sections (sizes_of (claimed file)))
+all_sections : (file : List ℕ) → IsBytes file → length file < 2 ^ 63 → AllHold file
+    → SectionsHold file 64 1 (sections (sizes_of (claimed file)))
 unfolding contents_conditions
 all_sections file fits short q =
     let p : Object = claimed file in
     let same : sizes_in file ≡ sizes_of p = ap (with_strings p) (sym (names_end_is file q)) in
-    let none : first_fault (contents_conditions file (sizes_of p)) ≡ None = subst (λ (z : Sizes). first_fault (contents_conditions file z) ≡ None) same q.contents in
+    let none : first_fault (contents_conditions file (sizes_of p)) ≡ None =
+    subst (λ (z : Sizes). first_fault (contents_conditions file z) ≡ None) same q.contents in
     sections_hold file 64 0 (sections (sizes_of p)) (fixed_parts file) (all_reach file fits short q) short (omega arith) refl none
 
 all_here : (file : List ℕ) → IsBytes file → length file < 2 ^ 63 → AllHold file → AllHere file 1 (contents (claimed file))
@@ -115,7 +123,8 @@ all_here file fits short q =
     stands-both file (offset_of file 5) 24 (replicate 24 0) (symbols_bytes 1 p.symbols) (length-replicate {A = ℕ} 24 0)
     (zeros_stand file (offset_of file 5) 24 table.empty (omega (arith, size, h.symbols))) table.symbols.stand in
     let code = relocs_hold file (reloc_rule true (sizes_of p).text (length p.symbols)) (offset_of file 8) 0 0 p.text_relocs q.code in
-    let others = relocs_hold file (reloc_rule false (sizes_of p).init (length p.symbols)) (offset_of file 9) 0 (length p.text_relocs) p.init_relocs q.data_relocs in
+    let others = relocs_hold file (reloc_rule false (sizes_of p).init (length p.symbols)) (offset_of file 9) 0
+    (length p.text_relocs) p.init_relocs q.data_relocs in
     let tags = tags_hold file p.symbols (offset_of file 11) [] 0 (length p.text_relocs + length p.init_relocs) p.tagged q.tagged in (
       words_stand (size_of file 1 / 4) (offset_of file 1) file fits (omega (arith, h.text)),
       (
@@ -127,7 +136,8 @@ all_here file fits short q =
             (
               symbols,
               (
-                names_stand file (size_of file 5 / 24 - 1) (offset_of file 5 + 24) p.symbols refl (names_end_is file q) h.strings strings.empty,
+                names_stand file (size_of file 5 / 24 - 1) (offset_of file 5 + 24) p.symbols refl
+                    (names_end_is file q) h.strings strings.empty,
                 (
                   section_names_stand file fixed.1.1.1.1.1.1.0 h.names,
                   (
@@ -164,7 +174,8 @@ framed file fits short q =
     let z : Sizes = sizes_of (claimed file) in
     let hold = all_sections file fits short q in
     let s11 = hold.1.1.1.1.1.1.1.1.1.1.0 in
-    let end : offset_of file 11 + size_of file 11 ≡ contents_end 64 (sections z) = sum_is (offset_of file 11) (size_of file 11) _ _ s11.offset s11.size in
+    let end : offset_of file 11 + size_of file 11 ≡ contents_end 64 (sections z) =
+    sum_is (offset_of file 11) (size_of file 11) _ _ s11.offset s11.size in
     let low : round16 (offset_of file 11 + size_of file 11) < 2 ^ 64 = omega (arith, q.held.tagged, short) in
     record {
       end = end;
@@ -189,7 +200,8 @@ claimed_file file fits short q =
     stands-both file (headers_at file) 64 (replicate 64 0) headers (length-replicate {A = ℕ} 64 0)
     (zeros_stand file (headers_at file) 64 head.empty (omega (arith, last.len))) (headers_stand file 64 1 (sections z) hold) in
     let end_piece : Piece = piece (headers_place z) (last_bytes p) in
-    let end_stands : StandsAt file (headers_place z) (last_bytes p) = subst (λ (n : ℕ). StandsAt file n (last_bytes p)) head.there end_bytes in
+    let end_stands : StandsAt file (headers_place z) (last_bytes p) =
+    subst (λ (n : ℕ). StandsAt file n (last_bytes p)) head.there end_bytes in
     let stand : AllStand file (pieces p) =
     (head.stand, contents_stand file 64 1 (sections z) (contents p) end_piece hold (all_here file fits short q) end_stands) in
     let wide : length (first_bytes p) ≡ 64 = length-ehdr (header (headers_place z)) refl in
@@ -198,9 +210,11 @@ claimed_file file fits short q =
       | inr from ↦ elim (cases_lt i (length file)) [
         | inr past ↦ get_or_past file i 0 past
         | inl within ↦ elim (cases_lt i (contents_end 64 (sections z))) [
-          | inl inside ↦ gap_zero file 64 1 (sections z) (contents p) end_piece i hold (contents_are_as_long p) (omega (arith, from, wide)) inside within gap.1
+          | inl inside ↦ gap_zero file 64 1 (sections z) (contents p) end_piece i hold (contents_are_as_long p)
+              (omega (arith, from, wide)) inside within gap.1
           | inr behind ↦ elim (gap_last 64 (sections z) (contents p) end_piece i gap.1).0 [
-            | inl before ↦ zero_there file (offset_of file 11 + size_of file 11) (headers_at file) i last.gap (omega (arith, behind, f.end)) (omega (arith, before, head.there)) within
+            | inl before ↦ zero_there file (offset_of file 11 + size_of file 11) (headers_at file) last.gap i
+                (omega (arith, behind, f.end)) (omega (arith, before, head.there))
             | inr after ↦ absurd (omega (arith, after, len, within, length-last p))
           ]
         ]
@@ -210,7 +224,8 @@ claimed_file file fits short q =
       valid = record {
         symbols = table.symbols.keep;
         text_relocs = (relocs_hold file (reloc_rule true z.text (length p.symbols)) (offset_of file 8) 0 0 p.text_relocs q.code).keep;
-        init_relocs = (relocs_hold file (reloc_rule false z.init (length p.symbols)) (offset_of file 9) 0 (length p.text_relocs) p.init_relocs q.data_relocs).keep;
+        init_relocs = (relocs_hold file (reloc_rule false z.init (length p.symbols)) (offset_of file 9) 0
+            (length p.text_relocs) p.init_relocs q.data_relocs).keep;
         tagged = (tags_hold file p.symbols (offset_of file 11) [] 0 (length p.text_relocs + length p.init_relocs) p.tagged q.tagged).keep;
         numbers = record {
           names = table.symbols.fit;
@@ -225,8 +240,12 @@ claimed_file file fits short q =
     }
 
 -- the bytes are the file of what they claim
-pub file_of_claims : (file : List ℕ) → IsBytes file → length file < 2 ^ 63 → first_fault (conditions file) ≡ None → IsFileOf (claimed file) file
-file_of_claims file fits short none = record { is_file = claimed_file file fits short (all_hold file none); ranges = claimed_ranges file fits }
+pub file_of_claims : (file : List ℕ) → IsBytes file → length file < 2 ^ 63 → first_fault (conditions file) ≡ None
+    → IsFileOf (claimed file) file
+file_of_claims file fits short none = record {
+  is_file = claimed_file file fits short (all_hold file none);
+  ranges = claimed_ranges file fits;
+}
 
 -- bytes are the file of some object, or they have a first fault
 pub file_or_fault : (file : List ℕ) → IsBytes file → length file < 2 ^ 63 → IsFileOf (claimed file) file ⊎ HasFault file

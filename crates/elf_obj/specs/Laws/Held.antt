@@ -1,12 +1,13 @@
 -- What the start of a file says, once it is judged: nothing goes past the end.
-use Rattle.std.proofs.Common.{◌≡◌, ℕ, zero, suc, ◌+◌, ◌*◌, ◌<◌, ◌≤◌, ◌^◌, ◌⊎◌, inl, inr, Bool, true, false, List, [], ◌∷◌, length, refl, sym, ap, subst, ◌∙◌, arith, Some, length-append}
-use Rattle.std.specs.Prelude.{nat_le, ◌&&◌, slice_get}
-use Rattle.std.proofs.lemmas.Bool.Decides.{nat_tests}
+use Rattle.std.proofs.Common.{◌≡◌, ℕ, zero, suc, ◌+◌, ◌*◌, ◌<◌, ◌≤◌, ◌^◌, ◌⊎◌, inl, inr, true, List, [], ◌∷◌, length, refl, sym, ap}
+use Rattle.std.proofs.Common.{subst, ◌∙◌, arith, Some, length-append}
+use Rattle.std.specs.Prelude.{slice_get}
 use Rattle.mt_base.specs.Granules.{round16}
 use Rattle.elf_base.specs.Field.{Field, number, bytes_of}
 use Rattle.elf_base.specs.Place.{number_at}
 use Rattle.elf_base.specs.Records.{shdr_fields}
 use Rattle.elf_base.specs.Laws.Lengths.{length-number}
+use Rattle.elf_base.specs.Laws.Tests.{both, is_le}
 use Rattle.elf_obj.specs.declared.section.Section.{Section}
 use Rattle.elf_obj.specs.declared.sizes.Sizes.{Sizes}
 use Rattle.elf_obj.specs.Sections.{sections, header_of}
@@ -27,17 +28,9 @@ pub record AreHeld (file : List ℕ) : Type 0 where
   pub init_relocs : offset_of file 9 + size_of file 9 ≤ length file
   pub tagged : offset_of file 11 + size_of file 11 ≤ length file
 
-pub both : (a b : Bool) → (a && b) ≡ true → (a ≡ true) × (b ≡ true)
-both true true h = (λ i. true, λ i. true)
-both true false h = cc
-both false b h = cc
-
-le : (a b : ℕ) → nat_le a b ≡ true → a ≤ b
-le a b h = grind (arith, nat_tests)
-
 held : (file : List ℕ) (k : ℕ) → is_held file k ≡ true → offset_of file k + size_of file k ≤ length file
 unfolding is_held
-held file k h = le (offset_of file k + size_of file k) (length file) h
+held file k h = is_le (offset_of file k + size_of file k) (length file) h
 
 pub are_held : (file : List ℕ) → all_held file ≡ true → AreHeld file
 unfolding all_held
@@ -52,7 +45,7 @@ are_held file h =
     let h2 = both _ _ h3.0 in
     let h1 = both _ _ h2.0 in
     record {
-      headers = le (headers_at file + 768) (length file) h1.0;
+      headers = is_le (headers_at file + 768) (length file) h1.0;
       text = held file 1 h1.1;
       rodata = held file 2 h2.1;
       init = held file 3 h3.1;
@@ -84,7 +77,8 @@ reaches file h z (suc (suc (suc (suc (suc (suc zero)))))) s e = subst (Reaches f
 reaches file h z (suc (suc (suc (suc (suc (suc (suc zero))))))) s e = subst (Reaches file 7) (one _ s e) (inr (refl, h.text_relocs))
 reaches file h z (suc (suc (suc (suc (suc (suc (suc (suc zero)))))))) s e = subst (Reaches file 8) (one _ s e) (inr (refl, h.init_relocs))
 reaches file h z (suc (suc (suc (suc (suc (suc (suc (suc (suc zero))))))))) s e = subst (Reaches file 9) (one _ s e) (inl refl)
-reaches file h z (suc (suc (suc (suc (suc (suc (suc (suc (suc (suc zero)))))))))) s e = subst (Reaches file 10) (one _ s e) (inr (refl, h.tagged))
+reaches file h z (suc (suc (suc (suc (suc (suc (suc (suc (suc (suc zero)))))))))) s e =
+    subst (Reaches file 10) (one _ s e) (inr (refl, h.tagged))
 reaches file h z (suc (suc (suc (suc (suc (suc (suc (suc (suc (suc (suc n))))))))))) s e = cc
 
 -- the header of a section names its place and its size
@@ -92,7 +86,8 @@ pub record Named (file : List ℕ) (k : ℕ) (s : Section) (place : ℕ) : Type 
   pub offset : offset_of file k ≡ place
   pub size : size_of file k ≡ s.size
 
-pub named : (file : List ℕ) (at k : ℕ) (s : Section) → is_section file at k s ≡ true → round16 at < 2 ^ 64 → s.size < 2 ^ 64 → Named file k s (round16 at)
+pub named : (file : List ℕ) (at k : ℕ) (s : Section) → is_section file at k s ≡ true → round16 at < 2 ^ 64 → s.size < 2 ^ 64
+    → Named file k s (round16 at)
 unfolding is_section offset_of size_of
 named file at k s h low small =
     let first = both _ _ h in
@@ -106,11 +101,13 @@ named file at k s h low small =
     let wider : length (bytes_of more) ≡ 32 = simp (length-append, length-number) in
     let after : List Field = number 4 s.link ∷ number 4 s.info ∷ number 8 16 ∷ number 8 s.entsize ∷ [] in
     record {
-      offset = ap (λ (n : ℕ). number_at 8 (here + n) file) (sym wide) ∙ field_there before (number 8 s.size ∷ after) 8 place here file low there;
+      offset = ap (λ (n : ℕ). number_at 8 (here + n) file) (sym wide)
+          ∙ field_there before (number 8 s.size ∷ after) 8 place here file low there;
       size = ap (λ (n : ℕ). number_at 8 (here + n) file) (sym wider) ∙ field_there more after 8 s.size here file small there;
     }
 
-pub section_ends : (file : List ℕ) (at i : ℕ) (s : Section) → Reaches file i s → is_section file at (i + 1) s ≡ true → at ≤ 2 ^ 63 → s.size < 2 ^ 64
+pub section_ends : (file : List ℕ) (at i : ℕ) (s : Section) → Reaches file i s → is_section file at (i + 1) s ≡ true → at ≤ 2 ^ 63
+    → s.size < 2 ^ 64
     → length file < 2 ^ 63 → round16 at + s.bytes ≤ 2 ^ 63
 section_ends file at i s (inl none) h low small short = omega (arith, none, low)
 section_ends file at i s (inr some) h low small short =

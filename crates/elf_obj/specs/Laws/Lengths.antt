@@ -6,9 +6,8 @@ use Rattle.elf_base.specs.declared.section.Shdr.{Shdr}
 use Rattle.elf_base.specs.declared.symbol.Sym.{Sym}
 use Rattle.elf_base.specs.declared.relocation.Rela.{Rela}
 use Rattle.elf_base.specs.Field.{bytes_of}
-use Rattle.elf_base.specs.Layout.{word_bytes}
 use Rattle.elf_base.specs.Records.{sym_fields, rela_fields}
-use Rattle.elf_base.specs.Laws.Lengths.{length-number, length-signed}
+use Rattle.elf_base.specs.Laws.Lengths.{length-number, length-signed, length-words}
 use Rattle.elf_obj.specs.declared.parts.Symbol.{Symbol}
 use Rattle.elf_obj.specs.declared.parts.Reloc.{Reloc}
 use Rattle.elf_obj.specs.declared.section.Section.{Section}
@@ -37,14 +36,7 @@ pub length-tag_bytes : (t : ℕ) → length (tag_bytes t) ≡ 24
 unfolding tag_bytes
 length-tag_bytes t = length-rela (tag_record t)
 
-pub length-word_bytes : (w : ℕ) → length (word_bytes w) ≡ 4
-length-word_bytes w = simp (length-append, length-number)
-
 -- ---- lists of records
-
-pub length-words : (ws : List ℕ) → length (flat_map word_bytes ws) ≡ 4 * length ws
-length-words [] = refl
-length-words (w ∷ ws) = omega (arith, length-append (word_bytes w) (flat_map word_bytes ws), length-word_bytes w, length-words ws)
 
 pub length-symbols : (place : ℕ) (ss : List Symbol) → length (symbols_bytes place ss) ≡ 24 * length ss
 length-symbols place [] = refl

@@ -1,16 +1,17 @@
 -- The names that are read from some bytes, each with its zero byte, are those bytes.
-use Rattle.std.proofs.Common.{◌≡◌, ℕ, zero, suc, ◌+◌, ◌-◌, ◌<◌, ◌≤◌, Bool, true, false, List, [], ◌∷◌, ◌++◌, length, take, drop, refl, sym, ap, ◌∙◌, arith, append_assoc, length-append, length-take, length-drop, drop-drop, take_at, drop_at}
+use Rattle.std.proofs.Common.{◌≡◌, ℕ, zero, suc, ◌+◌, ◌-◌, ◌<◌, ◌≤◌, Bool, true, false, List, [], ◌∷◌, ◌++◌, length, take, drop, refl}
+use Rattle.std.proofs.Common.{sym, ap, ◌∙◌, arith, append_assoc, length-append, length-take, length-drop, drop-drop, take_at, drop_at}
 use Rattle.std.specs.Prelude.{◌==◌, if◌then◌else◌}
 use Rattle.std.specs.List.{flat_map}
 use Rattle.std.proofs.lemmas.List.{take_all, drop-take}
 use Rattle.std.proofs.lemmas.Bool.Decides.{nat_tests}
 use Rattle.elf_base.specs.Field.{StandsAt}
 use Rattle.elf_base.specs.Laws.Standing.{take-add}
+use Rattle.elf_base.specs.Zeros.{is_zero_between}
 use Rattle.elf_obj.specs.declared.parts.Symbol.{Symbol}
 use Rattle.elf_obj.specs.Sections.{names_end}
 use Rattle.elf_obj.specs.Records.{name_bytes}
 use Rattle.elf_obj.specs.Claimed.{offset_of, size_of, content_of, name_first, after_name, names_in, symbols_at}
-use Rattle.elf_obj.specs.ObjectFault.{is_zero_between}
 use Rattle.elf_obj.specs.Laws.Lengths.{length-names}
 use Rattle.elf_obj.specs.Laws.Together.{stands-both, stands-taken, zeros_stand}
 
@@ -40,12 +41,15 @@ names_join (suc n) at bs file h =
     let more : length bs ≡ length name + length (after_name bs) = ap length is ∙ length-append name (after_name bs) in
     let first : take (length name) bs ≡ name = ap (take (length name)) is ∙ take_at name (after_name bs) (length name) refl in
     let behind : drop (length name) bs ≡ after_name bs = ap (drop (length name)) is ∙ drop_at name (after_name bs) (length name) refl in
-    let rest : take (length others) (after_name bs) ≡ others = names_join n (at + 24) (after_name bs) file (omega (arith, h, whole, more)) in
-    ap (λ (k : ℕ). take k bs) whole ∙ take-add (length name) (length others) bs ∙ ap (λ (l : List ℕ). l ++ take (length others) (drop (length name) bs)) first
+    let rest : take (length others) (after_name bs) ≡ others =
+    names_join n (at + 24) (after_name bs) file (omega (arith, h, whole, more)) in
+    ap (λ (k : ℕ). take k bs) whole ∙ take-add (length name) (length others) bs
+    ∙ ap (λ (l : List ℕ). l ++ take (length others) (drop (length name) bs)) first
     ∙ ap (λ (l : List ℕ). name ++ take (length others) l) behind ∙ ap (λ (l : List ℕ). name ++ l) rest
 
 -- the names of symbols stand behind a zero byte, where they are as long as the content of their section
-pub names_stand : (file : List ℕ) (n at : ℕ) (ss : List Symbol) → ss ≡ symbols_at (names_in n (drop 1 (content_of file 6))) at file → names_end 1 ss ≡ size_of file 6
+pub names_stand : (file : List ℕ) (n at : ℕ) (ss : List Symbol) → ss ≡ symbols_at (names_in n (drop 1 (content_of file 6))) at file
+    → names_end 1 ss ≡ size_of file 6
     → offset_of file 6 + size_of file 6 ≤ length file → is_zero_between file (offset_of file 6) (offset_of file 6 + 1) ≡ true
     → StandsAt file (offset_of file 6) (0 ∷ flat_map name_bytes ss)
 unfolding content_of
@@ -55,12 +59,20 @@ names_stand file n at ss is ends within zero_byte =
     let bs : List ℕ = drop 1 (take size (drop place file)) in
     let names : List ℕ = flat_map name_bytes ss in
     let long : 1 + length names ≡ size = length-names 1 ss ∙ ends in
-    let len : length bs ≡ size - 1 = omega (arith, length-drop 1 (take size (drop place file)), length-take size (drop place file), length-drop place file, within) in
+    let len : length bs ≡ size - 1 = omega (
+      arith,
+      length-drop 1 (take size (drop place file)),
+      length-take size (drop place file),
+      length-drop place file,
+      within,
+    ) in
     let same : names ≡ flat_map name_bytes (symbols_at (names_in n bs) at file) = ap (flat_map name_bytes) is in
     let joined = names_join n at bs file (omega (arith, ap length same, long, len)) in
-    let all : names ≡ bs = same ∙ sym joined ∙ ap (λ (k : ℕ). take k bs) (ap length (sym same)) ∙ take_all (length names) bs (omega (arith, long, len)) in
+    let all : names ≡ bs = same ∙ sym joined ∙ ap (λ (k : ℕ). take k bs) (ap length (sym same))
+    ∙ take_all (length names) bs (omega (arith, long, len)) in
     let whole : 1 + length names ≡ size = long in
     let part : bs ≡ take (length names) (drop (place + 1) file) =
-    ap (λ (k : ℕ). drop 1 (take k (drop place file))) (sym whole) ∙ drop-take 1 (length names) (drop place file) ∙ ap (take (length names)) (drop-drop 1 place file) in
+    ap (λ (k : ℕ). drop 1 (take k (drop place file))) (sym whole) ∙ drop-take 1 (length names) (drop place file)
+    ∙ ap (take (length names)) (drop-drop 1 place file) in
     stands-both file place 1 (0 ∷ []) names refl (zeros_stand file place 1 zero_byte (omega (arith, long, within)))
     (stands-taken file (place + 1) (length names) names (all ∙ part) (omega (arith, long, within)))

@@ -1,40 +1,46 @@
 -- No condition on the file of an object fails.
-use Rattle.std.proofs.Common.{◌≡◌, ℕ, ◌+◌, ◌≤◌, true, false, List, [], ◌∷◌, ◌++◌, length, take, replicate, refl, sym, ap, subst, ◌∙◌, arith, None}
+use Rattle.std.proofs.Common.{◌≡◌, ℕ, ◌+◌, ◌≤◌, true, false, List, [], ◌∷◌, ◌++◌, length, take, replicate, refl, sym, ap, subst, ◌∙◌}
+use Rattle.std.proofs.Common.{arith, None}
 use Rattle.std.specs.Prelude.{◌==◌}
 use Rattle.std.specs.List.{flat_map}
 use Rattle.std.specs.Str.{bytes_eq}
 use Rattle.std.proofs.lemmas.List.{length-replicate, take_all}
-use Rattle.std.proofs.lemmas.Bool.Decides.{nat_tests}
 use Rattle.std.proofs.lemmas.Slice.Eq.{bytes_eq-Decides}
 use Rattle.mt_base.specs.Granules.{round16}
 use Rattle.elf_base.specs.declared.header.Ehdr.{Ehdr}
 use Rattle.elf_base.specs.Field.{bytes_of, StandsAt}
 use Rattle.elf_base.specs.Place.{number_at}
-use Rattle.elf_base.specs.Records.{ehdr_fields}
+use Rattle.elf_base.specs.Records.{ehdr_fields, identification}
+use Rattle.elf_base.specs.Laws.Tests.{both_hold, le_is, same_is}
+use Rattle.elf_base.specs.Laws.Conditions.{EachHolds, none_fails, holds_append}
+use Rattle.elf_base.specs.Zeros.{is_zero_between}
+use Rattle.elf_base.specs.Conditions.{condition, first_fault}
 use Rattle.elf_obj.specs.declared.refusal.ObjectRefusal.TheVariants.{BadSection}
 use Rattle.elf_obj.specs.declared.sizes.Sizes.{Sizes}
 use Rattle.elf_obj.specs.Object.{Object}
 use Rattle.elf_obj.specs.Sections.{sections, sizes_of, names_end, contents_end, headers_place}
-use Rattle.elf_obj.specs.Records.{identification, header, symbols_bytes, name_bytes}
+use Rattle.elf_obj.specs.Records.{header, symbols_bytes, name_bytes}
 use Rattle.elf_obj.specs.Contents.{section_names}
 use Rattle.elf_obj.specs.Rules.{reloc_rule}
 use Rattle.elf_obj.specs.ObjectFile.{IsFileOf}
 use Rattle.elf_obj.specs.Claimed.{headers_at, offset_of, size_of, content_of, claimed}
-use Rattle.elf_obj.specs.Conditions.{condition, first_fault, stands}
-use Rattle.elf_obj.specs.ObjectFault.{is_held, all_held, is_zero_between, is_headed, is_strings, is_names, fixed_parts, sizes_in, is_ended, start_conditions, section_conditions, contents_conditions, all_section_conditions, table_conditions, code_conditions, data_conditions, tagged_conditions, object_conditions, conditions}
+use Rattle.elf_obj.specs.Conditions.{stands}
+use Rattle.elf_obj.specs.ObjectFault.{is_held, all_held, is_headed, is_strings, is_names, fixed_parts, sizes_in, is_ended}
+use Rattle.elf_obj.specs.ObjectFault.{start_conditions, section_conditions, contents_conditions, all_section_conditions, table_conditions}
+use Rattle.elf_obj.specs.ObjectFault.{code_conditions, data_conditions, tagged_conditions, object_conditions, conditions}
 use Rattle.elf_obj.specs.Laws.Fields.{is-stands}
-use Rattle.elf_obj.specs.Laws.RecordsHold.{both_hold}
 use Rattle.elf_obj.specs.Laws.SectionsHold.{AllTrue}
 use Rattle.elf_obj.specs.Laws.ZerosBetween.{zeros_between}
 use Rattle.elf_obj.specs.Laws.ReadAgain.{apart}
-use Rattle.elf_obj.specs.Laws.RecordsAgain.{EachHolds, none_fails, both_hold_each, le_is, relocs_good, tags_good, symbols_good}
+use Rattle.elf_obj.specs.Laws.RecordsAgain.{relocs_good, tags_good, symbols_good}
 use Rattle.elf_obj.specs.Laws.SectionsAgain.{sections_good}
 use Rattle.elf_obj.specs.Laws.Ends.{names_grow}
 use Rattle.elf_obj.specs.Laws.Again.{Frame, frame, hold_again, within_again, all_again, content_again, claims}
 
 -- ---- the start
 
-ident_is : (file : List ℕ) → take 16 file ≡ identification → 16 ≤ length file → bytes_eq (take 16 file) (take (length file) identification) ≡ true
+ident_is : (file : List ℕ) → take 16 file ≡ identification → 16 ≤ length file
+    → bytes_eq (take 16 file) (take (length file) identification) ≡ true
 ident_is file is long =
     (bytes_eq-Decides (take 16 file) (take (length file) identification)).1 (is ∙ sym (take_all (length file) identification long))
 
@@ -81,13 +87,12 @@ unfolding is_headed
 headed_is file place end there stand empty =
     let header_stands : stands (ehdr_fields (header (round16 (offset_of file 11 + size_of file 11)))) 0 file ≡ true =
     ap (λ (n : ℕ). stands (ehdr_fields (header n)) 0 file) end ∙ is-stands (ehdr_fields (header place)) 0 file stand in
-    let zeros : is_zero_between file (headers_at file) (headers_at file + 64) ≡ true = ap (λ (n : ℕ). is_zero_between file n (n + 64)) there ∙ empty in
+    let zeros : is_zero_between file (headers_at file) (headers_at file + 64) ≡ true =
+    ap (λ (n : ℕ). is_zero_between file n (n + 64)) there ∙ empty in
     both_hold _ _ header_stands zeros
 
-same_is : (a b : ℕ) → a ≡ b → (a == b) ≡ true
-same_is a b h = grind (arith, nat_tests)
-
-ended_is : (file : List ℕ) (place end : ℕ) → offset_of file 11 + size_of file 11 ≡ end → headers_at file ≡ place → is_zero_between file end place ≡ true
+ended_is : (file : List ℕ) (place end : ℕ) → offset_of file 11 + size_of file 11 ≡ end → headers_at file ≡ place
+    → is_zero_between file end place ≡ true
     → length file ≡ place + 768 → is_ended file ≡ true
 unfolding is_ended
 ended_is file place end ends there gap len =
@@ -151,8 +156,11 @@ all_sections_good p file f =
     let end = tables_end p file f in
     let headed : is_headed file ≡ true =
     headed_is file (headers_place z) (rounded z (offset_of file 11 + size_of file 11) end) q.there q.stand q.empty in
-    let ended : is_ended file ≡ true = ended_is file (headers_place z) (contents_end 64 (sections z)) end q.there q.gap q.len in
-    (headed, both_hold_each (contents_conditions file (sizes_in file)) (condition (is_ended file) (BadSection 12) ∷ []) (contents_good p file f) (ended, tt))
+    let ended : is_ended file ≡ true = ended_is file (headers_place z) (contents_end 64 (sections z)) end q.there q.gap q.len in (
+      headed,
+      holds_append (contents_conditions file (sizes_in file)) (condition (is_ended file) (BadSection 12) ∷ [])
+          (contents_good p file f) (ended, tt),
+    )
 
 -- ---- the records
 
@@ -163,20 +171,24 @@ records_good p file f =
     let hold = hold_again p file f in
     let here = all_again p file f in
     let size : size_of file 6 ≡ names_end 1 p.symbols = hold.1.1.1.1.1.0.size in
-    let parts = apart file (offset_of file 5) 24 (replicate 24 0) (symbols_bytes 1 p.symbols) (length-replicate {A = ℕ} 24 0) here.1.1.1.1.0 in
+    let parts = apart file (offset_of file 5) 24 (replicate 24 0) (symbols_bytes 1 p.symbols)
+    (length-replicate {A = ℕ} 24 0) here.1.1.1.1.0 in
     let table : EachHolds (table_conditions file p) = (
       zeros_between file (offset_of file 5) 24 parts.0,
       symbols_good file z (offset_of file 5 + 24) 1 1 [] p.symbols valid.numbers.names parts.1 (omega (arith, size)) valid.symbols,
     ) in
     let code : EachHolds (code_conditions file p) =
-    relocs_good file (reloc_rule true z.text (length p.symbols)) (offset_of file 8) 0 0 p.text_relocs here.1.1.1.1.1.1.1.0 valid.text_relocs in
+    relocs_good file (reloc_rule true z.text (length p.symbols))
+    (offset_of file 8) 0 0 p.text_relocs here.1.1.1.1.1.1.1.0 valid.text_relocs in
     let data_relocs : EachHolds (data_conditions file p) =
-    relocs_good file (reloc_rule false z.init (length p.symbols)) (offset_of file 9) 0 (length p.text_relocs) p.init_relocs here.1.1.1.1.1.1.1.1.0 valid.init_relocs in
+    relocs_good file (reloc_rule false z.init (length p.symbols)) (offset_of file 9) 0
+    (length p.text_relocs) p.init_relocs here.1.1.1.1.1.1.1.1.0 valid.init_relocs in
     let tagged : EachHolds (tagged_conditions file p) =
-    tags_good file p.symbols (offset_of file 11) [] 0 (length p.text_relocs + length p.init_relocs) p.tagged here.1.1.1.1.1.1.1.1.1.1.0 valid.tagged in
-    both_hold_each (table_conditions file p ++ code_conditions file p ++ data_conditions file p) (tagged_conditions file p)
-    (both_hold_each (table_conditions file p ++ code_conditions file p) (data_conditions file p)
-    (both_hold_each (table_conditions file p) (code_conditions file p) table code) data_relocs) tagged
+    tags_good file p.symbols (offset_of file 11) [] 0
+    (length p.text_relocs + length p.init_relocs) p.tagged here.1.1.1.1.1.1.1.1.1.1.0 valid.tagged in
+    holds_append (table_conditions file p ++ code_conditions file p ++ data_conditions file p) (tagged_conditions file p)
+    (holds_append (table_conditions file p ++ code_conditions file p) (data_conditions file p)
+    (holds_append (table_conditions file p) (code_conditions file p) table code) data_relocs) tagged
 
 -- no condition fails
 pub no_fault : (p : Object) (file : List ℕ) → IsFileOf p file → first_fault (conditions file) ≡ None
@@ -185,5 +197,5 @@ no_fault p file f =
     let records : EachHolds (object_conditions file (claimed file)) =
     subst (λ (o : Object). EachHolds (object_conditions file o)) (sym (claims p file f)) (records_good p file f) in
     none_fails (start_conditions file ++ all_section_conditions file ++ object_conditions file (claimed file))
-    (both_hold_each (start_conditions file ++ all_section_conditions file) (object_conditions file (claimed file))
-    (both_hold_each (start_conditions file) (all_section_conditions file) (starts_good p file f) (all_sections_good p file f)) records)
+    (holds_append (start_conditions file ++ all_section_conditions file) (object_conditions file (claimed file))
+    (holds_append (start_conditions file) (all_section_conditions file) (starts_good p file f) (all_sections_good p file f)) records)

@@ -1,12 +1,12 @@
 -- An object has one file, and bytes have one first fault or none.
 use Rattle.std.proofs.Common.{◌≡◌, ℕ, List, Option, Some, None, refl, sym, ◌∙◌, ◌⊎◌, inl, inr}
 use Rattle.elf_base.specs.Laws.OneLayout.{one_layout}
+use Rattle.elf_base.specs.Conditions.{first_fault}
 use Rattle.elf_obj.specs.declared.refusal.ObjectRefusal.{ObjectRefusal}
 use Rattle.elf_obj.specs.Object.{Object}
 use Rattle.elf_obj.specs.Sections.{sizes_of, file_size}
 use Rattle.elf_obj.specs.Contents.{pieces}
 use Rattle.elf_obj.specs.ObjectFile.{ObjectFile}
-use Rattle.elf_obj.specs.Conditions.{first_fault}
 use Rattle.elf_obj.specs.ObjectFault.{conditions, ObjectFault}
 
 -- two files of one object are equal
@@ -25,7 +25,8 @@ pub record HasFault (file : List ℕ) : Type 0 where
   pub fault : ObjectRefusal
   pub is : ObjectFault file fault
 
-first : (o : Option ObjectRefusal) (file : List ℕ) → first_fault (conditions file) ≡ o → (first_fault (conditions file) ≡ None) ⊎ HasFault file
+first : (o : Option ObjectRefusal) (file : List ℕ) → first_fault (conditions file) ≡ o
+    → (first_fault (conditions file) ≡ None) ⊎ HasFault file
 first None file h = inl h
 first (Some e) file h = inr (record { fault = e; is = h })
 

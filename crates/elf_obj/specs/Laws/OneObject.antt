@@ -1,11 +1,11 @@
 -- Bytes are the file of one object or have one first fault, and never both.
 use Rattle.std.proofs.Common.{◌≡◌, ℕ, ◌<◌, ◌^◌, ◌⊎◌, List, length, Some, None, sym, ◌∙◌, inl, inr}
 use Rattle.elf_base.specs.Laws.Lengths.{IsBytes}
+use Rattle.elf_base.specs.Conditions.{first_fault}
 use Rattle.elf_obj.specs.declared.refusal.ObjectRefusal.{ObjectRefusal}
 use Rattle.elf_obj.specs.Object.{Object}
 use Rattle.elf_obj.specs.ObjectFile.{IsFileOf}
 use Rattle.elf_obj.specs.Claimed.{claimed}
-use Rattle.elf_obj.specs.Conditions.{first_fault}
 use Rattle.elf_obj.specs.ObjectFault.{conditions, ObjectFault}
 use Rattle.elf_obj.specs.Laws.FileOfClaims.{file_or_fault}
 use Rattle.elf_obj.specs.Laws.Again.{claims}

@@ -1,5 +1,6 @@
 -- What stands in a file is read again: words, relocations, tagged symbols, names and symbols.
-use Rattle.std.proofs.Common.{◌≡◌, ℕ, ◌+◌, ◌-◌, ◌*◌, ◌/◌, ◌%◌, ◌<◌, ◌^◌, Bool, true, false, List, [], ◌∷◌, ◌++◌, length, take, drop, refl, sym, ap, ◌∙◌, arith, append_assoc, take_at, drop_at, drop-drop}
+use Rattle.std.proofs.Common.{◌≡◌, ℕ, ◌+◌, ◌-◌, ◌*◌, ◌/◌, ◌%◌, ◌<◌, ◌^◌, Bool, true, false, List, [], ◌∷◌, ◌++◌, length, take, drop, refl}
+use Rattle.std.proofs.Common.{sym, ap, ◌∙◌, arith, append_assoc, take_at, drop_at, drop-drop}
 use Rattle.std.specs.Prelude.{not, ◌&&◌, ◌||◌, ◌==◌, nat_lt, if◌then◌else◌}
 use Rattle.std.specs.List.{AllByRecursion, flat_map, list_any}
 use Rattle.std.specs.Int.{w64, cast_signed}
@@ -8,29 +9,30 @@ use Rattle.elf_base.specs.Place.{number_at}
 use Rattle.elf_base.specs.Layout.{word_bytes}
 use Rattle.elf_base.specs.Records.{sym_fields, rela_fields}
 use Rattle.elf_base.specs.Laws.Reads.{fields_like}
-use Rattle.elf_base.specs.Laws.RecordsStand.{begins_there, fields_again}
+use Rattle.elf_base.specs.Laws.RecordsStand.{begins_there, again}
+use Rattle.elf_base.specs.Laws.Tests.{both, neither}
+use Rattle.elf_base.specs.Laws.Lengths.{length-word_bytes}
 use Rattle.elf_obj.specs.declared.parts.Symbol.{Symbol}
 use Rattle.elf_obj.specs.declared.parts.Reloc.{Reloc}
 use Rattle.elf_obj.specs.declared.parts.Home.{Home}
 use Rattle.elf_obj.specs.declared.parts.Home.TheVariants.{Undef, Text, Rodata, Init, Zero}
 use Rattle.elf_obj.specs.declared.sizes.Sizes.{Sizes}
-use Rattle.elf_obj.specs.Records.{home_number, binding_of, function_type, type_of, symbol_record, tag_record, symbols_bytes, reloc_bytes, tag_bytes, name_bytes}
+use Rattle.elf_obj.specs.Records.{home_number, binding_of, function_type, type_of, symbol_record, tag_record, symbols_bytes, reloc_bytes}
+use Rattle.elf_obj.specs.Records.{tag_bytes, name_bytes}
 use Rattle.elf_obj.specs.Rules.{is_in_order, is_named, is_empty, is_new, has_place, symbol_keeps, symbols_keep}
 use Rattle.elf_obj.specs.ObjectFile.{NamesFit, AllCounted, AllNumbered, SymbolFits, RelocFits}
-use Rattle.elf_obj.specs.Claimed.{name_first, after_name, names_in, home_of, symbol_at, symbols_at, reloc_at, relocs_at, tag_at, tags_at, words_at}
-use Rattle.elf_obj.specs.Laws.Lengths.{length-sym, length-reloc_bytes, length-tag_bytes, length-word_bytes}
-use Rattle.elf_obj.specs.Laws.Held.{both}
+use Rattle.elf_obj.specs.Claimed.{name_first, after_name, names_in, home_of, symbol_at, symbols_at, reloc_at, relocs_at, tag_at, tags_at}
+use Rattle.elf_obj.specs.Claimed.{words_at}
+use Rattle.elf_obj.specs.Laws.Lengths.{length-sym, length-reloc_bytes, length-tag_bytes}
 
 -- two parts that stand as one stand one behind the other
-pub apart : (file : List ℕ) (at n : ℕ) (a b : List ℕ) → length a ≡ n → StandsAt file at (a ++ b) → StandsAt file at a × StandsAt file (at + n) b
+pub apart : (file : List ℕ) (at n : ℕ) (a b : List ℕ) → length a ≡ n → StandsAt file at (a ++ b)
+    → StandsAt file at a × StandsAt file (at + n) b
 apart file at n a b len h =
     let rest : List ℕ = drop (length (a ++ b)) (drop at file) in
     let here : drop at file ≡ a ++ (b ++ rest) = begins_there file at (a ++ b) h ∙ append_assoc a b rest in
     let behind : drop (at + n) file ≡ b ++ rest = sym (drop-drop n at file) ∙ ap (drop n) here ∙ drop_at a (b ++ rest) n len in
     (ap (take (length a)) here ∙ take_at a (b ++ rest) (length a) refl, ap (take (length b)) behind ∙ take_at b rest (length b) refl)
-
-again : (fs : List Field) (at : ℕ) (file : List ℕ) → FieldsFit fs → StandsAt file at (bytes_of fs) → fields_like fs at file ≡ fs
-again fs at file fits h = fields_again fs at file _ fits (begins_there file at (bytes_of fs) h)
 
 -- ---- words
 
@@ -57,25 +59,30 @@ kind_is s k h = omega (arith, h)
 symbol_is : (s k : ℕ) → k < 2 ^ 32 → (4294967296 * (s + 1) + k) / 4294967296 - 1 ≡ s
 symbol_is s k h = omega (arith, h)
 
-reloc_again : (r : Reloc) (at : ℕ) (file : List ℕ) → RelocFits r → r.symbol + 1 < 2 ^ 32 → StandsAt file at (reloc_bytes r) → reloc_at at file ≡ r
+reloc_again : (r : Reloc) (at : ℕ) (file : List ℕ) → RelocFits r → r.symbol + 1 < 2 ^ 32 → StandsAt file at (reloc_bytes r)
+    → reloc_at at file ≡ r
 unfolding reloc_bytes
 reloc_again r at file fit counted h =
     let info_number : ℕ = 4294967296 * (r.symbol + 1) + r.kind in
     let fields : List Field = number 8 r.offset ∷ number 8 info_number ∷ signed r.addend ∷ [] in
     let offset_fits = fit.offset in
     let fits : FieldsFit fields = (omega (arith, offset_fits), (info_fits r.symbol r.kind counted fit.kind, (fit.addend, tt))) in
-    let same : (number 8 (number_at 8 at file) ∷ number 8 (number_at 8 (at + 8) file) ∷ signed (cast_signed w64 (number_at 8 (at + 8 + 8) file)) ∷ []) ≡ fields =
+    let same : (number 8 (number_at 8 at file) ∷ number 8 (number_at 8 (at + 8) file) ∷ signed
+    (cast_signed w64 (number_at 8 (at + 8 + 8) file)) ∷ []) ≡ fields =
     again fields at file fits h in
     let offset : number_at 8 at file ≡ r.offset = cc in
     let info : number_at 8 (at + 8) file ≡ info_number = cc in
     let behind : cast_signed w64 (number_at 8 (at + 8 + 8) file) ≡ r.addend = cc in
     let place : at + 16 ≡ at + 8 + 8 = omega arith in
-    let addend : cast_signed w64 (number_at 8 (at + 16) file) ≡ r.addend = ap (λ (n : ℕ). cast_signed w64 (number_at 8 n file)) place ∙ behind in
+    let addend : cast_signed w64 (number_at 8 (at + 16) file) ≡ r.addend =
+    ap (λ (n : ℕ). cast_signed w64 (number_at 8 n file)) place ∙ behind in
     let kind : number_at 8 (at + 8) file % 4294967296 ≡ r.kind = ap (λ (n : ℕ). n % 4294967296) info ∙ kind_is r.symbol r.kind fit.kind in
-    let symbol : number_at 8 (at + 8) file / 4294967296 - 1 ≡ r.symbol = ap (λ (n : ℕ). n / 4294967296 - 1) info ∙ symbol_is r.symbol r.kind fit.kind in
+    let symbol : number_at 8 (at + 8) file / 4294967296 - 1 ≡ r.symbol =
+    ap (λ (n : ℕ). n / 4294967296 - 1) info ∙ symbol_is r.symbol r.kind fit.kind in
     λ i. record { offset = offset i; kind = kind i; symbol = symbol i; addend = addend i }
 
-pub relocs_again : (rs : List Reloc) (at : ℕ) (file : List ℕ) → AllByRecursion RelocFits rs → AllCounted rs → StandsAt file at (flat_map reloc_bytes rs)
+pub relocs_again : (rs : List Reloc) (at : ℕ) (file : List ℕ) → AllByRecursion RelocFits rs → AllCounted rs
+    → StandsAt file at (flat_map reloc_bytes rs)
     → relocs_at (length rs) at file ≡ rs
 relocs_again [] at file fit counted h = refl
 relocs_again (r ∷ rs) at file fit counted h =
@@ -95,7 +102,8 @@ tag_again t at file low h =
     let info : number_at 8 (at + 8) file ≡ 4294967296 * (t + 1) = cc in
     ap (λ (n : ℕ). n / 4294967296 - 1) info ∙ number_is t
 
-pub tags_again : (ts : List ℕ) (at : ℕ) (file : List ℕ) → AllNumbered ts → StandsAt file at (flat_map tag_bytes ts) → tags_at (length ts) at file ≡ ts
+pub tags_again : (ts : List ℕ) (at : ℕ) (file : List ℕ) → AllNumbered ts → StandsAt file at (flat_map tag_bytes ts)
+    → tags_at (length ts) at file ≡ ts
 tags_again [] at file low h = refl
 tags_again (t ∷ ts) at file low h =
     let parts = apart file at 24 (tag_bytes t) (flat_map tag_bytes ts) (length-tag_bytes t) h in
@@ -103,10 +111,6 @@ tags_again (t ∷ ts) at file low h =
     ∙ ap (λ (l : List ℕ). t ∷ l) (tags_again ts (at + 24) file low.1 parts.1)
 
 -- ---- names
-
-neither : (a b : Bool) → (a || b) ≡ false → (a ≡ false) × (b ≡ false)
-neither false b h = (refl, h)
-neither true b h = cc
 
 not_so : (b : Bool) → not b ≡ true → b ≡ false
 not_so false h = refl
@@ -116,7 +120,8 @@ first_again : (name rest : List ℕ) → list_any (λ b. b == 0) name ≡ false 
 first_again [] rest h = refl
 first_again (b ∷ bs) rest h =
     let parts = neither (b == 0) (list_any (λ (c : ℕ). c == 0) bs) h in
-    ap (λ (t : Bool). if t then [] else b ∷ name_first ((bs ++ 0 ∷ []) ++ rest)) parts.0 ∙ ap (λ (l : List ℕ). b ∷ l) (first_again bs rest parts.1)
+    ap (λ (t : Bool). if t then [] else b ∷ name_first ((bs ++ 0 ∷ []) ++ rest)) parts.0
+    ∙ ap (λ (l : List ℕ). b ∷ l) (first_again bs rest parts.1)
 
 after_again : (name rest : List ℕ) → list_any (λ b. b == 0) name ≡ false → after_name ((name ++ 0 ∷ []) ++ rest) ≡ rest
 after_again [] rest h = refl
@@ -158,7 +163,8 @@ abbrev pub each_name : List Symbol → List (List ℕ)
 each_name [] = []
 each_name (s ∷ ss) = s.name ∷ each_name ss
 
-pub names_again : (z : Sizes) (earlier ss : List Symbol) → symbols_keep z earlier ss ≡ true → names_in (length ss) (flat_map name_bytes ss) ≡ each_name ss
+pub names_again : (z : Sizes) (earlier ss : List Symbol) → symbols_keep z earlier ss ≡ true
+    → names_in (length ss) (flat_map name_bytes ss) ≡ each_name ss
 names_again z earlier [] h = refl
 names_again z earlier (s ∷ ss) h =
     let parts = both (symbol_keeps z earlier s) (symbols_keep z (earlier ++ s ∷ []) ss) h in
@@ -250,8 +256,10 @@ symbol_again s place at file fit low plainly h =
     let size_fits = fit.size in
     let fits : FieldsFit fields =
     (omega (arith, low), (info_low, (omega arith, (home_low s.home, (omega (arith, value_fits), (omega (arith, size_fits), tt)))))) in
-    let same : (number 4 (number_at 4 at file) ∷ number 1 (number_at 1 (at + 4) file) ∷ number 1 (number_at 1 (at + 4 + 1) file) ∷ number 2 (number_at 2 (at + 4 + 1 + 1) file)
-    ∷ number 8 (number_at 8 (at + 4 + 1 + 1 + 2) file) ∷ number 8 (number_at 8 (at + 4 + 1 + 1 + 2 + 8) file) ∷ []) ≡ fields = again fields at file fits h in
+    let same : (number 4 (number_at 4 at file) ∷ number 1 (number_at 1 (at + 4) file) ∷ number 1
+    (number_at 1 (at + 4 + 1) file) ∷ number 2 (number_at 2 (at + 4 + 1 + 1) file)
+    ∷ number 8 (number_at 8 (at + 4 + 1 + 1 + 2) file) ∷ number 8 (number_at 8 (at + 4 + 1 + 1 + 2 + 8) file) ∷ [])
+    ≡ fields = again fields at file fits h in
     let info : number_at 1 (at + 4) file ≡ info_number = cc in
     let home_there : number_at 2 (at + 4 + 1 + 1) file ≡ home_number s.home = cc in
     let value_there : number_at 8 (at + 4 + 1 + 1 + 2) file ≡ s.value = cc in
@@ -263,12 +271,14 @@ symbol_again s place at file fit low plainly h =
     ap (λ (n : ℕ). home_of (number_at 2 n file)) p6 ∙ ap home_of home_there ∙ home_again s.home in
     let value : number_at 8 (at + 8) file ≡ s.value = ap (λ (n : ℕ). number_at 8 n file) p8 ∙ value_there in
     let size : number_at 8 (at + 16) file ≡ s.size = ap (λ (n : ℕ). number_at 8 n file) p16 ∙ size_there in
-    let local : nat_lt (number_at 1 (at + 4) file) 16 ≡ s.local = ap (λ (n : ℕ). nat_lt n 16) info ∙ local_again s.local s.function s.home in
+    let local : nat_lt (number_at 1 (at + 4) file) 16 ≡ s.local =
+    ap (λ (n : ℕ). nat_lt n 16) info ∙ local_again s.local s.function s.home in
     let function : (number_at 1 (at + 4) file % 16 == 2) ≡ s.function =
     ap (λ (n : ℕ). n % 16 == 2) info ∙ function_again s.local s.function s.home plainly in
     λ i. record { name = s.name; home = home i; value = value i; size = size i; local = local i; function = function i }
 
-pub symbols_again : (z : Sizes) (earlier ss : List Symbol) (place at : ℕ) (file : List ℕ) → symbols_keep z earlier ss ≡ true → AllByRecursion SymbolFits ss
+pub symbols_again : (z : Sizes) (earlier ss : List Symbol) (place at : ℕ) (file : List ℕ) → symbols_keep z earlier ss ≡ true
+    → AllByRecursion SymbolFits ss
     → NamesFit place ss → StandsAt file at (symbols_bytes place ss) → symbols_at (each_name ss) at file ≡ ss
 symbols_again z earlier [] place at file h fit named stand = refl
 symbols_again z earlier (s ∷ ss) place at file h fit named stand =

@@ -5,18 +5,19 @@ use Rattle.mt_base.specs.Granules.{round16}
 use Rattle.elf_base.specs.Field.{StandsAt}
 use Rattle.elf_base.specs.Layout.{Piece}
 use Rattle.elf_base.specs.Records.{shdr_fields}
+use Rattle.elf_base.specs.Laws.Tests.{both_hold, lt_is}
+use Rattle.elf_base.specs.Laws.Conditions.{EachHolds}
+use Rattle.elf_base.specs.Zeros.{is_zero_between}
 use Rattle.elf_obj.specs.declared.section.Section.{Section}
 use Rattle.elf_obj.specs.Sections.{contents_end, header_of, headers_of}
 use Rattle.elf_obj.specs.Contents.{content_pieces, header_bytes}
 use Rattle.elf_obj.specs.Claimed.{headers_at, offset_of, size_of}
-use Rattle.elf_obj.specs.ObjectFault.{is_zero_between, is_section, section_conditions}
+use Rattle.elf_obj.specs.ObjectFault.{is_section, section_conditions}
 use Rattle.elf_obj.specs.Laws.Lengths.{AreAsLong, length-header}
 use Rattle.elf_obj.specs.Laws.Fields.{is-stands}
-use Rattle.elf_obj.specs.Laws.RecordsHold.{both_hold}
 use Rattle.elf_obj.specs.Laws.SectionsHold.{SectionsHold, AllTrue, section_holds}
 use Rattle.elf_obj.specs.Laws.ZerosBetween.{ZerosBetween}
 use Rattle.elf_obj.specs.Laws.ReadAgain.{apart}
-use Rattle.elf_obj.specs.Laws.RecordsAgain.{EachHolds, lt_is}
 use Rattle.elf_obj.specs.Laws.Ends.{contents_grow}
 
 -- the sizes of sections fit their fields
@@ -29,14 +30,17 @@ abbrev pub AreGood : List ℕ → ℕ → ℕ → List Section → Type 0
 AreGood file at k [] = Unit {0}
 AreGood file at k (s ∷ ss) = (is_section file at k s ≡ true) × AreGood file (round16 at + s.bytes) (k + 1) ss
 
-is_good : (file : List ℕ) (at k : ℕ) (s : Section) → s.info < 2 ^ 32 → StandsAt file (headers_at file + 64 * k) (header_bytes (header_of s (round16 at)))
+is_good : (file : List ℕ) (at k : ℕ) (s : Section) → s.info < 2 ^ 32
+    → StandsAt file (headers_at file + 64 * k) (header_bytes (header_of s (round16 at)))
     → is_zero_between file at (round16 at) ≡ true → is_section file at k s ≡ true
 unfolding is_section
 is_good file at k s low stand gap =
-    both_hold _ _ (both_hold _ _ (lt_is s.info 4294967296 (omega (arith, low))) (is-stands (shdr_fields (header_of s (round16 at))) (headers_at file + 64 * k) file stand)) gap
+    both_hold _ _ (both_hold _ _ (lt_is s.info 4294967296 (omega (arith, low)))
+    (is-stands (shdr_fields (header_of s (round16 at))) (headers_at file + 64 * k) file stand)) gap
 
 pub are_good : (file : List ℕ) (at k : ℕ) (ss : List Section) (cs : List (List ℕ)) (last : Piece) → SectionsFit ss → AreAsLong ss cs
-    → StandsAt file (headers_at file + 64 * k) (flat_map header_bytes (headers_of at ss)) → ZerosBetween file at (content_pieces at ss cs ++ last ∷ [])
+    → StandsAt file (headers_at file + 64 * k) (flat_map header_bytes (headers_of at ss))
+    → ZerosBetween file at (content_pieces at ss cs ++ last ∷ [])
     → AreGood file at k ss
 are_good file at k [] cs last fit long stand gaps = tt
 are_good file at k (s ∷ ss) [] last fit long stand gaps = absurd long
@@ -62,7 +66,8 @@ last_gap file at (s ∷ ss) (c ∷ cs) last long gaps =
     let end : round16 at + length c ≡ next = ap (λ (n : ℕ). round16 at + n) long.0 in
     last_gap file next ss cs last long.1 (subst (λ (n : ℕ). ZerosBetween file n (content_pieces next ss cs ++ last ∷ [])) end gaps.1)
 
-pub good_hold : (file : List ℕ) (at k : ℕ) (ss : List Section) → SectionsFit ss → contents_end at ss ≤ 2 ^ 63 → AreGood file at k ss → SectionsHold file at k ss
+pub good_hold : (file : List ℕ) (at k : ℕ) (ss : List Section) → SectionsFit ss → contents_end at ss ≤ 2 ^ 63 → AreGood file at k ss
+    → SectionsHold file at k ss
 good_hold file at k [] fit low good = tt
 good_hold file at k (s ∷ ss) fit low good =
     let start : at ≤ 2 ^ 63 = omega (arith, contents_grow at (s ∷ ss), low) in
@@ -80,7 +85,8 @@ abbrev pub AreWithin : List ℕ → ℕ → List Section → Type 0
 AreWithin file k [] = Unit {0}
 AreWithin file k (s ∷ ss) = (s.bytes ≡ s.size → offset_of file k + size_of file k ≤ length file) × AreWithin file (k + 1) ss
 
-pub are_within : (file : List ℕ) (at k : ℕ) (ss : List Section) → contents_end at ss ≤ length file → SectionsHold file at k ss → AreWithin file k ss
+pub are_within : (file : List ℕ) (at k : ℕ) (ss : List Section) → contents_end at ss ≤ length file → SectionsHold file at k ss
+    → AreWithin file k ss
 are_within file at k [] low hold = tt
 are_within file at k (s ∷ ss) low hold = (
   λ same. omega (arith, hold.0.offset, hold.0.size, same, contents_grow (round16 at + s.bytes) ss, low),

@@ -1,5 +1,6 @@
 -- The pieces of an object follow one another up to the end of its file.
-use Rattle.std.proofs.Common.{◌≡◌, ℕ, ◌+◌, ◌≤◌, List, [], ◌∷◌, ◌++◌, length, replicate, refl, sym, ap, subst, ◌∙◌, arith, append_assoc, length-append}
+use Rattle.std.proofs.Common.{◌≡◌, ℕ, ◌+◌, ◌≤◌, List, [], ◌∷◌, ◌++◌, length, replicate, refl, sym, ap, subst, ◌∙◌, arith, append_assoc}
+use Rattle.std.proofs.Common.{length-append}
 use Rattle.std.specs.List.{flat_map}
 use Rattle.std.proofs.lemmas.List.{length-replicate}
 use Rattle.mt_base.specs.Granules.{round16}
@@ -8,7 +9,7 @@ use Rattle.elf_base.specs.Layout.{Piece, piece, IsLaidOut}
 use Rattle.elf_base.specs.Laying.{pad, put, put_all}
 use Rattle.elf_base.specs.Records.{ehdr_fields}
 use Rattle.elf_base.specs.Laws.Lengths.{length-ehdr}
-use Rattle.elf_base.specs.Laws.LaidOut.{AreInOrder, end_of, length-put_all, laid_out}
+use Rattle.elf_base.specs.Laws.LaidOut.{AreInOrder, end_of, length-put_all, laid_out, length-put}
 use Rattle.elf_obj.specs.declared.section.Section.{Section}
 use Rattle.elf_obj.specs.Object.{Object}
 use Rattle.elf_obj.specs.Sections.{sections, sizes_of, contents_end, headers_place, file_size, headers_of}
@@ -37,10 +38,6 @@ first_put : (bytes : List ℕ) → put (piece 0 bytes) [] ≡ bytes
 unfolding put pad
 first_put bytes = refl
 
--- how long what was put is
-length-one : (p : Piece) (out : List ℕ) → length out ≤ p.place → length (put p out) ≡ p.place + length p.bytes
-length-one p out h = length-put_all (p ∷ []) out (h, tt)
-
 -- ---- contents
 
 pub after_round : (at : ℕ) → at ≤ round16 at
@@ -50,14 +47,19 @@ contents_in_order : (at : ℕ) (ss : List Section) (cs : List (List ℕ)) → Ar
 contents_in_order at [] cs h = tt
 contents_in_order at (s ∷ ss) [] h = absurd h
 contents_in_order at (s ∷ ss) (c ∷ cs) h =
-    let place : round16 at + s.bytes ≡ round16 at + length c = ap (λ (n : ℕ). round16 at + n) (sym h.0) in
-    (after_round at, subst (λ (n : ℕ). AreInOrder n (content_pieces (round16 at + s.bytes) ss cs)) place (contents_in_order (round16 at + s.bytes) ss cs h.1))
+    let place : round16 at + s.bytes ≡ round16 at + length c = ap (λ (n : ℕ). round16 at + n) (sym h.0) in (
+      after_round at,
+      subst (λ (n : ℕ). AreInOrder n (content_pieces (round16 at + s.bytes) ss cs)) place
+          (contents_in_order (round16 at + s.bytes) ss cs h.1),
+    )
 
-contents_end_is : (at : ℕ) (ss : List Section) (cs : List (List ℕ)) → AreAsLong ss cs → end_of at (content_pieces at ss cs) ≡ contents_end at ss
+contents_end_is : (at : ℕ) (ss : List Section) (cs : List (List ℕ)) → AreAsLong ss cs
+    → end_of at (content_pieces at ss cs) ≡ contents_end at ss
 contents_end_is at [] cs h = refl
 contents_end_is at (s ∷ ss) [] h = absurd h
 contents_end_is at (s ∷ ss) (c ∷ cs) h =
-    ap (λ (n : ℕ). end_of (round16 at + n) (content_pieces (round16 at + s.bytes) ss cs)) h.0 ∙ contents_end_is (round16 at + s.bytes) ss cs h.1
+    ap (λ (n : ℕ). end_of (round16 at + n) (content_pieces (round16 at + s.bytes) ss cs)) h.0
+    ∙ contents_end_is (round16 at + s.bytes) ss cs h.1
 
 -- contents that are put one after the other are those pieces
 contents_put : (at : ℕ) (out : List ℕ) (ss : List Section) (cs : List (List ℕ)) → AreAsLong ss cs → at ≡ length out
@@ -68,7 +70,8 @@ contents_put at out [] (c ∷ cs) h same = absurd h
 contents_put at out (s ∷ ss) [] h same = absurd h
 contents_put at out (s ∷ ss) (c ∷ cs) h same =
     let first : put_next c out ≡ put (piece (round16 at) c) out = ap (λ (n : ℕ). put (piece (round16 n) c) out) (sym same) in
-    let len : length (put (piece (round16 at) c) out) ≡ round16 at + length c = length-one (piece (round16 at) c) out (omega (arith, same)) in
+    let len : length (put (piece (round16 at) c) out) ≡ round16 at + length c =
+    length-put (piece (round16 at) c) out (omega (arith, same)) in
     let next : round16 at + s.bytes ≡ length (put (piece (round16 at) c) out) = omega (arith, len, h.0) in
     ap (put_contents cs) first ∙ contents_put (round16 at + s.bytes) (put (piece (round16 at) c) out) ss cs h.1 next
 
@@ -96,10 +99,13 @@ middle p = content_pieces 64 (sections (sizes_of p)) (contents p)
 pub pieces_in_order : (p : Object) → AreInOrder 0 (pieces p)
 unfolding headers_place
 pieces_in_order p =
-    let end : end_of 64 (middle p) ≡ contents_end 64 (sections (sizes_of p)) = contents_end_is 64 (sections (sizes_of p)) (contents p) (contents_are_as_long p) in
-    let last : end_of 64 (middle p) ≤ headers_place (sizes_of p) = subst (λ (n : ℕ). n ≤ headers_place (sizes_of p)) (sym end) (after_round (contents_end 64 (sections (sizes_of p)))) in
+    let end : end_of 64 (middle p) ≡ contents_end 64 (sections (sizes_of p)) =
+    contents_end_is 64 (sections (sizes_of p)) (contents p) (contents_are_as_long p) in
+    let last : end_of 64 (middle p) ≤ headers_place (sizes_of p) =
+    subst (λ (n : ℕ). n ≤ headers_place (sizes_of p)) (sym end) (after_round (contents_end 64 (sections (sizes_of p)))) in
     let rest : AreInOrder 64 (middle p ++ piece (headers_place (sizes_of p)) (last_bytes p) ∷ []) =
-    in_order-append 64 (middle p) (piece (headers_place (sizes_of p)) (last_bytes p) ∷ []) (contents_in_order 64 (sections (sizes_of p)) (contents p) (contents_are_as_long p)) (last, tt) in
+    in_order-append 64 (middle p) (piece (headers_place (sizes_of p)) (last_bytes p) ∷ [])
+    (contents_in_order 64 (sections (sizes_of p)) (contents p) (contents_are_as_long p)) (last, tt) in
     let place : 64 ≡ 0 + length (first_bytes p) = omega (arith, length-first p) in
     (omega arith, subst (λ (n : ℕ). AreInOrder n (middle p ++ piece (headers_place (sizes_of p)) (last_bytes p) ∷ [])) place rest)
 
@@ -110,7 +116,8 @@ pieces_end p =
     ends ∙ ap (λ (n : ℕ). headers_place (sizes_of p) + n) (length-last p)
 
 -- bytes behind a content are one content with it
-content_and_more : (place : ℕ) (bytes rest out : List ℕ) → round16 (length out) ≡ place → put_next bytes out ++ rest ≡ put (piece place (bytes ++ rest)) out
+content_and_more : (place : ℕ) (bytes rest out : List ℕ) → round16 (length out) ≡ place
+    → put_next bytes out ++ rest ≡ put (piece place (bytes ++ rest)) out
 unfolding put_next put
 content_and_more place bytes rest out same =
     append_assoc (pad (round16 (length out)) out) bytes rest ∙ ap (λ (n : ℕ). pad n out ++ (bytes ++ rest)) same
@@ -127,10 +134,13 @@ written p zeros rest out all e =
     let z = sections (sizes_of p) in
     let held = contents_are_as_long p in
     let place : 64 ≡ length (first_bytes p) = sym (length-first p) in
-    let middle_is : put_contents (contents p) (first_bytes p) ≡ put_all (middle p) (first_bytes p) = contents_put 64 (first_bytes p) z (contents p) held place in
-    let ordered : AreInOrder (length (first_bytes p)) (middle p) = subst (λ (n : ℕ). AreInOrder n (middle p)) place (contents_in_order 64 z (contents p) held) in
+    let middle_is : put_contents (contents p) (first_bytes p) ≡ put_all (middle p) (first_bytes p) =
+    contents_put 64 (first_bytes p) z (contents p) held place in
+    let ordered : AreInOrder (length (first_bytes p)) (middle p) =
+    subst (λ (n : ℕ). AreInOrder n (middle p)) place (contents_in_order 64 z (contents p) held) in
     let len : length (put_all (middle p) (first_bytes p)) ≡ contents_end 64 z =
-    length-put_all (middle p) (first_bytes p) ordered ∙ ap (λ (n : ℕ). end_of n (middle p)) (sym place) ∙ contents_end_is 64 z (contents p) held in
+    length-put_all (middle p) (first_bytes p) ordered ∙ ap (λ (n : ℕ). end_of n (middle p)) (sym place)
+    ∙ contents_end_is 64 z (contents p) held in
     e ∙ ap (λ (l : List ℕ). put_next zeros l ++ rest) middle_is
     ∙ content_and_more (headers_place (sizes_of p)) zeros rest (put_all (middle p) (first_bytes p)) (ap round16 len)
     ∙ ap (λ (l : List ℕ). put (piece (headers_place (sizes_of p)) l) (put_all (middle p) (first_bytes p))) all
@@ -141,5 +151,6 @@ written p zeros rest out all e =
 pub is_file : (p : Object) (file : List ℕ) → IsValid p → file ≡ put_all (pieces p) [] → ObjectFile p file
 is_file p file valid e = record {
   valid = valid;
-  laid_out = subst (λ (f : List ℕ). IsLaidOut (pieces p) (file_size (sizes_of p)) f) (sym e) (laid_out (pieces p) (file_size (sizes_of p)) (pieces_in_order p) (pieces_end p));
+  laid_out = subst (λ (f : List ℕ). IsLaidOut (pieces p) (file_size (sizes_of p)) f) (sym e)
+      (laid_out (pieces p) (file_size (sizes_of p)) (pieces_in_order p) (pieces_end p));
 }

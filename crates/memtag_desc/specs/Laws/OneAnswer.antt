@@ -1,10 +1,12 @@
 -- Bytes describe one list of intervals or have one first fault, and never both.
-use Rattle.std.proofs.Common.{◌≡◌, ℕ, zero, suc, ◌+◌, ◌*◌, ◌≤◌, ◌<◌, ◌⊎◌, List, [], ◌∷◌, ◌++◌, length, drop, Ok, Err, refl, sym, ap, subst, ◌∙◌, arith, inl, inr, append_assoc, length-append, drop_at}
+use Rattle.std.proofs.Common.{◌≡◌, ℕ, zero, suc, ◌+◌, ◌*◌, ◌≤◌, ◌<◌, ◌⊎◌, List, [], ◌∷◌, ◌++◌, length, drop, Ok, Err, refl, sym, ap}
+use Rattle.std.proofs.Common.{subst, ◌∙◌, arith, inl, inr, append_assoc, length-append, drop_at}
 use Rattle.memtag_desc.specs.declared.interval.Interval.{Interval}
 use Rattle.memtag_desc.specs.declared.record.Descriptor.{Descriptor as Read}
 use Rattle.memtag_desc.specs.declared.refusal.DescRefusal.{DescRefusal}
 use Rattle.memtag_desc.specs.Numbers.{IsShortest, last, more}
-use Rattle.memtag_desc.specs.Descriptors.{IsDescriptor, small, large, interval_at, end_of, end_from, address_limit, DescribesFrom, nothing, next, Describes}
+use Rattle.memtag_desc.specs.Descriptors.{IsDescriptor, small, large, interval_at, end_of, end_from, address_limit, DescribesFrom}
+use Rattle.memtag_desc.specs.Descriptors.{nothing, next, Describes}
 use Rattle.memtag_desc.specs.Faults.{RecordBreaks, HasFault}
 use Rattle.memtag_desc.specs.Laws.Reading.{ReadDescriptor, descriptor_at}
 use Rattle.memtag_desc.specs.Laws.ReadNumber.{IsBytes}

@@ -1,10 +1,12 @@
 -- Intervals have one description, and have one exactly where they are whole granules, in order, none empty, and all below the limit.
-use Rattle.std.proofs.Common.{◌≡◌, ℕ, zero, suc, ◌+◌, ◌*◌, ◌-◌, ◌/◌, ◌%◌, ◌^◌, ◌<◌, ◌≤◌, List, [], ◌∷◌, ◌++◌, length, refl, ap, subst, ◌∙◌, arith, inl, inr}
+use Rattle.std.proofs.Common.{◌≡◌, ℕ, zero, suc, ◌+◌, ◌*◌, ◌-◌, ◌/◌, ◌%◌, ◌^◌, ◌<◌, ◌≤◌, List, [], ◌∷◌, ◌++◌, length, refl, ap, subst}
+use Rattle.std.proofs.Common.{◌∙◌, arith, inl, inr}
 use Rattle.std.proofs.Math.Nat.{pow-succ'}
 use Rattle.std.proofs.lemmas.Bool.{cases_lt}
 use Rattle.memtag_desc.specs.declared.interval.Interval.{Interval}
 use Rattle.memtag_desc.specs.Numbers.{IsShortest, last, more}
-use Rattle.memtag_desc.specs.Descriptors.{IsDescriptor, small, large, interval_at, end_of, DescribesFrom, nothing, next, Describes, HaveDescription}
+use Rattle.memtag_desc.specs.Descriptors.{IsDescriptor, small, large, interval_at, end_of, DescribesFrom, nothing, next, Describes}
+use Rattle.memtag_desc.specs.Descriptors.{HaveDescription}
 
 -- ---- one spelling
 

@@ -39,7 +39,8 @@ one_globals None (Some xs) others a b = absurd a
 pub one_text : (file text other : List ℕ) → HasText file text → HasText file other → text ≡ other
 one_text file text other a b =
     let info : a.info ≡ b.info = one_info file a.info b.info a.entries b.entries in
-    let described : AreGlobals a.info.descriptors b.globals = subst (λ (i : MemtagInfo). AreGlobals i.descriptors b.globals) (sym info) b.described in
+    let described : AreGlobals a.info.descriptors b.globals =
+    subst (λ (i : MemtagInfo). AreGlobals i.descriptors b.globals) (sym info) b.described in
     let globals : a.globals ≡ b.globals = one_globals a.info.descriptors a.globals b.globals a.described described in
     a.is ∙ ap (λ (g : Option (List Interval)). lines a.info g) globals ∙ ap (λ (i : MemtagInfo). lines i b.globals) info ∙ sym b.is
 

@@ -1,6 +1,5 @@
 -- A text that is refused returns no constant, and has one refusal.
-use Rattle.std.proofs.Common.{◌≡◌, ◌<◌, ◌≤◌, ℕ, List, length, inl, inr, refl, ap, ◌∙◌, arith}
-use Rattle.std.proofs.lemmas.Bool.{cases_lt}
+use Rattle.std.proofs.Common.{◌≡◌, ◌<◌, ◌≤◌, ℕ, List, length, refl, ap, ◌∙◌, arith}
 use Rattle.c_ast.specs.Seen.{all_seen}
 use Rattle.c_ast.specs.declared.program.Program.{Program}
 use Rattle.c_ast.specs.declared.token.Token.{Token}
@@ -24,7 +23,7 @@ use Rattle.mt_compile.specs.Laws.RefusedPlaces.{byte_same}
 use Rattle.mt_compile.specs.Laws.Respelled.{same_seen, respelled}
 use Rattle.mt_compile.specs.Source.{HasTokens, ReturnsConstant}
 use Rattle.mt_compile.specs.Laws.ConstantTrees.{one_constant}
-use Rattle.mt_compile.specs.Laws.OneWay.{OneWay, GoesOn, Stops, at_first, behind, in_turn}
+use Rattle.mt_compile.specs.Laws.OneWay.{OneWay, GoesOn, Stops, at_first, behind, in_turn, Fails, check}
 
 -- tokens of which one is too deep spell none within the limit
 not_too_deep : {levels place : ℕ} {tokens : List Token} → FirstTooDeep levels tokens place → (program : Program) (depth : ℕ) →
@@ -46,42 +45,64 @@ not_both : {text : List ℕ} {us ts : List Token} {place later : ℕ} → HasTok
     FirstUnexpected limit us place → FirstTooDeep limit ts later → ⊥
 not_both {us = us} {ts = ts} held other f g = never_both (unexpected_seen us ts (same_seen held other) f) g
 
--- ---- the stages: tokens, a program, its constant
+-- ---- the stages: the size of the text, its tokens, tokens that can be right, a program, its constant
 
--- the text has tokens, or the lexer refuses it
+abbrev Short : List ℕ → Unit {0} → Type 0
+Short text done = length text ≤ text_limit
+
+abbrev TooLong : List ℕ → CompileRefusal → ℕ → Type 0
+TooLong text = Fails (text_limit < length text) (Lex lex.TextTooLong) 0
+
+sizing : (text : List ℕ) → OneWay (Short text) (TooLong text)
+sizing text =
+    check (length text ≤ text_limit) (text_limit < length text) (Lex lex.TextTooLong) 0 (λ within more. omega (arith, within, more))
+
+-- the text has tokens, or a first fault
 abbrev HasSome : List ℕ → Unit {0} → Type 0
 HasSome text done = (tokens : List Token) × HasTokens text tokens
 
-data LexRefuses (text : List ℕ) : CompileRefusal → ℕ → Type 0 where
-  fault : {what : Fault} {at : ℕ} → length text ≤ text_limit → FirstFault text what at → LexRefuses text (Lex (refusal_of what at)) at
-  long : text_limit < length text → LexRefuses text (Lex lex.TextTooLong) 0
+data Faulty (text : List ℕ) : CompileRefusal → ℕ → Type 0 where
+  fault : {what : Fault} {at : ℕ} → FirstFault text what at → Faulty text (Lex (refusal_of what at)) at
 
-lex_once : (text : List ℕ) (r s : CompileRefusal) (p q : ℕ) → LexRefuses text r p → LexRefuses text s q → (r ≡ s) × (p ≡ q)
-lex_once text _ _ _ _ (fault {what} {at} within first) (fault {what = other} {at = there} more second) =
+fault_once : (text : List ℕ) (r s : CompileRefusal) (p q : ℕ) → Faulty text r p → Faulty text s q → (r ≡ s) × (p ≡ q)
+fault_once text _ _ _ _ (fault {what} {at} first) (fault {what = other} {at = there} second) =
     let same = (read_one_way text).one_fault what other at there first second in
     (λ i. Lex (refusal_of (same.0 i) (same.1 i)), same.1)
-lex_once text _ _ _ _ (fault within first) (long more) = absurd (omega (arith, within, more))
-lex_once text _ _ _ _ (long more) (fault within first) = absurd (omega (arith, within, more))
-lex_once text _ _ _ _ (long more) (long also) = (refl, refl)
 
-lex_never : (text : List ℕ) (done : Unit {0}) (r : CompileRefusal) (p : ℕ) → HasSome text done → LexRefuses text r p → ⊥
-lex_never text done _ _ has (fault {what} {at} within first) = (read_one_way text).never_both (all_seen has.0) what at has.1.are first
-lex_never text done _ _ has (long more) = omega (arith, more, has.1.within)
+fault_never : (text : List ℕ) (done : Unit {0}) (r : CompileRefusal) (p : ℕ) → HasSome text done → Faulty text r p → ⊥
+fault_never text done _ _ has (fault {what} {at} first) = (read_one_way text).never_both (all_seen has.0) what at has.1.are first
 
-lexing : (text : List ℕ) → OneWay (HasSome text) (LexRefuses text)
-lexing text = record { gives_one = λ b c x y. refl; refuses_one = lex_once text; never_both = lex_never text }
+lexing : (text : List ℕ) → OneWay (HasSome text) (Faulty text)
+lexing text = record { gives_one = λ b c x y. refl; refuses_one = fault_once text; never_both = fault_never text }
 
--- the tokens spell a program, or the parser refuses them
+-- no token is the first that cannot be right, or one is
+record Right (text : List ℕ) (done : Unit {0}) : Type 0 where
+  none : (tokens : List Token) (place : ℕ) → HasTokens text tokens → FirstUnexpected limit tokens place → ⊥
+
+data Wrong (text : List ℕ) : CompileRefusal → ℕ → Type 0 where
+  wrong : {tokens : List Token} {place : ℕ} → HasTokens text tokens → FirstUnexpected limit tokens place →
+      Wrong text (Parse (Unexpected place)) (byte_at text tokens place)
+
+wrong_once : (text : List ℕ) (r s : CompileRefusal) (p q : ℕ) → Wrong text r p → Wrong text s q → (r ≡ s) × (p ≡ q)
+wrong_once text _ _ _ _ (wrong {place} held f) (wrong {tokens = others} {place = later} other g) =
+    let same : place ≡ later = two_unexpected held other f g in
+    (ap (λ p. Parse (Unexpected p)) same, byte_same place held other ∙ ap (byte_at text others) same)
+
+wrong_never : (text : List ℕ) (done : Unit {0}) (r : CompileRefusal) (p : ℕ) → Right text done → Wrong text r p → ⊥
+wrong_never text done _ _ right (wrong {tokens} {place} held f) = right.none tokens place held f
+
+expecting : (text : List ℕ) → OneWay (Right text) (Wrong text)
+expecting text = record { gives_one = λ b c x y. refl; refuses_one = wrong_once text; never_both = wrong_never text }
+
+-- the tokens spell a program, or one is the first that is too deep
 record Spelled (text : List ℕ) (program : Program) : Type 0 where
   tokens : List Token
   held : HasTokens text tokens
   spells : SpellsWithin limit tokens program
 
-data ParseRefuses (text : List ℕ) : CompileRefusal → ℕ → Type 0 where
-  wrong : {tokens : List Token} {place : ℕ} → HasTokens text tokens → FirstUnexpected limit tokens place →
-      ParseRefuses text (Parse (Unexpected place)) (byte_at text tokens place)
+data Deep (text : List ℕ) : CompileRefusal → ℕ → Type 0 where
   deep : {tokens : List Token} {place : ℕ} → HasTokens text tokens → FirstTooDeep limit tokens place →
-      ParseRefuses text (Parse (TooDeep place)) (byte_at text tokens place)
+      Deep text (Parse (TooDeep place)) (byte_at text tokens place)
 
 -- the program of other tokens of the text
 again : {text : List ℕ} {program : Program} {tokens : List Token} (s : Spelled text program) → HasTokens text tokens →
@@ -92,22 +113,24 @@ one_program : (text : List ℕ) (program other : Program) → Spelled text progr
 one_program text program other x y =
     (spells_at_most_one x.tokens program other x.spells.depth y.spells.depth x.spells.spells (again y x.held)).0
 
-parse_once : (text : List ℕ) (r s : CompileRefusal) (p q : ℕ) → ParseRefuses text r p → ParseRefuses text s q → (r ≡ s) × (p ≡ q)
-parse_once text _ _ _ _ (wrong {place} held f) (wrong {tokens = others} {place = later} other g) =
-    let same : place ≡ later = two_unexpected held other f g in
-    (ap (λ p. Parse (Unexpected p)) same, byte_same place held other ∙ ap (byte_at text others) same)
-parse_once text _ _ _ _ (wrong held f) (deep other g) = absurd (not_both held other f g)
-parse_once text _ _ _ _ (deep held f) (wrong other g) = absurd (not_both other held g f)
-parse_once text _ _ _ _ (deep {place} held f) (deep {tokens = others} {place = later} other g) =
+deep_once : (text : List ℕ) (r s : CompileRefusal) (p q : ℕ) → Deep text r p → Deep text s q → (r ≡ s) × (p ≡ q)
+deep_once text _ _ _ _ (deep {place} held f) (deep {tokens = others} {place = later} other g) =
     let same : place ≡ later = two_too_deep held other f g in
     (ap (λ p. Parse (TooDeep p)) same, byte_same place held other ∙ ap (byte_at text others) same)
 
-parse_never : (text : List ℕ) (program : Program) (r : CompileRefusal) (p : ℕ) → Spelled text program → ParseRefuses text r p → ⊥
-parse_never text program _ _ s (wrong held f) = unexpected_spells_none f program s.spells.depth (again s held)
-parse_never text program _ _ s (deep held f) = not_too_deep f program s.spells.depth (again s held) s.spells.within
+deep_never : (text : List ℕ) (program : Program) (r : CompileRefusal) (p : ℕ) → Spelled text program → Deep text r p → ⊥
+deep_never text program _ _ s (deep held f) = not_too_deep f program s.spells.depth (again s held) s.spells.within
 
-parsing : (text : List ℕ) → OneWay (Spelled text) (ParseRefuses text)
-parsing text = record { gives_one = one_program text; refuses_one = parse_once text; never_both = parse_never text }
+spelling : (text : List ℕ) → OneWay (Spelled text) (Deep text)
+spelling text = record { gives_one = one_program text; refuses_one = deep_once text; never_both = deep_never text }
+
+-- tokens that spell a program, and those of which one is too deep, have none that cannot be right
+right_spelled : {text : List ℕ} {program : Program} → Spelled text program → Right text tt
+right_spelled {program = program} s =
+    record { none = λ tokens place held f. unexpected_spells_none f program s.spells.depth (again s held) }
+
+right_deep : {text : List ℕ} {us : List Token} {later : ℕ} → HasTokens text us → FirstTooDeep limit us later → Right text tt
+right_deep held g = record { none = λ tokens place other f. not_both other held f g }
 
 -- the program returns a constant, or is of no form that is taken
 data FormRefuses (program : Program) : CompileRefusal → ℕ → Type 0 where
@@ -122,41 +145,63 @@ form_never program n _ _ is (other_form none) = none n is
 forming : (program : Program) → OneWay (IsConstantProgram program) (FormRefuses program)
 forming program = record { gives_one = one_constant program; refuses_one = form_once program; never_both = form_never program }
 
--- ---- all three in turn
+-- ---- all in turn, from the last one up
 
-parsed : (text : List ℕ) → OneWay (GoesOn (HasSome text) (λ _. Spelled text))
-    (Stops (HasSome text) (LexRefuses text) (λ _. ParseRefuses text))
-parsed text = in_turn (HasSome text) (LexRefuses text) (λ _. Spelled text) (λ _. ParseRefuses text) (lexing text) (λ _. parsing text)
+abbrev ProgramGives : List ℕ → ℕ → Type 0
+ProgramGives text = GoesOn (Spelled text) IsConstantProgram
+
+abbrev ProgramStops : List ℕ → CompileRefusal → ℕ → Type 0
+ProgramStops text = Stops (Spelled text) (Deep text) FormRefuses
+
+from_program : (text : List ℕ) → OneWay (ProgramGives text) (ProgramStops text)
+from_program text = in_turn (Spelled text) (Deep text) IsConstantProgram FormRefuses (spelling text) forming
+
+abbrev RightGives : List ℕ → ℕ → Type 0
+RightGives text = GoesOn (Right text) (λ _. ProgramGives text)
+
+abbrev RightStops : List ℕ → CompileRefusal → ℕ → Type 0
+RightStops text = Stops (Right text) (Wrong text) (λ _. ProgramStops text)
+
+from_right : (text : List ℕ) → OneWay (RightGives text) (RightStops text)
+from_right text =
+    in_turn (Right text) (Wrong text) (λ _. ProgramGives text) (λ _. ProgramStops text) (expecting text) (λ _. from_program text)
+
+abbrev TokensGive : List ℕ → ℕ → Type 0
+TokensGive text = GoesOn (HasSome text) (λ _. RightGives text)
+
+abbrev TokensStop : List ℕ → CompileRefusal → ℕ → Type 0
+TokensStop text = Stops (HasSome text) (Faulty text) (λ _. RightStops text)
+
+from_tokens : (text : List ℕ) → OneWay (TokensGive text) (TokensStop text)
+from_tokens text = in_turn (HasSome text) (Faulty text) (λ _. RightGives text) (λ _. RightStops text) (lexing text) (λ _. from_right text)
 
 abbrev Returns : List ℕ → ℕ → Type 0
-Returns text = GoesOn (GoesOn (HasSome text) (λ _. Spelled text)) IsConstantProgram
+Returns text = GoesOn (Short text) (λ _. TokensGive text)
 
 abbrev Refused : List ℕ → CompileRefusal → ℕ → Type 0
-Refused text =
-    Stops (GoesOn (HasSome text) (λ _. Spelled text)) (Stops (HasSome text) (LexRefuses text) (λ _. ParseRefuses text)) FormRefuses
+Refused text = Stops (Short text) (TooLong text) (λ _. TokensStop text)
 
 compiling : (text : List ℕ) → OneWay (Returns text) (Refused text)
-compiling text =
-    in_turn (GoesOn (HasSome text) (λ _. Spelled text)) (Stops (HasSome text) (LexRefuses text)
-    (λ _. ParseRefuses text)) IsConstantProgram FormRefuses (parsed text) forming
+compiling text = in_turn (Short text) (TooLong text) (λ _. TokensGive text) (λ _. TokensStop text) (sizing text) (λ _. from_tokens text)
 
 -- the refusal of a text is one of a stage
 staged : {text : List ℕ} {refusal : CompileRefusal} {byte : ℕ} → Refuses text refusal byte → Refused text refusal byte
-staged (faulty within first) = at_first (at_first (fault within first))
-staged (too_long more) = at_first (at_first (long more))
-staged (unexpected {tokens} held f) = at_first (behind tt (tokens, held) (wrong held f))
-staged (too_deep {tokens} held f) = at_first (behind tt (tokens, held) (deep held f))
-staged (not_yet {tokens} {program} held spells none) =
-    behind program (record { between = tt; first = (tokens, held); second = record { tokens = tokens; held = held; spells = spells } })
-    (other_form none)
+staged (too_long more) = at_first (record { bad = more; reason_is = refl; place_is = refl })
+staged (faulty within first) = behind tt within (at_first (fault first))
+staged (unexpected {tokens} held f) = behind tt held.within (behind tt (tokens, held) (at_first (wrong held f)))
+staged (too_deep {tokens} held f) =
+    behind tt held.within (behind tt (tokens, held) (behind tt (right_deep held f) (at_first (deep held f))))
+staged {text} (not_yet {tokens} {program} held spells none) =
+    let s : Spelled text program = record { tokens = tokens; held = held; spells = spells } in
+    behind tt held.within (behind tt (tokens, held) (behind tt (right_spelled s) (behind program s (other_form none))))
 
 -- and so is the constant that it returns
 returned : {text : List ℕ} {n : ℕ} → ReturnsConstant text n → Returns text n
-returned r = record {
-  between = r.program;
-  first = record { between = tt; first = (r.tokens, r.held); second = record { tokens = r.tokens; held = r.held; spells = r.spells } };
-  second = r.constant;
-}
+returned {text} {n} r =
+    let s : Spelled text r.program = record { tokens = r.tokens; held = r.held; spells = r.spells } in
+    let program : ProgramGives text n = record { between = r.program; first = s; second = r.constant } in
+    let right : RightGives text n = record { between = tt; first = right_spelled s; second = program } in
+    record { between = tt; first = r.held.within; second = record { between = tt; first = (r.tokens, r.held); second = right } }
 
 -- ---- the two laws
 

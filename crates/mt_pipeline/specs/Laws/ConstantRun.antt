@@ -193,7 +193,7 @@ constant_starts n = record { relocs = refl; descriptors = refl; rodata = refl; f
 pub constant_exits : (n : ℕ) → n ≤ 2147483647 → ExitsAlways (constant_image n) (n % 256)
 constant_exits n within = record {
   starts = λ choices stack steps outside. (_, machine_of (constant_image n) choices stack steps outside (constant_starts n));
-  exits = λ choices stack steps outside end output left m.
+  exits = λ choices stack steps outside e m.
       let run = constant_ends n steps choices stack within in
       record {
         late = λ enough. m.ends ∙ run.ends outside ∙ run.late enough;

@@ -28,7 +28,8 @@ returns-in_err-read-clause-answers c =
     answers_on _ c.from_residual-in_err-read.ensures.1
     (answers_by (head_is c.args.depth c.args.cursor.now)
     (answers_next _ c.in_ok-head.ensures.answers
-    (answers_by (body_taken c.args.depth c.in_ok-head.head c.plain_head.new.cursor (sym c.if-not-sees.ensures) c.if-is_none.ensures) (answers_stop _ c.in_err-read.ensures.answers))))
+    (answers_by (body_taken c.args.depth c.in_ok-head.head c.plain_head.new.cursor (sym c.if-not-sees.ensures) c.if-is_none.ensures)
+    (answers_stop _ c.in_err-read.ensures.answers))))
 
 pub returns-clause-answers : goal.returns-clause-answers
 returns-clause-answers c =

@@ -167,7 +167,8 @@ begins_at base t true e y f h =
     let b = name_begins_at t e in record {
       value = named_of (t.start, (plain base, b.value));
       more = b.more;
-      whole = named_into base t.start (plain base, b.value) (t ∷ b.more) (inr (record { source = b.value; is = refl; word = b.whole })) refl;
+      whole = named_into base t.start (plain base, b.value) (t ∷ b.more) (inr (record { source = b.value; is = refl; word = b.whole }))
+          refl;
     }
 begins_at base t false e true f h = star_at base t f
 begins_at base t false e false f h = cc

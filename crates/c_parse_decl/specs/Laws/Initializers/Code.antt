@@ -52,7 +52,8 @@ turn_comma d a ts c = ap (λ x. turn_by (under d) x a ts) c
 abbrev pub further_turn : ℕ → Loop Token ListRead
 further_turn d = record { test = list_goes_on; room = λ _. true; step = turn (under d) }
 
-pub items_is : (d : ℕ) (ts : List Token) → 0 < d → items (under d) ts ≡ and_then (makes one_item (initial (d - 1)) ts) (left (further_turn d))
+pub items_is : (d : ℕ) (ts : List Token) → 0 < d → items (under d) ts ≡
+    and_then (makes one_item (initial (d - 1)) ts) (left (further_turn d))
 unfolding items left
 items_is d ts h = ap (λ p. and_then (makes one_item p ts) (repeats_by list_goes_on (λ _. true) (turn (under d)))) (under_is d h)
 

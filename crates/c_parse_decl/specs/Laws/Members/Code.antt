@@ -43,7 +43,8 @@ module _ (d : ℕ) (of : CType) where
   unfolding further
   further_is a ts e = marked_makes mark.Comma (declarator d of) (extended a) ts e
 
-  pub further_read : (a : MemberList) (v : Declared) (ts us : List Token) → sees comma ts ≡ true → declarator d of (rest_of ts) ≡ Read v us →
+  pub further_read : (a : MemberList) (v : Declared) (ts us : List Token) → sees comma ts ≡ true → declarator d of (rest_of ts) ≡
+      Read v us →
       further d of a ts ≡ Read (extended a v) us
   further_read a v ts us e r = further_is a ts e ∙ ap (λ o. and_then o (λ v us. Read (extended a v) us)) r
 

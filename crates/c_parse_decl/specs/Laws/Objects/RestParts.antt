@@ -45,7 +45,8 @@ bracketed_declarator : (base : CType) (a b : Declared) (u x : List Token) → St
     DeclaratorWord base b (u ++ x)
 bracketed_declarator base a b u x (starred_name {n = n} {ty = ty} {name = name} {u = v} t s isn)
     (brackets_behind {h = h} {lengths = lengths} m some) = record {
-      declarator = subst (λ w. Declarator base h name (arrays ty lengths) w) (sym (append_assoc v (t ∷ []) x)) (spells.declarator t s isn m);
+      declarator = subst (λ w. Declarator base h name (arrays ty lengths) w) (sym (append_assoc v (t ∷ []) x))
+          (spells.declarator t s isn m);
       span = bracketed_span base a b u x (starred_name t s isn) (brackets_behind m some);
     }
 

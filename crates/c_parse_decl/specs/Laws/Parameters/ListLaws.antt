@@ -112,7 +112,8 @@ list_into l w (once m) = subst (λ l. ListWord l w) m.is (record {
   list = grammar.one_parameter m.word;
   names = one_named (has_name m.source.name);
 })
-list_into l w (again {a = b} {w = x} {u = u} c m) = subst (λ l. ListWord l (x ++ u)) m.is (comma_into b m.source x u (list_into b x c) m.word)
+list_into l w (again {a = b} {w = x} {u = u} c m) = subst (λ l. ListWord l (x ++ u)) m.is
+    (comma_into b m.source x u (list_into b x c) m.word)
 
 abbrev pub listed_of : List Decl → ℕ → ListRead
 listed_of ds h = record { decls = ds; height = suc h; all_named = all_named ds }
@@ -137,7 +138,11 @@ list_back h ds w (grammar.more_parameter {h = i} {k = k} {ds = before} {d = d} {
     same : more_parameters (listed_of before i) (declared_of k d) ≡ listed_of (before ++ d ∷ []) (max i k)
     same =
         let high : max (suc i) (suc k) ≡ suc (max i k) = omega arith in
-        ap (λ d. record { decls = before ++ d ∷ []; height = max (suc i) (suc k); all_named = if all_named before then has_name d.name else false })
+        ap (λ d. record {
+          decls = before ++ d ∷ [];
+          height = max (suc i) (suc k);
+          all_named = if all_named before then has_name d.name else false;
+        })
         (parameter_decl k d v m)
         ∙ ap (λ n. record { decls = before ++ d ∷ []; height = n; all_named = if all_named before then has_name d.name else false }) high
         ∙ ap (λ b. record { decls = before ++ d ∷ []; height = suc (max i k); all_named = b }) (sym (named_append before d))

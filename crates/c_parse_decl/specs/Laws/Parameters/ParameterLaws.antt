@@ -193,7 +193,8 @@ unbracketed_into : (a : Declared) (w : List Token) → Unbracketed a w → Param
 unfolding arrays
 unbracketed_into a w m =
     subst (λ s. Parameter a.height (parameter_of a.name a.ty s) w) (sym m.span)
-    (subst (λ w. Parameter a.height (parameter_of a.name a.ty (span_of w)) w) (append-nil w) (brackets_into a a.height [] w [] m no_bracket))
+    (subst (λ w. Parameter a.height (parameter_of a.name a.ty (span_of w)) w) (append-nil w)
+    (brackets_into a a.height [] w [] m no_bracket))
 
 bracketed_into : (a b : Declared) (w u : List Token) → Unbracketed a w → StartsIn begins_type w → StartsIn bracket u →
     BracketedWord a b u → ParameterWord b (w ++ u)
@@ -278,5 +279,9 @@ parameter_begins_at t e =
       value = a;
       more = b.more;
       whole = parameter_into a ((t ∷ []) ++ b.more)
-          (alone (alone (record { source = ((span_of ((t ∷ []) ++ b.more)).start, b.value); is = refl; word = record { word = b.whole; start = refl } })));
+          (alone (alone (record {
+            source = ((span_of ((t ∷ []) ++ b.more)).start, b.value);
+            is = refl;
+            word = record { word = b.whole; start = refl };
+          })));
     }

@@ -95,7 +95,8 @@ closed_back : (d : ℕ) (l : ListRead) (p : Span) (u : List Token) → ListWord 
 closed_back d l p u m true e low = omega (arith, m.above, void_levels m.list (void_found l.decls e))
 closed_back d l p u m false e low = low
 
-listed_low : (d : ℕ) (c : ListRead × Span) (w : List Token) → Then ListWord (λ _. Spot (punctuator mark.RightParen)) c w → Low d (closed c) →
+listed_low : (d : ℕ) (c : ListRead × Span) (w : List Token) → Then ListWord (λ _. Spot (punctuator mark.RightParen)) c w →
+    Low d (closed c) →
     LowList d c.0 × Always c.1
 listed_low d c w (join {a = l} {b = p} {u = u} m s) low = (closed_back d l p u m (is_void l.decls) refl low, tt)
 
@@ -136,7 +137,8 @@ inside_good : (d : ℕ) → Good (inside d) InsideWord (Low d) inside_first noth
 unfolding inside
 inside_good d = either_good begins_type true inside_first (λ r. listed_good d) (nothing_good d)
     listed_begins (λ r w m fits. refl) (listed_good 0).starts (λ x e. is_at type_word (punctuator mark.RightParen) x e ∙ close_no_type)
-    (λ x e. or_left (begins_type x) (is (punctuator mark.RightParen) x) e) (λ x e. or_right (begins_type x) (is (punctuator mark.RightParen) x) e)
+    (λ x e. or_left (begins_type x) (is (punctuator mark.RightParen) x) e)
+    (λ x e. or_right (begins_type x) (is (punctuator mark.RightParen) x) e)
 
 inside_begins : Begins InsideWord []
 inside_begins = let r = punct_begins mark.RightParen in record {

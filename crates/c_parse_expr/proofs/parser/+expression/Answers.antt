@@ -169,7 +169,8 @@ arguments-loop-alloc-preserved t c =
     record {
       reads = c.loop-alloc.invariant.reads
           ∙ loop_read (further_argument c.args.depth) c.loop-alloc.read c.loop-alloc.cursor (good_further c.args.depth c.requires)
-          (record { fits = omega (arith, c.loop-alloc.invariant.low); has_room = refl }) (more_arguments c.loop-alloc.read c.in_ok-next.next)
+          (record { fits = omega (arith, c.loop-alloc.invariant.low); has_room = refl })
+          (more_arguments c.loop-alloc.read c.in_ok-next.next)
           c.assignment-in-loop-alloc.new.cursor (further_read c.args.depth c.loop-alloc.read c.in_ok-next.next c.loop-alloc.cursor
           c.assignment-in-loop-alloc.new.cursor c.requires seen read.is) seen
           ∙ ap (λ a. left (further_argument c.args.depth) a c.assignment-in-loop-alloc.new.cursor) (sym c.in_ok-read-2.ensures);

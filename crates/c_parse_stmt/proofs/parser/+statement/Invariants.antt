@@ -40,7 +40,8 @@ decreases-statement l = 64 * l.depth + 4
 -- the parts of the block that are left are read from here on
 abbrev pub invariant-items-loop-alloc : goal.invariant-items-loop-alloc
 invariant-items-loop-alloc l = record {
-  reads : items l.fn.depth (under l.fn.depth) (placed l.fn.in_loop) l.fn.cursor ≡ left (further_item l.depth (placed l.in_loop)) l.read l.cursor;
+  reads : items l.fn.depth (under l.fn.depth) (placed l.fn.in_loop) l.fn.cursor ≡
+      left (further_item l.depth (placed l.in_loop)) l.read l.cursor;
   low : l.read.height ≤ l.depth;
 }
 

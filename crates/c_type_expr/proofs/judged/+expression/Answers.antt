@@ -2,7 +2,9 @@ use Rattle.std.proofs.Common.{◌∙◌, ap, sym, Some, None, arith}
 use Rattle.c_ast.specs.declared.expr.CType.TheVariants as ctype
 use Rattle.c_ast.specs.declared.expr.Node.TheVariants as node
 use Rattle.c_type_expr.specs.Sorted.{listed_items}
-use Rattle.c_type_expr.proofs.ArmLaws.{node_ok, node_at, type_ok, arm_unary, arm_assign, arm_index, arm_member, arm_arrow, arm_step, arm_cond, arm_binary, arm_cast, arm_call, arm_not_called, arm_whole, arm_pointer, arm_open, arm_array, arm_next_argument, arm_arguments}
+use Rattle.c_type_expr.proofs.ArmLaws.{node_ok, node_at, type_ok, arm_unary, arm_assign, arm_index, arm_member, arm_arrow, arm_step}
+use Rattle.c_type_expr.proofs.ArmLaws.{arm_cond, arm_binary, arm_cast, arm_call, arm_not_called, arm_whole, arm_pointer, arm_open}
+use Rattle.c_type_expr.proofs.ArmLaws.{arm_array, arm_next_argument, arm_arguments}
 use Rattle.c_type_expr.proofs.judged.+expression.Goals as goal
 
 pub node-returns-in_ok-e-in-Unary : goal.node-returns-in_ok-e-in-Unary
@@ -37,14 +39,18 @@ written-returns-in_ok-t-in-Pointer t c =
 
 pub node-returns-in_ok-b-in-Binary : goal.node-returns-in_ok-b-in-Binary
 node-returns-in_ok-b-in-Binary t c =
-    node_ok c.args.span _ (node.Binary c.in-Binary.operator c.in-Binary.a c.in-Binary.b) _ _ c.binary_on.result c.in-Binary.is c.binary_on.ensures (λ k next.
-    arm_binary c.args.span c.in-Binary.operator c.in-Binary.a c.in-Binary.b _ _ _ _ c.in_ok-a-in-Binary.a c.in_ok-b-in-Binary.b k c.in_ok-a-in-Binary.ensures
+    node_ok c.args.span _ (node.Binary c.in-Binary.operator c.in-Binary.a c.in-Binary.b) _ _ c.binary_on.result c.in-Binary.is
+    c.binary_on.ensures (λ k next.
+    arm_binary c.args.span c.in-Binary.operator c.in-Binary.a c.in-Binary.b _ _ _ _ c.in_ok-a-in-Binary.a c.in_ok-b-in-Binary.b k
+    c.in_ok-a-in-Binary.ensures
     c.in_ok-b-in-Binary.ensures next)
 
 pub node-returns-in_ok-b-in-Assign : goal.node-returns-in_ok-b-in-Assign
 node-returns-in_ok-b-in-Assign t c =
-    node_ok c.args.span _ (node.Assign c.in-Assign.operator c.in-Assign.a c.in-Assign.b) _ _ c.assign_on.result c.in-Assign.is c.assign_on.ensures (λ k next.
-    arm_assign c.args.span c.in-Assign.operator c.in-Assign.a c.in-Assign.b _ _ _ _ c.in_ok-a-in-Assign.a c.in_ok-b-in-Assign.b k c.in_ok-a-in-Assign.ensures
+    node_ok c.args.span _ (node.Assign c.in-Assign.operator c.in-Assign.a c.in-Assign.b) _ _ c.assign_on.result c.in-Assign.is
+    c.assign_on.ensures (λ k next.
+    arm_assign c.args.span c.in-Assign.operator c.in-Assign.a c.in-Assign.b _ _ _ _ c.in_ok-a-in-Assign.a c.in_ok-b-in-Assign.b k
+    c.in_ok-a-in-Assign.ensures
     c.in_ok-b-in-Assign.ensures next)
 
 pub node-returns-in_ok-i-in-Index : goal.node-returns-in_ok-i-in-Index

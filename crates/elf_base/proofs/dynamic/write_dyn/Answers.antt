@@ -11,6 +11,9 @@ use Rattle.elf_base.proofs.dynamic.write_dyn.Goals as goal
 pub returns : goal.returns
 returns c =
     let fits : FitsSigned w64 c.args.value.now.tag = search rules in
-    let tag : field_bytes (number 8 c.cast_unsigned.result) ≡ field_bytes (signed c.args.value.now.tag) = ap (λ n. field_bytes (number 8 n)) (c.cast_unsigned.ensures ∙ ap (cast_unsigned w64) (to_z-of_z w64 c.args.value.now.tag fits)) ∙ sym (field_bytes-signed c.args.value.now.tag) in
-    let whole : c.put_u64-2.new.out ≡ put_fields 0 (dyn_fields c.args.value.now) c.args.out.now = rw (c.put_u64-2.ensures, c.put_u64.ensures, tag) refl in
+    let tag : field_bytes (number 8 c.cast_unsigned.result) ≡ field_bytes (signed c.args.value.now.tag) =
+    ap (λ n. field_bytes (number 8 n)) (c.cast_unsigned.ensures ∙ ap (cast_unsigned w64) (to_z-of_z w64 c.args.value.now.tag fits))
+    ∙ sym (field_bytes-signed c.args.value.now.tag) in
+    let whole : c.put_u64-2.new.out ≡ put_fields 0 (dyn_fields c.args.value.now) c.args.out.now =
+    rw (c.put_u64-2.ensures, c.put_u64.ensures, tag) refl in
     put_fields-whole (dyn_fields c.args.value.now) c.args.out.now c.put_u64-2.new.out tt c.requires whole

@@ -6,5 +6,16 @@ use Rattle.elf_base.proofs.section.write_shdr.Goals as goal
 pub returns : goal.returns
 returns c =
     let whole : c.put_u64-6.new.out ≡ put_fields 0 (shdr_fields c.args.value.now) c.args.out.now =
-    rw (c.put_u64-6.ensures, c.put_u64-5.ensures, c.put_u32-4.ensures, c.put_u32-3.ensures, c.put_u64-4.ensures, c.put_u64-3.ensures, c.put_u64-2.ensures, c.put_u64.ensures, c.put_u32-2.ensures, c.put_u32.ensures) refl in
+    rw (
+      c.put_u64-6.ensures,
+      c.put_u64-5.ensures,
+      c.put_u32-4.ensures,
+      c.put_u32-3.ensures,
+      c.put_u64-4.ensures,
+      c.put_u64-3.ensures,
+      c.put_u64-2.ensures,
+      c.put_u64.ensures,
+      c.put_u32-2.ensures,
+      c.put_u32.ensures,
+    ) refl in
     put_fields-whole (shdr_fields c.args.value.now) c.args.out.now c.put_u64-6.new.out tt c.requires whole

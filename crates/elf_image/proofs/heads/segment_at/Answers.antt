@@ -13,4 +13,5 @@ same p q e = cc
 
 pub returns : goal.returns
 returns c = same c.in-Ok.segment (phdr_at c.args.at c.args.bytes.now) (sym c.in-Ok.is
-    ∙ reads_phdr c.args.bytes.now c.args.at c.read_phdr.result (λ i. omega (arith, c.type_inv.bytes i)) (omega arith) c.read_phdr.ensures.only)
+    ∙ reads_phdr c.args.bytes.now c.args.at c.read_phdr.result (λ i. omega (arith, c.type_inv.bytes i))
+    (omega arith) c.read_phdr.ensures.only)

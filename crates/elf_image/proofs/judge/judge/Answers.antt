@@ -1,6 +1,7 @@
 use Rattle.std.proofs.Common.{◌≡◌, ap, sym, ◌∙◌}
+use Rattle.elf_base.specs.Conditions.{first_fault}
 use Rattle.elf_image.specs.declared.heads.Heads.{Heads}
-use Rattle.elf_image.specs.Faults.{first_fault, after_opening}
+use Rattle.elf_image.specs.Faults.{after_opening}
 use Rattle.elf_image.proofs.Judging.{fault_opening, fault_behind}
 use Rattle.elf_image.proofs.judge.judge.Goals as goal
 

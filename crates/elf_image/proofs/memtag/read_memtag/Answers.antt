@@ -38,7 +38,8 @@ refused c =
 
 found : (c : goal.After-from_residual-in_err-descriptors) → IsFound c.args.bytes.now c.from_residual-in_err-descriptors.result
 found c =
-    found_by c.args.bytes.now c.from_residual-in_err-descriptors.result c.in_err-descriptors.field-0.0 c.from_residual-in_err-descriptors.ensures.1
+    found_by c.args.bytes.now c.from_residual-in_err-descriptors.result c.in_err-descriptors.field-0.0
+    c.from_residual-in_err-descriptors.ensures.1
 
 pub returns-in_err-descriptors-clause-only : goal.returns-in_err-descriptors-clause-only
 returns-in_err-descriptors-clause-only c =

@@ -15,4 +15,16 @@ unfolding entries_bytes
 returns c =
     let o : InOrder (image_of c.args.parts.now) = in_order (image_of c.args.parts.now) in
     let relocs : c.descriptors_place.result - 320 ≡ 24 * length c.args.parts.now.relocs.items = omega arith in
-    rw (c.in_ok-push_entry-10.ensures, c.in_ok-push_entry-9.ensures, c.in_ok-push_entry-8.ensures, c.in_ok-push_entry-7.ensures, c.in_ok-push_entry-6.ensures, c.in_ok-push_entry-5.ensures, c.in_ok-push_entry-4.ensures, c.in_ok-push_entry-3.ensures, c.in_ok-push_entry-2.ensures, c.in_ok-push_entry.ensures, relocs) (simp (append_assoc, append-nil))
+    rw (
+      c.in_ok-push_entry-10.ensures,
+      c.in_ok-push_entry-9.ensures,
+      c.in_ok-push_entry-8.ensures,
+      c.in_ok-push_entry-7.ensures,
+      c.in_ok-push_entry-6.ensures,
+      c.in_ok-push_entry-5.ensures,
+      c.in_ok-push_entry-4.ensures,
+      c.in_ok-push_entry-3.ensures,
+      c.in_ok-push_entry-2.ensures,
+      c.in_ok-push_entry.ensures,
+      relocs,
+    ) (simp (append_assoc, append-nil))

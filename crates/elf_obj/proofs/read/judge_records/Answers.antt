@@ -5,10 +5,10 @@ use Rattle.elf_obj.specs.declared.parts.Home.TheVariants.{Init, Zero}
 use Rattle.elf_obj.specs.Apart.{IsSound}
 use Rattle.elf_obj.proofs.Sound.{init-sound, zero-sound}
 use Rattle.std.proofs.lemmas.Result.{err_from_is_err_and}
+use Rattle.elf_base.specs.Laws.Conditions.{first_passes, first_stops}
 use Rattle.elf_obj.specs.Object.{Object}
 use Rattle.elf_obj.specs.Claimed.{claimed}
 use Rattle.elf_obj.specs.ObjectFault.{table_conditions, code_conditions, data_conditions, tagged_conditions}
-use Rattle.elf_obj.proofs.Faults.{first-none, first-some}
 use Rattle.elf_obj.proofs.read.judge_records.Goals as goal
 
 pub returns-in_err-judge_table : goal.returns-in_err-judge_table
@@ -16,40 +16,48 @@ returns-in_err-judge_table c =
     let file : List ℕ = c.args.file.now in
     let p : Object = claimed file in
     let e = err_from_is_err_and c.from_residual.result c.from_residual.ensures.1 in
-    rw (e.1, e.2) (first-some (table_conditions file p ++ code_conditions file p ++ data_conditions file p) (tagged_conditions file p) _ (first-some (table_conditions file p ++ code_conditions file p) (data_conditions file p) _
-    (first-some (table_conditions file p) (code_conditions file p) _ c.in_err-judge_table.ensures)))
+    rw (e.1, e.2) (first_stops (table_conditions file p ++ code_conditions file p ++ data_conditions file p) (tagged_conditions file p) _
+    (first_stops (table_conditions file p ++ code_conditions file p) (data_conditions file p) _
+    (first_stops (table_conditions file p) (code_conditions file p) _ c.in_err-judge_table.ensures)))
 
 pub returns-in_err-judge_code : goal.returns-in_err-judge_code
 returns-in_err-judge_code c =
     let file : List ℕ = c.args.file.now in
     let p : Object = claimed file in
     let e = err_from_is_err_and c.from_residual-in_err-judge_code.result c.from_residual-in_err-judge_code.ensures.1 in
-    rw (e.1, e.2) (first-some (table_conditions file p ++ code_conditions file p ++ data_conditions file p) (tagged_conditions file p) _ (first-some (table_conditions file p ++ code_conditions file p) (data_conditions file p) _
-    (first-none (table_conditions file p) (code_conditions file p) c.in_ok-judge_table.ensures ∙ c.in_err-judge_code.ensures)))
+    rw (e.1, e.2) (first_stops (table_conditions file p ++ code_conditions file p ++ data_conditions file p) (tagged_conditions file p) _
+    (first_stops (table_conditions file p ++ code_conditions file p) (data_conditions file p) _
+    (first_passes (table_conditions file p) (code_conditions file p) c.in_ok-judge_table.ensures ∙ c.in_err-judge_code.ensures)))
 
 pub returns-in_err-judge_data : goal.returns-in_err-judge_data
 returns-in_err-judge_data c =
     let file : List ℕ = c.args.file.now in
     let p : Object = claimed file in
     let e = err_from_is_err_and c.from_residual-in_err-judge_data.result c.from_residual-in_err-judge_data.ensures.1 in
-    rw (e.1, e.2) (first-some (table_conditions file p ++ code_conditions file p ++ data_conditions file p) (tagged_conditions file p) _
-    (first-none (table_conditions file p ++ code_conditions file p) (data_conditions file p) (first-none (table_conditions file p) (code_conditions file p) c.in_ok-judge_table.ensures ∙ c.in_ok-judge_code.ensures) ∙ c.in_err-judge_data.ensures))
+    rw (e.1, e.2) (first_stops (table_conditions file p ++ code_conditions file p ++ data_conditions file p) (tagged_conditions file p) _
+    (first_passes (table_conditions file p ++ code_conditions file p) (data_conditions file p)
+    (first_passes (table_conditions file p) (code_conditions file p) c.in_ok-judge_table.ensures ∙ c.in_ok-judge_code.ensures)
+    ∙ c.in_err-judge_data.ensures))
 
 pub returns-in_err-judge_tagged : goal.returns-in_err-judge_tagged
 returns-in_err-judge_tagged c =
     let file : List ℕ = c.args.file.now in
     let p : Object = claimed file in
     let e = err_from_is_err_and c.from_residual-in_err-judge_tagged.result c.from_residual-in_err-judge_tagged.ensures.1 in
-    rw (e.1, e.2) (first-none (table_conditions file p ++ code_conditions file p ++ data_conditions file p) (tagged_conditions file p)
-    (first-none (table_conditions file p ++ code_conditions file p) (data_conditions file p) (first-none (table_conditions file p) (code_conditions file p) c.in_ok-judge_table.ensures ∙ c.in_ok-judge_code.ensures) ∙ c.in_ok-judge_data.ensures)
+    rw (e.1, e.2) (first_passes (table_conditions file p ++ code_conditions file p ++ data_conditions file p) (tagged_conditions file p)
+    (first_passes (table_conditions file p ++ code_conditions file p) (data_conditions file p)
+    (first_passes (table_conditions file p) (code_conditions file p) c.in_ok-judge_table.ensures ∙ c.in_ok-judge_code.ensures)
+    ∙ c.in_ok-judge_data.ensures)
     ∙ c.in_err-judge_tagged.ensures)
 
 pub returns : goal.returns
 returns c =
     let file : List ℕ = c.args.file.now in
     let p : Object = claimed file in
-    first-none (table_conditions file p ++ code_conditions file p ++ data_conditions file p) (tagged_conditions file p)
-    (first-none (table_conditions file p ++ code_conditions file p) (data_conditions file p) (first-none (table_conditions file p) (code_conditions file p) c.in_ok-judge_table.ensures ∙ c.in_ok-judge_code.ensures) ∙ c.in_ok-judge_data.ensures)
+    first_passes (table_conditions file p ++ code_conditions file p ++ data_conditions file p) (tagged_conditions file p)
+    (first_passes (table_conditions file p ++ code_conditions file p) (data_conditions file p)
+    (first_passes (table_conditions file p) (code_conditions file p) c.in_ok-judge_table.ensures ∙ c.in_ok-judge_code.ensures)
+    ∙ c.in_ok-judge_data.ensures)
     ∙ c.in_ok-judge_tagged.ensures
 
 pub judge_tagged-requires-clause-init : goal.judge_tagged-requires-clause-init

@@ -26,6 +26,8 @@ judge_tags-requires-clause-first_low c =
     let file : List ℕ = c.args.file.now in
     let short : length file < 2 ^ 63 = omega arith in
     let fit : ClaimsFit file = claims_fit file (λ i. omega (arith, c.type_inv.file i)) short c.requires.held in
-    let text : length c.args.parts.now.text_relocs.items ≡ length (claimed file).text_relocs = ap (λ (o : Object). length o.text_relocs) c.requires.parts in
-    let init : length c.args.parts.now.init_relocs.items ≡ length (claimed file).init_relocs = ap (λ (o : Object). length o.init_relocs) c.requires.parts in
+    let text : length c.args.parts.now.text_relocs.items ≡ length (claimed file).text_relocs =
+    ap (λ (o : Object). length o.text_relocs) c.requires.parts in
+    let init : length c.args.parts.now.init_relocs.items ≡ length (claimed file).init_relocs =
+    ap (λ (o : Object). length o.init_relocs) c.requires.parts in
     omega (arith, c.len.ensures, c.len-2.ensures, text, init, fit.text_relocs, fit.init_relocs, short)

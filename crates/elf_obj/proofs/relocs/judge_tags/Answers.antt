@@ -1,13 +1,14 @@
-use Rattle.std.proofs.Common.{◌≡◌, ℕ, ◌+◌, ◌*◌, ◌<◌, Bool, true, nat_eq, List, [], ◌∷◌, ◌++◌, length, take, drop, get_or, refl, sym, ap, ◌∙◌, arith}
+use Rattle.std.proofs.Common.{◌≡◌, ℕ, ◌+◌, ◌*◌, ◌<◌, Bool, true, nat_eq, List, [], ◌∷◌, ◌++◌, length, take, drop, get_or, refl, sym, ap}
+use Rattle.std.proofs.Common.{◌∙◌, arith}
 use Rattle.std.specs.Prelude.{◌&&◌, not, slice_get}
 use Rattle.std.proofs.lemmas.List.{take_more}
+use Rattle.elf_base.specs.Laws.Tests.{both}
+use Rattle.elf_base.specs.Conditions.{first_fault}
 use Rattle.elf_obj.specs.declared.parts.Symbol.{Symbol}
 use Rattle.elf_obj.specs.declared.parts.Home.TheVariants.{Init, Zero}
 use Rattle.elf_obj.specs.Rules.{tag_keeps}
 use Rattle.elf_obj.specs.Apart.{is_found_apart}
-use Rattle.elf_obj.specs.Conditions.{first_fault}
-use Rattle.elf_obj.specs.ObjectFault.{is_tag, tag_conditions}
-use Rattle.elf_obj.specs.Laws.Held.{both}
+use Rattle.elf_obj.specs.ObjectFault.{is_tag, tag_conditions, tag_spot}
 use Rattle.elf_obj.proofs.Steps.{left, numbered-at}
 use Rattle.elf_obj.proofs.Faults.{tag-holds}
 use Rattle.elf_obj.proofs.Sharing.{apart-step, apart-is, keeps-apart}
@@ -52,13 +53,17 @@ loop-index-preserved c =
     let there : c.args.at + 24 * (i + 1) ≡ at + 24 = omega arith in
     let number : c.args.first + (i + 1) ≡ c.args.first + i + 1 = omega arith in
     record {
-      init = sym (apart-step Init symbols ts i t front more (keeps-apart Init symbols (take i ts) least t keeps)) ∙ c.loop-index.invariant.init;
-      zero = sym (apart-step Zero symbols ts i t front more (keeps-apart Zero symbols (take i ts) least t keeps)) ∙ c.loop-index.invariant.zero;
-      rest = ap (λ (n : ℕ). first_fault (tag_conditions file symbols (c.args.at + 24 * (i + 1)) (take (i + 1) ts) (n + 1) (c.args.first + (i + 1)) rest)) c.from-least.ensures
-          ∙ ap (λ (n : ℕ). first_fault (tag_conditions file symbols n (take (i + 1) ts) (t + 1) (c.args.first + (i + 1)) rest)) there
-          ∙ ap (λ (n : ℕ). first_fault (tag_conditions file symbols (at + 24) (take (i + 1) ts) (t + 1) n rest)) number
-          ∙ ap (λ (l : List ℕ). first_fault (tag_conditions file symbols (at + 24) l (t + 1) (c.args.first + i + 1) rest)) more
+      init = sym (apart-step Init symbols ts i t front more (keeps-apart Init symbols (take i ts) least t keeps))
+          ∙ c.loop-index.invariant.init;
+      zero = sym (apart-step Zero symbols ts i t front more (keeps-apart Zero symbols (take i ts) least t keeps))
+          ∙ c.loop-index.invariant.zero;
+      rest = ap (λ (n : ℕ). first_fault (tag_conditions file symbols (tag_spot (c.args.at + 24 * (i + 1)) (take (i + 1) ts) (n + 1))
+          (c.args.first + (i + 1)) rest)) c.from-least.ensures
+          ∙ ap (λ (n : ℕ). first_fault (tag_conditions file symbols (tag_spot n (take (i + 1) ts) (t + 1))
+          (c.args.first + (i + 1)) rest)) there
+          ∙ ap (λ (n : ℕ). first_fault (tag_conditions file symbols (tag_spot (at + 24) (take (i + 1) ts) (t + 1)) n rest)) number
+          ∙ ap (λ (l : List ℕ). first_fault (tag_conditions file symbols (tag_spot (at + 24) l (t + 1)) (c.args.first + i + 1) rest)) more
           ∙ sym (tag-holds file symbols at (take i ts) least (c.args.first + i) t rest good)
-          ∙ ap (λ (l : List ℕ). first_fault (tag_conditions file symbols at (take i ts) least (c.args.first + i) l)) (sym front)
+          ∙ ap (λ (l : List ℕ). first_fault (tag_conditions file symbols (tag_spot at (take i ts) least) (c.args.first + i) l)) (sym front)
           ∙ c.loop-index.invariant.rest;
     }

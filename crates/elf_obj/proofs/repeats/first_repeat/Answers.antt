@@ -17,7 +17,8 @@ returns-then-not-added c =
     let within : i < length ss = omega arith in
     let front : drop i ss ≡ s ∷ drop (i + 1) ss = left ss i s s within c.index-symbols-index.is in
     let has : Bool = contains_by (λ k. bytes_eq c.as_slice.result.now k.now) c.loop-index.names in
-    let seen = ap (λ (n : List ℕ). contains_by (λ k. bytes_eq n k.now) c.loop-index.names) c.as_slice.ensures ∙ c.loop-index.invariant.seen s.name in
+    let seen = ap (λ (n : List ℕ). contains_by (λ k. bytes_eq n k.now) c.loop-index.names) c.as_slice.ensures
+    ∙ c.loop-index.invariant.seen s.name in
     let old : is_new (take i ss) s ≡ false =
     new-as (take i ss) s has c.in_ok-added.added c.if-not-symbol.true seen c.in_ok-added.ensures.added ∙ c.if-not-added.true in
     sym (old-step ss i s front old) ∙ c.loop-index.invariant.rest
@@ -34,11 +35,13 @@ loop-index-preserved c =
     elim c.if-not-symbol.branch [
       | then-not-symbol+in_ok-added+else-not-added w ↦
           let has : Bool = contains_by (λ k. bytes_eq w.as_slice.result.now k.now) c.loop-index.names in
-          let seen = ap (λ (n : List ℕ). contains_by (λ k. bytes_eq n k.now) c.loop-index.names) w.as_slice.ensures ∙ c.loop-index.invariant.seen s.name in
+          let seen = ap (λ (n : List ℕ). contains_by (λ k. bytes_eq n k.now) c.loop-index.names) w.as_slice.ensures
+          ∙ c.loop-index.invariant.seen s.name in
           let new : is_new (take i ss) s ≡ true =
           new-as (take i ss) s has w.in_ok-added.added w.if-not-symbol.true seen w.in_ok-added.ensures.added ∙ w.if-not-added.false in
           record {
-            seen = λ name. rw w.names-is (seen-more ss i s name w.as_slice.result.now _ _ more w.if-not-symbol.true w.as_slice.ensures (c.loop-index.invariant.seen name)
+            seen = λ name. rw w.names-is (seen-more ss i s name w.as_slice.result.now _ _ more w.if-not-symbol.true w.as_slice.ensures
+                (c.loop-index.invariant.seen name)
                 (w.in_ok-added.ensures.updates.0 (record { ref_ptr = w.as_slice.result.ref_ptr; now = name })));
             rest = sym (new-step ss i s front more new) ∙ c.loop-index.invariant.rest;
           }

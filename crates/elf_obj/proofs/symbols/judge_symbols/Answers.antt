@@ -1,11 +1,11 @@
 use Rattle.std.proofs.Common.{◌≡◌, ℕ, ◌+◌, ◌*◌, ◌<◌, true, List, [], ◌∷◌, ◌++◌, length, take, drop, sym, ap, ◌∙◌, arith}
 use Rattle.std.proofs.lemmas.List.{take_more}
+use Rattle.elf_base.specs.Conditions.{first_fault}
 use Rattle.elf_obj.specs.declared.parts.Symbol.{Symbol}
 use Rattle.elf_obj.specs.declared.sizes.Sizes.{Sizes}
 use Rattle.elf_obj.specs.Sections.{names_end}
 use Rattle.elf_obj.specs.Rules.{is_new}
-use Rattle.elf_obj.specs.Conditions.{first_fault}
-use Rattle.elf_obj.specs.ObjectFault.{is_symbol, symbol_conditions}
+use Rattle.elf_obj.specs.ObjectFault.{is_symbol, symbol_conditions, symbol_spot}
 use Rattle.elf_obj.specs.Laws.Ends.{names_grow}
 use Rattle.elf_obj.proofs.Steps.{left, names-step}
 use Rattle.elf_obj.proofs.Faults.{symbol-holds}
@@ -17,7 +17,8 @@ overflow_add-place-in-loop-index c =
     let s : Symbol = c.index-symbols-index.result in
     let i : ℕ = c.loop-index.index in
     let within : i < length c.args.symbols.now = omega arith in
-    let is : drop i c.args.symbols.now ≡ s ∷ drop (i + 1) c.args.symbols.now = left c.args.symbols.now i s s within c.index-symbols-index.is in
+    let is : drop i c.args.symbols.now ≡ s ∷ drop (i + 1) c.args.symbols.now =
+    left c.args.symbols.now i s s within c.index-symbols-index.is in
     let step : names_end (c.loop-index.place + length s.name + 1) (drop (i + 1) c.args.symbols.now) ≡ names_end 1 c.args.symbols.now =
     names-step c.args.symbols.now i c.loop-index.place (names_end 1 c.args.symbols.now) s is c.loop-index.invariant.ends in
     omega (
@@ -53,7 +54,7 @@ loop-index-preserved c =
     let front : drop i ss ≡ s ∷ rest = left ss i s s within c.index-symbols-index.is in
     let more : take (i + 1) ss ≡ take i ss ++ s ∷ [] =
     take_more ss i s within ∙ ap (λ (t : Symbol). take i ss ++ t ∷ []) (sym c.index-symbols-index.is) in
-    let good : is_symbol file z at place (take i ss) s ≡ true = sym c.is_symbol.ensures ∙ c.if-not-is_symbol.false in
+    let good : is_symbol file z (symbol_spot at place (take i ss)) s ≡ true = sym c.is_symbol.ensures ∙ c.if-not-is_symbol.false in
     let new : is_new (take i ss) s ≡ true = symbol-new file z at place (take i ss) s good in
     let next : place + (length c.as_slice.result.now + 1) ≡ place + length s.name + 1 = omega (arith, ap length c.as_slice.ensures) in
     let there : c.args.at + 24 * (i + 1) ≡ at + 24 = omega arith in
@@ -61,11 +62,13 @@ loop-index-preserved c =
     record {
       ends = ap (λ (n : ℕ). names_end n rest) next ∙ names-step ss i place (names_end 1 ss) s front c.loop-index.invariant.ends;
       repeat = sym (new-step ss i s front more new) ∙ c.loop-index.invariant.repeat;
-      locals = locals-step ss i s c.loop-index.all_local c.both-all_local.result more c.loop-index.invariant.locals c.both-all_local.ensures;
-      rest = ap (λ (n : ℕ). first_fault (symbol_conditions file z (c.args.at + 24 * (i + 1)) n (i + 1 + 1) (take (i + 1) ss) rest)) next
-          ∙ ap (λ (n : ℕ). first_fault (symbol_conditions file z n place-next (i + 1 + 1) (take (i + 1) ss) rest)) there
-          ∙ ap (λ (l : List Symbol). first_fault (symbol_conditions file z (at + 24) place-next (i + 1 + 1) l rest)) more
+      locals = locals-step ss i s c.loop-index.all_local c.both-all_local.result more c.loop-index.invariant.locals
+          c.both-all_local.ensures;
+      rest = ap (λ (n : ℕ). first_fault (symbol_conditions file z (symbol_spot (c.args.at + 24 * (i + 1)) n (take (i + 1) ss))
+          (i + 1 + 1) rest)) next
+          ∙ ap (λ (n : ℕ). first_fault (symbol_conditions file z (symbol_spot n place-next (take (i + 1) ss)) (i + 1 + 1) rest)) there
+          ∙ ap (λ (l : List Symbol). first_fault (symbol_conditions file z (symbol_spot (at + 24) place-next l) (i + 1 + 1) rest)) more
           ∙ sym (symbol-holds file z at place (i + 1) (take i ss) s rest good)
-          ∙ ap (λ (l : List Symbol). first_fault (symbol_conditions file z at place (i + 1) (take i ss) l)) (sym front)
+          ∙ ap (λ (l : List Symbol). first_fault (symbol_conditions file z (symbol_spot at place (take i ss)) (i + 1) l)) (sym front)
           ∙ c.loop-index.invariant.rest;
     }

@@ -12,11 +12,16 @@ unfolding headers_place
 overflow_add-end c =
     let ss = sections c.args.sizes.now in
     let is = left_at ss c.loop-index.index c.section_at-section.result c.section_at-section.ensures.is in
-    omega (arith, step-low ss c.loop-index.index c.loop-index.end c.section_at-section.result is c.loop-index.invariant c.requires, c.round16.ensures.value)
+    omega (
+      arith,
+      step-low ss c.loop-index.index c.loop-index.end c.section_at-section.result is c.loop-index.invariant c.requires,
+      c.round16.ensures.value,
+    )
 
 pub loop-index-preserved : goal.loop-index-preserved
 unfolding headers_place
 loop-index-preserved c =
     let ss = sections c.args.sizes.now in
     let is = left_at ss c.loop-index.index c.section_at-section.result c.section_at-section.ensures.is in
-    rw c.round16.ensures.value (contents-step ss c.loop-index.index c.loop-index.end (contents_end 64 ss) c.section_at-section.result is c.loop-index.invariant)
+    rw c.round16.ensures.value (contents-step ss c.loop-index.index c.loop-index.end
+    (contents_end 64 ss) c.section_at-section.result is c.loop-index.invariant)

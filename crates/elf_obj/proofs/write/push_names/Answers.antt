@@ -5,4 +5,5 @@ use Rattle.elf_obj.specs.Laws.Whole.{put_more}
 use Rattle.elf_obj.proofs.write.push_names.Goals as goal
 
 pub returns : goal.returns
-returns c = rw (c.in_ok-put_names.ensures, c.in_ok-push_bytes.ensures) (put_more (0 ∷ []) (flat_map name_bytes c.args.symbols.now) c.args.out.now.items)
+returns c = rw (c.in_ok-put_names.ensures, c.in_ok-push_bytes.ensures)
+    (put_more (0 ∷ []) (flat_map name_bytes c.args.symbols.now) c.args.out.now.items)

@@ -1,6 +1,7 @@
 use Rattle.std.proofs.Common.{◌≡◌, ℕ, subst, ◌<◌, ◌≤◌, length, get_or, refl, sym, arith, inl, inr}
 use Rattle.std.proofs.lemmas.Bool.{ltb-true, ltb-false}
-use Rattle.memtag_desc.proofs.Numbers.{starts, ends_cut, ends_far, ends_long, ends_here, goes_on, scale-more, below_more, byte_read, Resumes}
+use Rattle.memtag_desc.proofs.Numbers.{starts, ends_cut, ends_far, ends_long, ends_here, goes_on, scale-more, below_more, byte_read}
+use Rattle.memtag_desc.proofs.Numbers.{Resumes}
 use Rattle.memtag_desc.proofs.number.number_at.Goals as goal
 
 pub loop-k-init : goal.loop-k-init

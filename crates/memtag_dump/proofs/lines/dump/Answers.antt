@@ -35,9 +35,11 @@ returns-in_err-info-clause-refuses c =
 pub returns-in_err-intervals-clause-only : goal.returns-in_err-intervals-clause-only
 returns-in_err-intervals-clause-only c =
     let found : IsFound c.args.file.now c.from_residual-in_err-intervals.result =
-    found_by c.args.file.now c.from_residual-in_err-intervals.result (of_descriptors c.in_err-intervals.field-0.0) c.from_residual-in_err-intervals.ensures.1 in
+    found_by c.args.file.now c.from_residual-in_err-intervals.result
+    (of_descriptors c.in_err-intervals.field-0.0) c.from_residual-in_err-intervals.ensures.1 in
     let refused : IsRefused c.args.file.now c.from_residual-in_err-intervals.result =
-    refused_by c.args.file.now c.from_residual-in_err-intervals.result (of_descriptors c.in_err-intervals.field-0.0) c.from_residual-in_err-intervals.ensures.1
+    refused_by c.args.file.now c.from_residual-in_err-intervals.result
+    (of_descriptors c.in_err-intervals.field-0.0) c.from_residual-in_err-intervals.ensures.1
     (descriptors_cause c.args.file.now c.in_ok-info.info c.in_err-intervals.field-0.0 c.in_ok-info.ensures.found
     c.in_err-intervals.ensures.refused) in
     only c.args.file.now c.from_residual-in_err-intervals.result found refused
@@ -45,7 +47,8 @@ returns-in_err-intervals-clause-only c =
 pub returns-in_err-intervals-clause-refused : goal.returns-in_err-intervals-clause-refused
 returns-in_err-intervals-clause-refused c =
     let refused : IsRefused c.args.file.now c.from_residual-in_err-intervals.result =
-    refused_by c.args.file.now c.from_residual-in_err-intervals.result (of_descriptors c.in_err-intervals.field-0.0) c.from_residual-in_err-intervals.ensures.1
+    refused_by c.args.file.now c.from_residual-in_err-intervals.result
+    (of_descriptors c.in_err-intervals.field-0.0) c.from_residual-in_err-intervals.ensures.1
     (descriptors_cause c.args.file.now c.in_ok-info.info c.in_err-intervals.field-0.0 c.in_ok-info.ensures.found
     c.in_err-intervals.ensures.refused) in
     refused
@@ -53,9 +56,11 @@ returns-in_err-intervals-clause-refused c =
 pub returns-in_err-intervals-clause-refuses : goal.returns-in_err-intervals-clause-refuses
 returns-in_err-intervals-clause-refuses c =
     let found : IsFound c.args.file.now c.from_residual-in_err-intervals.result =
-    found_by c.args.file.now c.from_residual-in_err-intervals.result (of_descriptors c.in_err-intervals.field-0.0) c.from_residual-in_err-intervals.ensures.1 in
+    found_by c.args.file.now c.from_residual-in_err-intervals.result
+    (of_descriptors c.in_err-intervals.field-0.0) c.from_residual-in_err-intervals.ensures.1 in
     let refused : IsRefused c.args.file.now c.from_residual-in_err-intervals.result =
-    refused_by c.args.file.now c.from_residual-in_err-intervals.result (of_descriptors c.in_err-intervals.field-0.0) c.from_residual-in_err-intervals.ensures.1
+    refused_by c.args.file.now c.from_residual-in_err-intervals.result
+    (of_descriptors c.in_err-intervals.field-0.0) c.from_residual-in_err-intervals.ensures.1
     (descriptors_cause c.args.file.now c.in_ok-info.info c.in_err-intervals.field-0.0 c.in_ok-info.ensures.found
     c.in_err-intervals.ensures.refused) in
     refuses c.args.file.now c.from_residual-in_err-intervals.result found refused

@@ -1,14 +1,15 @@
 use Rattle.std.proofs.Common.{◌≡◌, ◌⊎◌, refl, sym, subst}
+use Rattle.mte_machine.specs.Objects.{objects}
 use Rattle.elf_image.specs.Constant.{constant_image}
 use Rattle.elf_image.specs.ImageFile.{ImageFile}
 use Rattle.elf_image.specs.Ranges.{IsFileOf}
-use Rattle.tag_startup.specs.Machine.{RunsImage}
+use Rattle.tag_startup.specs.Machine.{RunsImage, launch}
 use Rattle.mt_pipeline.specs.declared.answer.Answer.{Answer}
 use Rattle.mt_pipeline.specs.declared.refusal.RunRefusal.TheVariants.{NoMemory}
 use Rattle.mt_pipeline.specs.Answer.{ended_of}
 use Rattle.mt_pipeline.specs.RunFile.{RefusesRun, RunAnswers, ran}
 use Rattle.mt_pipeline.specs.Ran.{default_stack}
-use Rattle.mt_pipeline.specs.Seen.{seen}
+use Rattle.mt_pipeline.specs.Seen.{seen, files_seen}
 use Rattle.mt_pipeline.specs.Status.{ended_by}
 use Rattle.mt_pipeline.specs.Unread.{answer_to_unread}
 use Rattle.mt_pipeline.specs.Unrun.{answer_to_run}
@@ -22,8 +23,8 @@ use Rattle.mt_pipeline.proofs.commands.run_file.Goals as goal
 -- there were no bytes
 pub returns-in-Err : goal.returns-in-Err
 returns-in-Err g c =
-    let before = seen g.F.Files g.S.Source g.K.Sink c.args.files.now c.args.input.now c.args.out.now in
-    let after = seen g.F.Files g.S.Source g.K.Sink c.read_file.new.files c.args.input.now c.args.out.now in
+    let before = seen (files_seen g.F.Files c.args.files.now) (objects g.S.Source g.K.Sink c.args.input.now c.args.out.now) in
+    let after = seen (files_seen g.F.Files c.read_file.new.files) (objects g.S.Source g.K.Sink c.args.input.now c.args.out.now) in
     subst (λ (a : Answer). RunAnswers c.args.file.now c.args.steps before after (ended_of a)) (sym c.answer.ensures)
     (run_answers c.args.file.now c.args.steps before after (ended_of (answer_to_unread c.in-Err.unread))
     (run_unread c.args.file.now c.args.steps before after c.in-Err.unread c.in-Err.ensures.cause refl)
@@ -33,12 +34,14 @@ returns-in-Err g c =
 -- the image ran
 pub returns-in-Ok-run_image : goal.returns-in-Ok-run_image
 returns-in-Ok-run_image g c =
-    let before = seen g.F.Files g.S.Source g.K.Sink c.args.files.now c.args.input.now c.args.out.now in
-    let after = seen g.F.Files g.S.Source g.K.Sink c.read_file.new.files c.run_image.new.source c.run_image.new.sink in
+    let before = seen (files_seen g.F.Files c.args.files.now) (objects g.S.Source g.K.Sink c.args.input.now c.args.out.now) in
+    let after = seen (files_seen g.F.Files c.read_file.new.files)
+    (objects g.S.Source g.K.Sink c.run_image.new.source c.run_image.new.sink) in
     let read = c.in-Ok.bytes.items in
     let image = c.in-Ok-run_image.ensures.image.0 in
     let is : IsFileOf image read = subst (λ b. IsFileOf image b) c.deref.ensures.value c.in-Ok-run_image.ensures.image.1 in
-    let runs = subst (λ choices. RunsImage image choices default_stack c.args.steps before.streams after.streams c.in-Ok-run_image.end)
+    let runs = subst (λ choices. RunsImage (launch image choices default_stack c.args.steps) before.streams after.streams
+    c.in-Ok-run_image.end)
     c.default_choices.ensures
     (c.in-Ok-run_image.ensures.runs image c.in-Ok-run_image.ensures.image.1) in
     run_answers c.args.file.now c.args.steps before after (ended_by c.in-Ok-run_image.end)
@@ -55,8 +58,9 @@ returns-in-Ok-run_image g c =
 -- or it did not, for want of memory or since the bytes do not run
 pub returns : goal.returns
 returns g c =
-    let before = seen g.F.Files g.S.Source g.K.Sink c.args.files.now c.args.input.now c.args.out.now in
-    let after = seen g.F.Files g.S.Source g.K.Sink c.read_file.new.files c.run_image.new.source c.run_image.new.sink in
+    let before = seen (files_seen g.F.Files c.args.files.now) (objects g.S.Source g.K.Sink c.args.input.now c.args.out.now) in
+    let after = seen (files_seen g.F.Files c.read_file.new.files)
+    (objects g.S.Source g.K.Sink c.run_image.new.source c.run_image.new.sink) in
     let kept = c.in-Err-run_image.ensures.silent in
     let silent = same_objects g.S.Source g.K.Sink _ _ _ _ kept.0 kept.1 in
     let refusal = c.in-Err-run_image.refusal in

@@ -1,9 +1,10 @@
 use Rattle.std.proofs.Common.{◌≡◌, map, refl, sym, subst}
 use Rattle.std.specs.String.{string_bytes}
+use Rattle.mte_machine.specs.Objects.{objects}
 use Rattle.mt_pipeline.specs.Answers.{Answers}
 use Rattle.mt_pipeline.specs.Command.{job_of}
 use Rattle.mt_pipeline.specs.Job.{Go, Build, Run, Dump, HasJob}
-use Rattle.mt_pipeline.specs.Seen.{seen}
+use Rattle.mt_pipeline.specs.Seen.{seen, files_seen}
 use Rattle.mt_pipeline.specs.declared.ended.Ended.{Ended}
 use Rattle.mt_pipeline.specs.declared.ended.Why.TheVariants.{Usage}
 use Rattle.mt_pipeline.proofs.Asked.{asked}
@@ -15,16 +16,16 @@ use Rattle.mt_pipeline.proofs.driver.drive.Goals as goal
 
 pub returns-in-Some-Go-clause-answers : goal.returns-in-Some-Go-clause-answers
 returns-in-Some-Go-clause-answers g c =
-    let before = seen g.F.Files g.S.Source g.K.Sink c.args.files.now c.args.input.now c.args.out.now in
-    let after = seen g.F.Files g.S.Source g.K.Sink c.go.new.files c.go.new.input c.go.new.out in
+    let before = seen (files_seen g.F.Files c.args.files.now) (objects g.S.Source g.K.Sink c.args.input.now c.args.out.now) in
+    let after = seen (files_seen g.F.Files c.go.new.files) (objects g.S.Source g.K.Sink c.go.new.input c.go.new.out) in
     asked (λ job. Answers job before after c.finish.result) _ (Go c.in-Some-Go.file.now c.in-Some-Go.steps)
     (subst (λ command. HasJob (map string_bytes c.args.words.now) (job_of command)) c.in-Some-Go.field-0-is c.in-Some-Go.ensures.some)
     (subst (λ (e : Ended). Answers (Go c.in-Some-Go.file.now c.in-Some-Go.steps) before after e) (sym c.finish.ensures.ended) c.go.ensures)
 
 pub returns-in-Some-Build-clause-answers : goal.returns-in-Some-Build-clause-answers
 returns-in-Some-Build-clause-answers g c =
-    let before = seen g.F.Files g.S.Source g.K.Sink c.args.files.now c.args.input.now c.args.out.now in
-    let after = seen g.F.Files g.S.Source g.K.Sink c.write_built.new.files c.args.input.now c.args.out.now in
+    let before = seen (files_seen g.F.Files c.args.files.now) (objects g.S.Source g.K.Sink c.args.input.now c.args.out.now) in
+    let after = seen (files_seen g.F.Files c.write_built.new.files) (objects g.S.Source g.K.Sink c.args.input.now c.args.out.now) in
     asked (λ job. Answers job before after c.finish_build.result) _ (Build c.in-Some-Build.file.now c.in-Some-Build.image.now)
     (subst (λ command. HasJob (map string_bytes c.args.words.now) (job_of command)) c.in-Some-Build.field-0-is c.in-Some-Build.ensures.some)
     (subst (λ (e : Ended). Answers (Build c.in-Some-Build.file.now c.in-Some-Build.image.now) before after e)
@@ -33,8 +34,8 @@ returns-in-Some-Build-clause-answers g c =
 
 pub returns-in-Some-Run-clause-answers : goal.returns-in-Some-Run-clause-answers
 returns-in-Some-Run-clause-answers g c =
-    let before = seen g.F.Files g.S.Source g.K.Sink c.args.files.now c.args.input.now c.args.out.now in
-    let after = seen g.F.Files g.S.Source g.K.Sink c.run_file.new.files c.run_file.new.input c.run_file.new.out in
+    let before = seen (files_seen g.F.Files c.args.files.now) (objects g.S.Source g.K.Sink c.args.input.now c.args.out.now) in
+    let after = seen (files_seen g.F.Files c.run_file.new.files) (objects g.S.Source g.K.Sink c.run_file.new.input c.run_file.new.out) in
     asked (λ job. Answers job before after c.finish-in-Some-Run.result) _ (Run c.in-Some-Run.image.now c.in-Some-Run.steps)
     (subst (λ command. HasJob (map string_bytes c.args.words.now) (job_of command)) c.in-Some-Run.field-0-is c.in-Some-Run.ensures.some)
     (subst (λ (e : Ended). Answers (Run c.in-Some-Run.image.now c.in-Some-Run.steps) before after e)
@@ -42,8 +43,8 @@ returns-in-Some-Run-clause-answers g c =
 
 pub returns-in-Some-Dump-clause-answers : goal.returns-in-Some-Dump-clause-answers
 returns-in-Some-Dump-clause-answers g c =
-    let before = seen g.F.Files g.S.Source g.K.Sink c.args.files.now c.args.input.now c.args.out.now in
-    let after = seen g.F.Files g.S.Source g.K.Sink c.dump_file.new.files c.args.input.now c.dump_file.new.out in
+    let before = seen (files_seen g.F.Files c.args.files.now) (objects g.S.Source g.K.Sink c.args.input.now c.args.out.now) in
+    let after = seen (files_seen g.F.Files c.dump_file.new.files) (objects g.S.Source g.K.Sink c.args.input.now c.dump_file.new.out) in
     asked (λ job. Answers job before after c.finish-in-Some-Dump.result) _ (Dump c.in-Some-Dump.file.now)
     (subst (λ command. HasJob (map string_bytes c.args.words.now) (job_of command)) c.in-Some-Dump.field-0-is c.in-Some-Dump.ensures.some)
     (subst (λ (e : Ended). Answers (Dump c.in-Some-Dump.file.now) before after e) (sym c.finish-in-Some-Dump.ensures.ended)

@@ -4,7 +4,7 @@ use Rattle.memtag_dump.specs.Refusal.{HasNoText}
 use Rattle.memtag_dump.specs.declared.refusal.DumpRefusal.TheVariants.{NoMemory}
 use Rattle.mt_pipeline.specs.declared.answer.Answer.{Answer}
 use Rattle.mt_pipeline.specs.Answer.{ended_of}
-use Rattle.mt_pipeline.specs.Dump.{Dumps, output_seen}
+use Rattle.mt_pipeline.specs.Dump.{Dumps, output_seen, with_output}
 use Rattle.mt_pipeline.specs.Seen.{files_seen}
 use Rattle.mt_pipeline.specs.Undumped.{answer_to_dump}
 use Rattle.mt_pipeline.specs.Unread.{answer_to_unread}
@@ -19,7 +19,7 @@ returns-in-Err g c =
     let before = files_seen g.F.Files c.args.files.now in
     let after = files_seen g.F.Files c.read_file.new.files in
     let out = output_seen g.K.Sink c.args.out.now in
-    subst (λ (a : Answer). Dumps c.args.file.now before after out out (ended_of a)) (sym c.answer.ensures)
+    subst (λ (a : Answer). Dumps c.args.file.now (with_output before out) (with_output after out) (ended_of a)) (sym c.answer.ensures)
     (dump_answers c.args.file.now before after out out (ended_of (answer_to_unread c.in-Err.unread))
     (dump_unread c.args.file.now before after out out c.in-Err.unread c.in-Err.ensures.cause refl)
     (same_files _ _ c.read_file.ensures.kept)
@@ -49,7 +49,8 @@ returns g c =
     let out = output_seen g.K.Sink c.args.out.now in
     let cause = subst (λ (b : List ℕ). (c.in-Err-dump.refusal ≡ NoMemory) ⊎ HasNoText b c.in-Err-dump.refusal) c.deref.ensures.value
     c.in-Err-dump.ensures.refused in
-    subst (λ (a : Answer). Dumps c.args.file.now before after out out (ended_of a)) (sym c.answer_to_dump.ensures)
+    subst (λ (a : Answer). Dumps c.args.file.now (with_output before out) (with_output after out) (ended_of a))
+    (sym c.answer_to_dump.ensures)
     (dump_answers c.args.file.now before after out out (ended_of (answer_to_dump c.in-Err-dump.refusal))
     (dump_refused c.args.file.now before after out out c.in-Ok.bytes.items c.in-Err-dump.refusal c.in-Ok.ensures.bytes refl cause)
     (same_files _ _ c.read_file.ensures.kept)

@@ -27,7 +27,8 @@ pub returns-in_err-next-clause-answers : goal.returns-in_err-next-clause-answers
 returns-in_err-next-clause-answers c =
     let seen = sym c.sees.ensures ∙ c.loop-alloc-test.true in
     answers_on _ c.from_residual-in_err-next.ensures.1
-    (answers_by c.loop-alloc.invariant.reads (loop_stops (further_declarator c.args.depth c.args.of.now) c.loop-alloc.read c.loop-alloc.cursor
+    (answers_by c.loop-alloc.invariant.reads (loop_stops (further_declarator c.args.depth c.args.of.now) c.loop-alloc.read
+    c.loop-alloc.cursor
     seen refl (answers_by (further_is c.args.depth c.args.of.now c.loop-alloc.read c.loop-alloc.cursor seen)
     (answers_stop _ (passed (declarator c.args.depth c.args.of.now) c.skip.ensures c.in_err-next.ensures.answers)))))
 
@@ -52,7 +53,8 @@ loop-alloc-preserved c =
           (extended c.loop-alloc.read c.in_ok-next.next) c.declarator-in-loop-alloc.new.cursor
           (further_read c.args.depth c.args.of.now c.loop-alloc.read c.in_ok-next.next c.loop-alloc.cursor
           c.declarator-in-loop-alloc.new.cursor seen read.is) seen
-          ∙ ap (λ a. left (further_declarator c.args.depth c.args.of.now) a c.declarator-in-loop-alloc.new.cursor) (sym c.in_ok-read-2.ensures);
+          ∙ ap (λ a. left (further_declarator c.args.depth c.args.of.now) a c.declarator-in-loop-alloc.new.cursor)
+          (sym c.in_ok-read-2.ensures);
       low = omega (arith, ap (λ (a : MemberList). a.height) c.in_ok-read-2.ensures, c.in_ok-next.ensures.low, c.loop-alloc.invariant.low);
     }
 

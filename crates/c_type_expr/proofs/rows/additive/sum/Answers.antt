@@ -12,7 +12,8 @@ pub returns-in_ok-pointer_moved-in-Points-operand_of : goal.returns-in_ok-pointe
 returns-in_ok-pointer_moved-in-Points-operand_of c =
     let t = c.in-Points-operand_of.target.now in
     row_two (sum c.args.span c.args.a c.args.b) (sort_of c.args.a) (Integer c.in-Integer.s) (sort_of c.args.b) (Points t)
-    _ _ _ (sym c.operand_of.ensures ∙ ap sort_seen c.in-Integer.is) (sym c.operand_of-in-Integer.ensures ∙ ap sort_seen c.in-Points-operand_of.is)
+    _ _ _ (sym c.operand_of.ensures ∙ ap sort_seen c.in-Integer.is) (sym c.operand_of-in-Integer.ensures ∙
+    ap sort_seen c.in-Points-operand_of.is)
     (ruled_at c.args.span (λ env. complete_target env.structs t ∷ [])
     (λ env. pointer_moved c.args.span c.args.b.tree.ty (moved forward (size env.structs t) c.args.b.fixed c.args.a.constant)
     (node.Binary binary.Add c.args.a.tree c.args.b.tree))
@@ -22,7 +23,8 @@ pub returns-in_ok-pointer_moved-in-Integer-operand_of-2 : goal.returns-in_ok-poi
 returns-in_ok-pointer_moved-in-Integer-operand_of-2 c =
     let t = c.in-Points.target.now in
     row_two (sum c.args.span c.args.a c.args.b) (sort_of c.args.a) (Points t) (sort_of c.args.b) (Integer c.in-Integer-operand_of-2.field-0)
-    _ _ _ (sym c.operand_of.ensures ∙ ap sort_seen c.in-Points.is) (sym c.operand_of-in-Points.ensures ∙ ap sort_seen c.in-Integer-operand_of-2.is)
+    _ _ _ (sym c.operand_of.ensures ∙ ap sort_seen c.in-Points.is) (sym c.operand_of-in-Points.ensures ∙
+    ap sort_seen c.in-Integer-operand_of-2.is)
     (ruled_at c.args.span (λ env. complete_target env.structs t ∷ [])
     (λ env. pointer_moved c.args.span c.args.a.tree.ty (moved forward (size env.structs t) c.args.a.fixed c.args.b.constant)
     (node.Binary binary.Add c.args.a.tree c.args.b.tree))

@@ -10,7 +10,8 @@ use Rattle.c_type_expr.proofs.rows.assign.step.Goals as goal
 pub returns-in_ok-stepped-in-Points : goal.returns-in_ok-stepped-in-Points
 returns-in_ok-stepped-in-Points c =
     let t = c.in-Points.target.now in
-    row_by (step_row c.args.step c.args.span c.args.e) (sort_of c.args.e) (Points t) _ _ _ (sym c.operand_of.ensures ∙ ap sort_seen c.in-Points.is)
+    row_by (step_row c.args.step c.args.span c.args.e) (sort_of c.args.e) (Points t) _ _ _
+    (sym c.operand_of.ensures ∙ ap sort_seen c.in-Points.is)
     (ruled_at c.args.span (λ env. rule 11 (is_changeable c.args.e) ∷ complete_target env.structs t ∷ [])
     (λ env. stepped c.args.step c.args.span c.args.e)
     _ _ _ (rw (← c.is_changeable-changeable.ensures) c.ask_then_target.ensures) (search rules))

@@ -24,7 +24,16 @@ same_phdr p q same =
     let filesz : p.filesz ≡ q.filesz = cc in
     let memsz : p.memsz ≡ q.memsz = cc in
     let align : p.align ≡ q.align = cc in
-    λ i. record { kind = kind i; flags = flags i; offset = offset i; vaddr = vaddr i; paddr = paddr i; filesz = filesz i; memsz = memsz i; align = align i }
+    λ i. record {
+      kind = kind i;
+      flags = flags i;
+      offset = offset i;
+      vaddr = vaddr i;
+      paddr = paddr i;
+      filesz = filesz i;
+      memsz = memsz i;
+      align = align i;
+    }
 
 pub same_ehdr : (h g : Ehdr) → ehdr_fields h ≡ ehdr_fields g → h ≡ g
 same_ehdr h g same =
@@ -42,7 +51,23 @@ same_ehdr h g same =
     let shentsize : h.shentsize ≡ g.shentsize = cc in
     let shnum : h.shnum ≡ g.shnum = cc in
     let shstrndx : h.shstrndx ≡ g.shstrndx = cc in
-    λ i. record { ident = ident i; kind = kind i; machine = machine i; version = version i; entry = entry i; phoff = phoff i; shoff = shoff i; flags = flags i; ehsize = ehsize i; phentsize = phentsize i; phnum = phnum i; shentsize = shentsize i; shnum = shnum i; shstrndx = shstrndx i }
+    λ i. record {
+      ident = ident i;
+      kind = kind i;
+      machine = machine i;
+      version = version i;
+      entry = entry i;
+      phoff = phoff i;
+      shoff = shoff i;
+      flags = flags i;
+      ehsize = ehsize i;
+      phentsize = phentsize i;
+      phnum = phnum i;
+      shentsize = shentsize i;
+      shnum =
+          shnum i;
+      shstrndx = shstrndx i;
+    }
 
 pub same_shdr : (s t : Shdr) → shdr_fields s ≡ shdr_fields t → s ≡ t
 same_shdr s t same =
@@ -56,7 +81,18 @@ same_shdr s t same =
     let info : s.info ≡ t.info = cc in
     let addralign : s.addralign ≡ t.addralign = cc in
     let entsize : s.entsize ≡ t.entsize = cc in
-    λ i. record { name = name i; kind = kind i; flags = flags i; addr = addr i; offset = offset i; size = size i; link = link i; info = info i; addralign = addralign i; entsize = entsize i }
+    λ i. record {
+      name = name i;
+      kind = kind i;
+      flags = flags i;
+      addr = addr i;
+      offset = offset i;
+      size = size i;
+      link = link i;
+      info = info i;
+      addralign = addralign i;
+      entsize = entsize i;
+    }
 
 pub same_sym : (s t : Sym) → sym_fields s ≡ sym_fields t → s ≡ t
 same_sym s t same =
