@@ -1,5 +1,6 @@
 -- Searches over the symbols of all objects, object by object.
-use Rattle.std.proofs.Common.{◌≡◌, ℕ, suc, ◌+◌, ◌<◌, ◌≤◌, Bool, true, false, ◌&&◌, ◌||◌, nat_lt, List, [], ◌∷◌, ◌++◌, length, take, drop, find, cond, Option, Some, None, get_or, refl, sym, ap, ◌∙◌, arith, append_assoc}
+use Rattle.std.proofs.Common.{◌≡◌, ℕ, suc, ◌+◌, ◌<◌, ◌≤◌, Bool, true, false, ◌&&◌, ◌||◌, nat_lt, List, [], ◌∷◌, ◌++◌, length, take, drop}
+use Rattle.std.proofs.Common.{find, cond, Option, Some, None, get_or, refl, sym, ap, ◌∙◌, arith, append_assoc}
 use Rattle.std.specs.List.{list_any}
 use Rattle.std.specs.Option.{option_map, option_or}
 use Rattle.std.proofs.lemmas.Bool.{true≢false, lt-ltb, le-ltb}
@@ -49,7 +50,8 @@ none_earlier : (name : List ℕ) (k at n : ℕ) (ss : List Symbol) → k ≤ at
 none_earlier name k at n [] h = refl
 none_earlier name k at n (s ∷ ss) h = rw (le-ltb at k h) (none_earlier name k at (n + 1) ss h)
 
-none_earlier_all : (name : List ℕ) (k at : ℕ) (os : List Object) → k ≤ at → list_any (λ d. nat_lt d.object k && defines name d) (entries_from at os) ≡ false
+none_earlier_all : (name : List ℕ) (k at : ℕ) (os : List Object) → k ≤ at
+    → list_any (λ d. nat_lt d.object k && defines name d) (entries_from at os) ≡ false
 none_earlier_all name k at [] h = refl
 none_earlier_all name k at (o ∷ os) h =
     list_any-append (λ d. nat_lt d.object k && defines name d) (numbered_from at 0 o.symbols) (entries_from (at + 1) os)
@@ -59,7 +61,8 @@ none_earlier_all name k at (o ∷ os) h =
 all_earlier : (name : List ℕ) (k at n : ℕ) (ss : List Symbol) → at < k
     → list_any (λ d. nat_lt d.object k && defines name d) (numbered_from at n ss) ≡ list_any (defines name) (numbered_from at n ss)
 all_earlier name k at n [] h = refl
-all_earlier name k at n (s ∷ ss) h = rw (lt-ltb at k h) (ap (λ (b : Bool). defines name (entry at n s) || b) (all_earlier name k at (n + 1) ss h))
+all_earlier name k at n (s ∷ ss) h = rw (lt-ltb at k h) (ap (λ (b : Bool). defines name (entry at n s) || b)
+    (all_earlier name k at (n + 1) ss h))
 
 all_earlier_all : (name : List ℕ) (k at : ℕ) (os : List Object) → at + length os ≤ k
     → list_any (λ d. nat_lt d.object k && defines name d) (entries_from at os) ≡ list_any (defines name) (entries_from at os)
@@ -88,7 +91,8 @@ or_none true = refl
 or_none false = refl
 
 -- a symbol of an object repeats a name exactly where an earlier object has it
-pub repeated_is : (os : List Object) (k n : ℕ) (s : Symbol) → k ≤ length os → is_repeated (entries os) (entry k n s) ≡ is_known (entries (take k os)) s
+pub repeated_is : (os : List Object) (k n : ℕ) (s : Symbol) → k ≤ length os
+    → is_repeated (entries os) (entry k n s) ≡ is_known (entries (take k os)) s
 repeated_is os k n s h =
     let test : Entry → Bool = λ d. nat_lt d.object k && defines s.name d in
     let all : list_any test (entries os) ≡ list_any (defines s.name) (entries (take k os)) =
@@ -115,7 +119,8 @@ finds_entry None s e = absurd (none-some s e)
 finds_entry (Some x) s e = record { entry = x; is = refl; symbol = same_Some x.symbol s e }
 
 object_repeats : (os : List Object) (k : ℕ) (o : Object) → k ≤ length os
-    → option_map (λ e. e.symbol) (find (is_repeated (entries os)) (numbered_from k 0 o.symbols)) ≡ find (is_known (entries (take k os))) o.symbols
+    → option_map (λ e. e.symbol) (find (is_repeated (entries os)) (numbered_from k 0 o.symbols)) ≡ find
+    (is_known (entries (take k os))) o.symbols
 object_repeats os k o h =
     find_numbered (is_repeated (entries os)) (is_known (entries (take k os))) k 0 o.symbols (λ m s. repeated_is os k m s h)
 
@@ -202,8 +207,10 @@ any_here p xs rest x is h = ap (list_any p) is ∙ ap (λ (b : Bool). b || list_
 pub any_later : {A : Type 0} (p : A → Bool) (xs rest : List A) (x : A) → xs ≡ x ∷ rest → p x ≡ false → list_any p rest ≡ list_any p xs
 any_later p xs rest x is h = sym (ap (list_any p) is ∙ ap (λ (b : Bool). b || list_any p rest) h)
 
-pub in_here : (p : Symbol → Bool) (os rest : List Object) (o : Object) (s : Symbol) → os ≡ o ∷ rest → find p o.symbols ≡ Some s → find_in p os ≡ Some s
+pub in_here : (p : Symbol → Bool) (os rest : List Object) (o : Object) (s : Symbol) → os ≡ o ∷ rest → find p o.symbols ≡ Some s
+    → find_in p os ≡ Some s
 in_here p os rest o s is h = ap (find_in p) is ∙ ap (λ (x : Option Symbol). option_or x (find_in p rest)) h
 
-pub in_later : (p : Symbol → Bool) (os rest : List Object) (o : Object) → os ≡ o ∷ rest → find p o.symbols ≡ None → find_in p rest ≡ find_in p os
+pub in_later : (p : Symbol → Bool) (os rest : List Object) (o : Object) → os ≡ o ∷ rest → find p o.symbols ≡ None
+    → find_in p rest ≡ find_in p os
 in_later p os rest o is h = sym (ap (find_in p) is ∙ ap (λ (x : Option Symbol). option_or x (find_in p rest)) h)

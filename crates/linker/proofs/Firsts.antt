@@ -1,5 +1,7 @@
 -- The symbols of the table, one use more.
-use Rattle.std.proofs.Common.{◌≡◌, ℕ, suc, ◌+◌, ◌<◌, Bool, true, false, not, cond, ◌&&◌, ◌||◌, ◌==◌, if◌then◌else◌, List, [], ◌∷◌, ◌++◌, length, take, Option, Some, None, get_or, map, filter, filter_map, refl, sym, ap, ◌∙◌, arith, append_assoc, nat_lt}
+use Rattle.std.proofs.Common.{◌≡◌, ℕ, suc, ◌+◌, ◌<◌, Bool, true, false, not, cond, ◌&&◌, ◌||◌, ◌==◌, if◌then◌else◌, List, [], ◌∷◌, ◌++◌}
+use Rattle.std.proofs.Common.{length, take, Option, Some, None, get_or, map, filter, filter_map, refl, sym, ap, ◌∙◌, arith, append_assoc}
+use Rattle.std.proofs.Common.{nat_lt}
 use Rattle.std.specs.List.{list_any, cons_option, prefix_len, position, position_or_len}
 use Rattle.std.specs.Option.{option_map}
 use Rattle.std.proofs.lemmas.Bool.{true≢false, eqb-true, eq-eqb, ltb-false}
@@ -58,7 +60,8 @@ any_kept x e (y ∷ ys) = by_tests (is_same e y) (is_same x y) (is_same x e) ref
     rest : List Entry
     rest = filter (λ f. not (is_same x f)) ys
 
-    by_tests : (a b c : Bool) → is_same e y ≡ a → (a ≡ true → b ≡ c) → list_any (is_same e) rest ≡ (if c then false else list_any (is_same e) ys)
+    by_tests : (a b c : Bool) → is_same e y ≡ a → (a ≡ true → b ≡ c)
+    → list_any (is_same e) rest ≡ (if c then false else list_any (is_same e) ys)
         → list_any (is_same e) (cond (not b) (y ∷ rest) rest) ≡ (if c then false else (a || list_any (is_same e) ys))
     by_tests a true true is h g = g
     by_tests true true false is h g = absurd (true≢false (h refl))
@@ -68,7 +71,8 @@ any_kept x e (y ∷ ys) = by_tests (is_same e y) (is_same x y) (is_same x e) ref
     by_tests a false false is h g = λ i. is i || g i
 
 -- the symbols that are named first, with one use more
-firsts_push : (xs : List Entry) (e : Entry) → firsts (xs ++ e ∷ []) ≡ (if list_any (is_same e) (firsts xs) then firsts xs else firsts xs ++ e ∷ [])
+firsts_push : (xs : List Entry) (e : Entry)
+    → firsts (xs ++ e ∷ []) ≡ (if list_any (is_same e) (firsts xs) then firsts xs else firsts xs ++ e ∷ [])
 firsts_push [] e = refl
 firsts_push (x ∷ xs) e =
     ap (λ (l : List Entry). x ∷ filter (λ f. not (is_same x f)) l) (firsts_push xs e)
@@ -102,7 +106,8 @@ pub words_more : (eq : Numbers → Numbers → Bool) (uses : List Entry) (e : En
     → ((a b : Numbers) → eq a b ≡ (a.object == b.object && a.number == b.number))
     → insert_key eq (map numbers_of (firsts uses)) (numbers_of e) ≡ map numbers_of (firsts (uses ++ e ∷ []))
 words_more eq uses e h =
-    ap (λ (b : Bool). if b then map numbers_of (firsts uses) else map numbers_of (firsts uses) ++ numbers_of e ∷ []) (any_numbers e (firsts uses) eq h)
+    ap (λ (b : Bool). if b then map numbers_of (firsts uses) else map numbers_of (firsts uses)
+    ++ numbers_of e ∷ []) (any_numbers e (firsts uses) eq h)
     ∙ by_test (list_any (is_same e) (firsts uses)) ∙ sym (ap (map numbers_of) (firsts_push uses e))
   where
     by_test : (b : Bool) → (if b then map numbers_of (firsts uses) else map numbers_of (firsts uses) ++ numbers_of e ∷ [])
@@ -117,7 +122,8 @@ none-numbers None h = refl
 none-numbers (Some x) h = absurd (none-some (numbers_of x) (sym h))
 
 -- a relocation that uses none
-pub uses_same : (f : Reloc → Option Entry) (uses : List Entry) (rs more : List Reloc) (r : Reloc) → more ≡ rs ++ r ∷ [] → option_map numbers_of (f r) ≡ None
+pub uses_same : (f : Reloc → Option Entry) (uses : List Entry) (rs more : List Reloc) (r : Reloc) → more ≡ rs ++ r ∷ []
+    → option_map numbers_of (f r) ≡ None
     → uses ++ filter_map f rs ≡ uses ++ filter_map f more
 uses_same f uses rs more r is none =
     sym (ap (λ (l : List Reloc). uses ++ filter_map f l) is ∙ ap (λ (l : List Entry). uses ++ l) (filter_map-append f rs (r ∷ [])
@@ -145,7 +151,8 @@ uses_one f uses rs more r n is some = by_case (f r) refl some
 
 -- ---- uses, object by object
 
-uses-append : (objects : List Object) (k : ℕ) (xs ys : List Object) → uses_from objects k (xs ++ ys) ≡ uses_from objects k xs ++ uses_from objects (k + length xs) ys
+uses-append : (objects : List Object) (k : ℕ) (xs ys : List Object) → uses_from objects k (xs ++ ys) ≡ uses_from objects k xs
+    ++ uses_from objects (k + length xs) ys
 uses-append objects k [] ys = let e : k ≡ k + 0 = omega arith in ap (λ (m : ℕ). uses_from objects m ys) e
 uses-append objects k (x ∷ xs) ys =
     let e : (k + 1) + length xs ≡ k + suc (length xs) = omega arith in
@@ -157,7 +164,8 @@ uses-append objects k (x ∷ xs) ys =
 pub uses_more : (objects os : List Object) (k : ℕ) (o : Object) → k < length os → o ≡ get_or os k o
     → uses_from objects 0 (take (k + 1) os) ≡ uses_from objects 0 (take k os) ++ filter_map (used_by objects k o.symbols) o.text_relocs
 uses_more objects os k o h is =
-    ap (uses_from objects 0) (take_more os k o h ∙ ap (λ (t : Object). take k os ++ t ∷ []) (sym is)) ∙ uses-append objects 0 (take k os) (o ∷ [])
+    ap (uses_from objects 0) (take_more os k o h ∙ ap (λ (t : Object). take k os ++ t ∷ []) (sym is))
+    ∙ uses-append objects 0 (take k os) (o ∷ [])
     ∙ ap (λ (m : ℕ). uses_from objects 0 (take k os) ++ (filter_map (used_by objects m o.symbols) o.text_relocs ++ []))
     (omega (arith, length-took os k (omega arith)))
     ∙ ap (λ (l : List Entry). uses_from objects 0 (take k os) ++ l) (append-nil (filter_map (used_by objects k o.symbols) o.text_relocs))

@@ -1,5 +1,7 @@
 -- Names that were seen, one symbol more.
-use Rattle.std.proofs.Common.{◌≡◌, ℕ, zero, suc, ◌+◌, ◌<◌, ◌≤◌, Bool, true, false, not, ◌&&◌, ◌||◌, List, [], ◌∷◌, ◌++◌, length, take, drop, find, cond, Option, Some, None, is_some, get_or, refl, sym, ap, subst, ◌∙◌, arith, append_assoc, drop-cons, add-one}
+use Rattle.std.proofs.Common.{◌≡◌, ℕ, zero, suc, ◌+◌, ◌<◌, ◌≤◌, Bool, true, false, not, ◌&&◌, ◌||◌, List, [], ◌∷◌, ◌++◌, length, take}
+use Rattle.std.proofs.Common.{drop, find, cond, Option, Some, None, is_some, get_or, refl, sym, ap, subst, ◌∙◌, arith, append_assoc}
+use Rattle.std.proofs.Common.{drop-cons, add-one}
 use Rattle.std.specs.Borrow.{Bor}
 use Rattle.std.specs.List.{list_any}
 use Rattle.std.specs.Option.{option_map, option_or}
@@ -16,7 +18,8 @@ use Rattle.linker.specs.Known.{numbers_of, Knows, is_known, is_unknown}
 
 -- ---- numbered symbols
 
-pub numbered-append : (k n : ℕ) (xs ys : List Symbol) → numbered_from k n (xs ++ ys) ≡ numbered_from k n xs ++ numbered_from k (n + length xs) ys
+pub numbered-append : (k n : ℕ) (xs ys : List Symbol) → numbered_from k n (xs ++ ys) ≡ numbered_from k n xs
+    ++ numbered_from k (n + length xs) ys
 numbered-append k n [] ys = let e : n ≡ n + 0 = omega arith in ap (λ (m : ℕ). numbered_from k m ys) e
 numbered-append k n (x ∷ xs) ys =
     let e : (n + 1) + length xs ≡ n + suc (length xs) = omega arith in
@@ -46,7 +49,8 @@ one_name name e h = (bytes_eq-Decides e.symbol.name name).0 (second (is_global e
     second false p = absurd (true≢false (sym p))
 
 -- one symbol more in a search, by what was found before
-found_more : (p : Entry → Bool) (xs : List Entry) (e : Entry) → (p e ≡ true → is_some (find p xs) ≡ true) → find p (xs ++ e ∷ []) ≡ find p xs
+found_more : (p : Entry → Bool) (xs : List Entry) (e : Entry) → (p e ≡ true → is_some (find p xs) ≡ true)
+    → find p (xs ++ e ∷ []) ≡ find p xs
 found_more p xs e h = find-append p xs (e ∷ []) ∙ chosen (find p xs) (p e) h
   where
     chosen : (o : Option Entry) (b : Bool) → (b ≡ true → is_some o ≡ true) → option_or o (cond b (Some e) None) ≡ o
@@ -92,7 +96,8 @@ pub knows_new : {S : Type 0} (m n : IndexMap (Bor (List ℕ)) Numbers S) (xs : L
 knows_new m n xs e global new updates knows name = updates name ∙ by_test (bytes_eq e.symbol.name name) refl
   where
     goal : Bool → Type 0
-    goal b = cond b (Some (numbers_of e)) (get_by (λ k. bytes_eq name k.now) m) ≡ option_map numbers_of (find (defines name) (xs ++ e ∷ []))
+    goal b = cond b (Some (numbers_of e)) (get_by (λ k. bytes_eq name k.now) m) ≡ option_map numbers_of
+    (find (defines name) (xs ++ e ∷ []))
 
     here : (b : Bool) → bytes_eq e.symbol.name name ≡ b → defines name e ≡ b
     here b is = ap (λ (g : Bool). g && bytes_eq e.symbol.name name) global ∙ is
@@ -108,7 +113,8 @@ knows_new m n xs e global new updates knows name = updates name ∙ by_test (byt
         let fresh : is_some (find (defines name) xs) ≡ false = subst P same (sym (knows_has m xs e.symbol.name knows) ∙ new) in
         let found : find (defines name) (xs ++ e ∷ []) ≡ Some e =
         find-append (defines name) xs (e ∷ [])
-        ∙ ap (λ (b : Bool). option_or (find (defines name) xs) (cond b (Some e) None)) (here true is) ∙ none (find (defines name) xs) fresh in
+        ∙ ap (λ (b : Bool). option_or (find (defines name) xs) (cond b (Some e) None)) (here true is)
+        ∙ none (find (defines name) xs) fresh in
         sym (ap (option_map numbers_of) found)
     by_test false is =
         knows name ∙ sym (ap (option_map numbers_of)
@@ -137,14 +143,16 @@ any_found p (x ∷ xs) = by_test (p x) (any_found p xs)
 
 -- whether it is one
 pub known_is : {S : Type 0} (m : IndexMap (Bor (List ℕ)) Numbers S) (seen : List Entry) (s : Symbol) (name : List ℕ) (global there : Bool)
-    → Knows m seen → name ≡ s.name → global ≡ is_global s → there ≡ is_some (get_by (λ k. bytes_eq name k.now) m) → (global && there) ≡ is_known seen s
+    → Knows m seen → name ≡ s.name → global ≡ is_global s → there ≡ is_some (get_by (λ k. bytes_eq name k.now) m)
+    → (global && there) ≡ is_known seen s
 known_is m seen s name global there knows is g t =
     let known : there ≡ list_any (defines s.name) seen =
     t ∙ knows_has m seen name knows ∙ any_found (defines name) seen ∙ ap (λ (n : List ℕ). list_any (defines n) seen) is in
     λ i. g i && known i
 
 -- the first of those that are left, where it is one
-pub first_here : (p : Symbol → Bool) (ss : List Symbol) (i : ℕ) (s : Symbol) → i < length ss → s ≡ get_or ss i s → p s ≡ true → find p (drop i ss) ≡ Some s
+pub first_here : (p : Symbol → Bool) (ss : List Symbol) (i : ℕ) (s : Symbol) → i < length ss → s ≡ get_or ss i s → p s ≡ true
+    → find p (drop i ss) ≡ Some s
 first_here p ss i s h is there =
     ap (find p) (left_is ss i s h is) ∙ ap (λ (b : Bool). cond b (Some s) (find p (drop (i + 1) ss))) there
 
@@ -157,7 +165,8 @@ first_later p ss i s h is not =
 -- ---- a symbol whose name is not there
 
 -- whether it is one
-pub unknown_is : {S : Type 0} (m : IndexMap (Bor (List ℕ)) Numbers S) (seen : List Entry) (s : Symbol) (name : List ℕ) (defined there : Bool)
+pub unknown_is : {S : Type 0} (m : IndexMap (Bor (List ℕ)) Numbers S) (seen : List Entry) (s : Symbol) (name : List ℕ)
+    (defined there : Bool)
     → Knows m seen → name ≡ s.name → defined ≡ is_defined s.home → there ≡ is_some (get_by (λ k. bytes_eq name k.now) m)
     → (not defined && not there) ≡ is_unknown seen s
 unknown_is m seen s name defined there knows is d t =

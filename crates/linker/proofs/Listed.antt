@@ -1,16 +1,18 @@
 -- What a symbol of all objects is, by its numbers.
-use Rattle.std.proofs.Common.{◌≡◌, ℕ, suc, ◌+◌, ◌<◌, Bool, true, false, List, [], ◌∷◌, find, cond, Option, Some, None, slice_get, get_or, length, refl, sym, ap, subst, ◌∙◌, arith}
+use Rattle.std.proofs.Common.{◌≡◌, ℕ, pos, suc, ◌+◌, ◌<◌, Bool, true, false, List, [], ◌∷◌, find, cond, Option, Some, None, slice_get}
+use Rattle.std.proofs.Common.{get_or, length, refl, sym, ap, subst, ◌∙◌, arith}
 use Rattle.std.specs.Option.{option_or, option_map}
 use Rattle.std.proofs.lemmas.List.{length-map, get_or-map}
 use Rattle.std.proofs.lemmas.List.Folds.{find-append}
 use Rattle.std.proofs.lemmas.Option.{none-some, same_Some, slice_get-get_or}
+use Rattle.mt_base.specs.Wrapping.{wrap}
 use Rattle.elf_obj.specs.declared.parts.ObjectParts.{ObjectParts}
 use Rattle.elf_obj.specs.declared.parts.Symbol.{Symbol}
 use Rattle.elf_obj.specs.Object.{Object, object_of}
 use Rattle.linker.specs.declared.names.Numbers.{Numbers}
 use Rattle.linker.specs.declared.bases.Bases.{Bases}
-use Rattle.linker.specs.Names.{Entry, entry, numbered_from, entries_from, is_defined, defines, definition, stands_for, target}
-use Rattle.linker.specs.Addresses.{entry_address, address}
+use Rattle.linker.specs.Names.{Entry, entry, numbered_from, entries_from, is_defined, defines, definition, stands_for, target, main_name}
+use Rattle.linker.specs.Addresses.{entry_address, address, plus}
 use Rattle.linker.specs.Known.{objects_of, numbers_of, number_address_in, number_address}
 
 -- the symbol of these numbers is that of the entry
@@ -81,11 +83,13 @@ definition_listed os name e h =
     record { object = r.object; there = subst P (sym at) r.there; symbol = r.symbol }
 
 -- what a symbol of an object stands for is listed
-pub target_listed : (os : List Object) (k number : ℕ) (o : Object) (e : Entry) → slice_get os k ≡ Some o → target os k o.symbols number ≡ Some e
+pub target_listed : (os : List Object) (k number : ℕ) (o : Object) (e : Entry) → slice_get os k ≡ Some o
+    → target os k o.symbols number ≡ Some e
     → IsListed os e
 target_listed os k number o e there h = by_case (slice_get o.symbols number) refl h
   where
-    by_test : (s : Symbol) → slice_get o.symbols number ≡ Some s → (b : Bool) → cond b (Some (entry k number s)) (definition os s.name) ≡ Some e → IsListed os e
+    by_test : (s : Symbol) → slice_get o.symbols number ≡ Some s → (b : Bool)
+    → cond b (Some (entry k number s)) (definition os s.name) ≡ Some e → IsListed os e
     by_test s is true g =
         let P : Entry → Type 0 = IsListed os in
         subst P (same_Some (entry k number s) e g) (record { object = o; there = there; symbol = is })
@@ -97,7 +101,8 @@ target_listed os k number o e there h = by_case (slice_get o.symbols number) ref
     by_case (Some s) is g = by_test s is (is_defined s.home) g
 
 -- the address by its numbers is that of the symbol
-pub listed_address : (os : List Object) (bases : Bases) (e : Entry) → IsListed os e → number_address os bases (numbers_of e) ≡ entry_address os bases e
+pub listed_address : (os : List Object) (bases : Bases) (e : Entry) → IsListed os e
+    → number_address os bases (numbers_of e) ≡ entry_address os bases e
 unfolding number_address
 listed_address os bases e r =
     ap (number_address_in os bases (numbers_of e)) r.there
@@ -111,7 +116,8 @@ pub record Told (os : List Object) (k number : ℕ) (o : Object) (n : Numbers) :
   pub is : target os k o.symbols number ≡ Some entry
   pub numbers : numbers_of entry ≡ n
 
-pub told : (os : List Object) (k number : ℕ) (o : Object) (n : Numbers) → option_map numbers_of (target os k o.symbols number) ≡ Some n → Told os k number o n
+pub told : (os : List Object) (k number : ℕ) (o : Object) (n : Numbers) → option_map numbers_of (target os k o.symbols number) ≡ Some n
+    → Told os k number o n
 told os k number o n h = by_case (target os k o.symbols number) refl h
   where
     by_case : (x : Option Entry) → target os k o.symbols number ≡ x → option_map numbers_of x ≡ Some n → Told os k number o n
@@ -128,7 +134,8 @@ told_none os k number o h = by_case (target os k o.symbols number) h
 
 -- its address
 pub told_address : (os : List Object) (bases : Bases) (k number : ℕ) (o : Object) (n : Numbers) → slice_get os k ≡ Some o
-    → option_map numbers_of (target os k o.symbols number) ≡ Some n → number_address os bases n ≡ address os bases (target os k o.symbols number)
+    → option_map numbers_of (target os k o.symbols number) ≡ Some n
+    → number_address os bases n ≡ address os bases (target os k o.symbols number)
 told_address os bases k number o n there h =
     let t : Told os k number o n = told os k number o n h in
     ap (number_address os bases) (sym t.numbers) ∙ listed_address os bases t.entry (target_listed os k number o t.entry there t.is)
@@ -136,9 +143,34 @@ told_address os bases k number o n there h =
 
 -- ---- the object of parts
 
-pub object_is : (parts : List ObjectParts) (k : ℕ) (o : Object) (d : ObjectParts) → k < length parts → slice_get (objects_of parts) k ≡ Some o
+pub object_is : (parts : List ObjectParts) (k : ℕ) (o : Object) (d : ObjectParts) → k < length parts
+    → slice_get (objects_of parts) k ≡ Some o
     → object_of (get_or parts k d) ≡ o
 object_is parts k o d h there =
     let within : k < length (objects_of parts) = omega (arith, h, length-map parts object_of) in
     same_Some (object_of (get_or parts k d)) o
-    (ap Some (sym (get_or-map object_of parts k d (object_of d) h)) ∙ sym (slice_get-get_or (objects_of parts) k (object_of d) within) ∙ there)
+    (ap Some (sym (get_or-map object_of parts k d (object_of d) h)) ∙ sym (slice_get-get_or (objects_of parts) k (object_of d) within)
+    ∙ there)
+
+-- ---- `main`
+
+pub main_sum : (os : List Object) (bases : Bases) (n : Numbers) → option_map numbers_of (definition os main_name) ≡ Some n
+    → wrap 64 (number_address os bases n) ≡ plus (address os bases (definition os main_name)) (pos 0)
+main_sum os bases n h = by_case (definition os main_name) refl h
+  where
+    by_case : (x : Option Entry) → definition os main_name ≡ x → option_map numbers_of x ≡ Some n
+        → wrap 64 (number_address os bases n) ≡ plus (address os bases x) (pos 0)
+    by_case None is g = absurd (none-some n g)
+    by_case (Some e) is g =
+        let same : number_address os bases n ≡ entry_address os bases e =
+        ap (number_address os bases) (sym (same_Some (numbers_of e) n g))
+        ∙ listed_address os bases e (definition_listed os main_name e is) in
+        ap (wrap 64) same ∙ omega arith
+
+pub no_main_sum : (os : List Object) (bases : Bases) → option_map numbers_of (definition os main_name) ≡ None
+    → 0 ≡ plus (address os bases (definition os main_name)) (pos 0)
+no_main_sum os bases h = by_case (definition os main_name) h
+  where
+    by_case : (x : Option Entry) → option_map numbers_of x ≡ None → 0 ≡ plus (address os bases x) (pos 0)
+    by_case None g = refl
+    by_case (Some e) g = absurd (none-some (numbers_of e) (sym g))

@@ -1,5 +1,6 @@
 -- The instructions of an object, with their fields relocated one after the other, from the last relocation on.
-use Rattle.std.proofs.Common.{◌≡◌, ℕ, ◌+◌, ◌-◌, ◌*◌, ◌/◌, ◌%◌, ◌<◌, ◌≤◌, ◌==◌, Bool, List, [], ◌∷◌, set, length, get_or, drop, find, cond, Some, refl, sym, ap, ◌∙◌, arith, inl, inr}
+use Rattle.std.proofs.Common.{◌≡◌, ℕ, ◌+◌, ◌-◌, ◌*◌, ◌/◌, ◌%◌, ◌<◌, ◌≤◌, ◌==◌, Bool, List, [], ◌∷◌, set, length, get_or, drop, find, cond}
+use Rattle.std.proofs.Common.{Some, refl, sym, ap, ◌∙◌, arith, inl, inr}
 use Rattle.std.proofs.lemmas.Bool.{cases_lt, eq-eqb, ne_eqb}
 use Rattle.std.proofs.lemmas.List.{drop_all, get_or_default}
 use Rattle.elf_obj.specs.declared.parts.Reloc.{Reloc}
@@ -28,7 +29,8 @@ words_first os bases k o rs ws =
 
 -- with one more
 one_more : (os : List Object) (bases : Bases) (k : ℕ) (o : Object) (r : Reloc) (rest : List Reloc) (ws before after : List ℕ)
-    → before ≡ each_from 0 (word_by os bases k o rest) ws → Relocates os bases k o r ws before after → after ≡ each_from 0 (word_by os bases k o (r ∷ rest)) ws
+    → before ≡ each_from 0 (word_by os bases k o rest) ws → Relocates os bases k o r ws before after
+    → after ≡ each_from 0 (word_by os bases k o (r ∷ rest)) ws
 one_more os bases k o r rest ws before after so_far h =
     elim (cases_lt (r.offset / 4) (length ws)) [
       | inl lt ↦ elim (cases_lt (4 * (r.offset / 4)) r.offset) [
@@ -46,7 +48,8 @@ one_more os bases k o r rest ws before after so_far h =
 
     other : (i w : ℕ) → (r.offset ≡ 4 * i → ⊥) → f i w ≡ g i w
     other i w ne =
-        sym (ap (λ (b : Bool). word_with os bases k o (cond b (Some r) (find (λ r. r.offset == 4 * i) rest)) w) (ne_eqb r.offset (4 * i) ne))
+        sym (ap (λ (b : Bool). word_with os bases k o (cond b (Some r) (find (λ r. r.offset == 4 * i) rest)) w)
+        (ne_eqb r.offset (4 * i) ne))
 
     nowhere : ((i : ℕ) → i < length ws → r.offset ≡ 4 * i → ⊥) → after ≡ each_from 0 g ws
     nowhere none = h.nowhere none ∙ so_far ∙ each_alike 0 f g ws (λ i w in_. other (0 + i) w (λ e. none i in_ (omega arith)))
@@ -60,7 +63,8 @@ one_more os bases k o r rest ws before after so_far h =
         h.here j lt is ∙ (λ i. set (so_far i) j (at i))
         ∙ each_set 0 j f g ws 0 lt (λ i w in_ ne. other (0 + i) w (λ e. ne (omega (arith, e, is))))
 
-pub words_more : (os : List Object) (bases : Bases) (k : ℕ) (o : Object) (rs : List Reloc) (left : ℕ) (d : Reloc) (ws before after : List ℕ)
+pub words_more : (os : List Object) (bases : Bases) (k : ℕ) (o : Object) (rs : List Reloc) (left : ℕ) (d : Reloc)
+    (ws before after : List ℕ)
     → 0 < left → left ≤ length rs → before ≡ each_from 0 (word_by os bases k o (drop left rs)) ws
     → Relocates os bases k o (get_or rs (left - 1) d) ws before after → after ≡ each_from 0 (word_by os bases k o (drop (left - 1) rs)) ws
 words_more os bases k o rs left d ws before after some le so_far h =
@@ -76,7 +80,8 @@ words_more os bases k o rs left d ws before after some le so_far h =
 -- the word at one place was relocated
 pub relocates_at : (os : List Object) (bases : Bases) (k : ℕ) (o : Object) (r : Reloc) (ws before after : List ℕ) → r.offset % 4 ≡ 0
     → r.offset / 4 < length ws
-    → after ≡ set before (r.offset / 4) (relocated (site os bases k o r) (get_or ws (r.offset / 4) 0)) → Relocates os bases k o r ws before after
+    → after ≡ set before (r.offset / 4) (relocated (site os bases k o r) (get_or ws (r.offset / 4) 0))
+    → Relocates os bases k o r ws before after
 relocates_at os bases k o r ws before after whole lt is = record {
   here = λ i in_ e.
       let same : r.offset / 4 ≡ i = omega arith in

@@ -1,5 +1,5 @@
 -- The code of an image: two words that call `main` and end the run, and the instructions of the objects with their fields relocated.
-use Rattle.std.specs.Prelude.{ℕ, ◌+◌, ◌*◌, ◌==◌, List, [], ◌∷◌, Option, Some, None}
+use Rattle.std.specs.Prelude.{ℕ, pos, ◌+◌, ◌*◌, ◌==◌, List, [], ◌∷◌, Option, Some, None}
 use Rattle.std.specs.List.{find}
 use Rattle.elf_base.specs.Layout.{Piece, piece}
 use Rattle.elf_obj.specs.declared.parts.Reloc.{Reloc}
@@ -33,8 +33,8 @@ object_words objects bases k o =
 -- `bl main`, at the start of the code, by the field of R_AARCH64_CALL26
 abbrev pub call_main : List Object → Bases → ℕ
 call_main objects bases =
-    relocated (record { kind = 283; place = bases.code; sum = address objects bases (definition objects main_name); got = 0 })
-    0x94000000
+    let main = address objects bases (definition objects main_name) in
+    relocated (record { kind = 283; place = bases.code; sum = plus main (pos 0); got = 0 }) 0x94000000
 
 -- `svc #3`, which ends the run with the status in X0 (this project's own)
 abbrev pub end_run : ℕ

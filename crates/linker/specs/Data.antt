@@ -1,5 +1,6 @@
 -- The data of an image: what is only read, the filled bytes with the table before them, and the zero bytes.
-use Rattle.std.specs.Prelude.{ℕ, ◌+◌, ◌-◌, ℤ, pos, negsuc, Bool, ◌&&◌, nat_le, nat_lt, List, map, Option, Some, None, slice_index, if◌then◌else◌}
+use Rattle.std.specs.Prelude.{ℕ, ◌+◌, ◌-◌, ℤ, pos, negsuc, Bool, ◌&&◌, nat_le, nat_lt, List, map, Option, Some, None, slice_index}
+use Rattle.std.specs.Prelude.{if◌then◌else◌}
 use Rattle.std.specs.List.{find}
 use Rattle.byteorder.specs.Endian.{little_bytes}
 use Rattle.mt_base.specs.Granules.{round16}
@@ -21,8 +22,8 @@ rodata_size objects = ends 16 0 (rodata_sizes objects)
 
 -- ---- places that hold addresses
 
--- What such a place holds in the file, by the size of its symbol and the addend: nothing where the addend leads into the symbol's object,
--- and else the negative of the addend in 64 bits. Start-up adds it to the address to find the tag (this project's own, after the Memtag ABI).
+-- What such a place holds in the file, by the size of its symbol and the addend: 0 where the addend leads into the symbol's object, and
+-- else the negative of the addend in 64 bits, by which start-up finds the object's tag (this project's own, after the Memtag ABI).
 abbrev pub place_content : ℕ → ℤ → ℕ
 place_content size (pos a) = if nat_lt a size then 0 else wrapping_sub 64 0 a
 place_content size (negsuc a) = a + 1

@@ -29,8 +29,8 @@ with_low_of_8 x word = with_bits 10 12 (x % 4096 / 8) word
 unfoldable pub with_distance : ℕ → ℕ → ℕ → ℕ
 with_distance x place word = with_bits 0 26 (wrapping_sub 64 x place / 4) word
 
--- The word of an instruction with its field, by the kind of the relocation at its place P: S + A is the sum of the symbol's address and the addend, G
--- the address of the symbol's word in the table. ADR_PREL_PG_HI21 (275), ADD_ABS_LO12_NC (277), JUMP26 (282),
+-- The word of an instruction with its field, by the kind of the relocation at its place P: S + A is the sum of the symbol's address and
+-- the addend, G the address of the symbol's word in the table. The kinds are ADR_PREL_PG_HI21 (275), ADD_ABS_LO12_NC (277), JUMP26 (282),
 -- CALL26 (283), ADR_GOT_PAGE (311), LD64_GOT_LO12_NC (312)
 abbrev pub relocated : Site → ℕ → ℕ
 relocated s word =

@@ -7,3 +7,4 @@ pub mod OneOrder
 pub mod OneImage
 pub mod Growth
 pub mod Places
+pub mod LaidLaws

@@ -1,5 +1,6 @@
 -- Why objects have no image: the first of these conditions that holds (this project's own).
-use Rattle.std.specs.Prelude.{◌≡◌, ℕ, ◌*◌, ◌<◌, ◌≤◌, min, Bool, true, false, not, ◌&&◌, nat_lt, List, Option, Some, None, length, if◌then◌else◌}
+use Rattle.std.specs.Prelude.{◌≡◌, ℕ, ◌*◌, ◌<◌, ◌≤◌, min, Bool, true, false, not, ◌&&◌, nat_lt, List, Option, Some, None, length}
+use Rattle.std.specs.Prelude.{if◌then◌else◌}
 use Rattle.std.specs.List.{find, list_any}
 use Rattle.elf_obj.specs.Object.{Object}
 use Rattle.elf_image.specs.Image.{Image}
@@ -64,8 +65,8 @@ pub record AreBound (objects : List Object) : Type 0 where
   pub main : has_main objects ≡ true
   pub defined : first_missing objects ≡ None
 
--- the first condition that holds of the objects, in this order; the size judged is that of the image whose descriptors have the fewest bytes
--- that agree with themselves
+-- the first condition that holds of the objects, in this order; the size judged is that of the image whose descriptors have the fewest
+-- bytes that agree with themselves
 pub data LinkFault (objects : List Object) : LinkRefusal → Type 0 where
   too_many : object_limit < length objects → LinkFault objects (TooManyObjects (length objects))
   repeated : (e : Entry) → length objects ≤ object_limit → first_repeated objects ≡ Some e → LinkFault objects (Duplicate e.symbol.name)

@@ -21,8 +21,8 @@ pub record HasDescriptors (objects : List Object) (image : Image) : Type 0 where
   pub described : Describes intervals image.descriptors
   pub fewest : (count : ℕ) → Agrees objects count → length image.descriptors ≤ count
 
--- The image is that of the objects, which are refused by no condition. It starts with the first word of its code. Each section has its place,
--- and what lies there is the object's, but for the fields of relocations. Between the sections are zeros.
+-- The image is that of the objects, which are refused by no condition. It starts with the first word of its code. Each section has its
+-- place, and what lies there is the object's, but for the fields of relocations. Between the sections are zeros.
 pub record Linked (objects : List Object) (image : Image) : Type 0 where
   pub accepted : (refusal : LinkRefusal) → LinkFault objects refusal → ⊥
   pub entry : image.entry ≡ code_place image

@@ -20,5 +20,6 @@ pub record IsReady (l : Link) : Type 0 where
 
 -- the word at the place of a relocation was relocated, where an instruction begins there
 pub record Relocates (objects : List Object) (bases : Bases) (k : ℕ) (o : Object) (r : Reloc) (words before after : List ℕ) : Type 0 where
-  pub here : (i : ℕ) → i < length words → r.offset ≡ 4 * i → after ≡ slice_set before i (relocated (site objects bases k o r) (slice_index words i))
+  pub here : (i : ℕ) → i < length words → r.offset ≡ 4 * i
+      → after ≡ slice_set before i (relocated (site objects bases k o r) (slice_index words i))
   pub nowhere : ((i : ℕ) → i < length words → r.offset ≡ 4 * i → ⊥) → after ≡ before

@@ -1,4 +1,5 @@
--- Where the sections of one kind lie: in the order of the objects, each at the next multiple of a unit, with zeros between (this project's own).
+-- Where the sections of one kind lie: in the order of the objects, each at the next multiple of a unit, with zeros between (this
+-- project's own).
 use Rattle.std.specs.Prelude.{ℕ, ◌+◌, ◌-◌, ◌*◌, ◌/◌, List, [], ◌∷◌, length, map}
 use Rattle.elf_base.specs.Layout.{Piece, piece}
 use Rattle.elf_obj.specs.Object.{Object}

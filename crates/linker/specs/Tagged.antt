@@ -1,5 +1,6 @@
 -- The intervals of the tagged objects of an image, and how many bytes describe them (after the Memtag ABI).
-use Rattle.std.specs.Prelude.{◌≡◌, ℕ, ◌+◌, ◌-◌, ◌*◌, ◌≤◌, List, [], ◌∷◌, ◌++◌, replicate, filter_map, length, slice_get, IsPermutation, IsSortedByKey}
+use Rattle.std.specs.Prelude.{◌≡◌, ℕ, ◌+◌, ◌-◌, ◌*◌, ◌≤◌, List, [], ◌∷◌, ◌++◌, replicate, filter_map, length, slice_get, IsPermutation}
+use Rattle.std.specs.Prelude.{IsSortedByKey}
 use Rattle.std.specs.Option.{option_map}
 use Rattle.std.specs.Ordering.{nat_cmp}
 use Rattle.elf_obj.specs.declared.parts.Symbol.{Symbol}
@@ -37,7 +38,8 @@ pub record AreTagged (objects : List Object) (bases : Bases) (intervals : List I
 
 -- one descriptor of a distance and a size in granules, in the form of `IsDescriptor`, whose numbers may have any number of bytes
 pub data SpellsOne : ℕ → ℕ → List ℕ → Type 0 where
-  small : (distance size : ℕ) (bytes : List ℕ) → 1 ≤ size → size ≤ 7 → IsShortest (8 * distance + size) bytes → SpellsOne distance size bytes
+  small : (distance size : ℕ) (bytes : List ℕ) → 1 ≤ size → size ≤ 7 → IsShortest (8 * distance + size) bytes
+  → SpellsOne distance size bytes
   large : (distance size : ℕ) (first second : List ℕ) → 8 ≤ size → IsShortest (8 * distance) first → IsShortest (size - 1) second
       → SpellsOne distance size (first ++ second)
 

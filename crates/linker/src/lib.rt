@@ -2,12 +2,14 @@
 #![tactic(auto)]
 
 mod bases;
+mod code;
 mod fields;
 mod layout;
 mod lengths;
 mod names;
 mod refusal;
 mod relocate;
+mod rodata;
 mod table;
 mod totals;
 

@@ -1,5 +1,5 @@
--- Two objects that are linked by hand: `main`, which calls `twice` and uses `shared` through the table, and `twice` beside `shared`, a pointer to the
--- end of `shared`, and a local symbol.
+-- Two objects that are linked by hand: `main`, which calls `twice` and uses `shared` through the table, and `twice` beside `shared`, a
+-- pointer to the end of `shared`, and a local symbol.
 use Rattle.std.proofs.Common.{◌≡◌, ℕ, pos, true, false, Some, None, List, [], ◌∷◌, refl}
 use Rattle.std.specs.Prelude.{codes, replicate}
 use Rattle.elf_obj.specs.declared.parts.Symbol.{Symbol}
@@ -59,7 +59,10 @@ second = record {
   zero_bytes = 48;
   symbols = own_symbol ∷ twice_symbol ∷ shared_symbol ∷ [];
   text_relocs = [];
-  init_relocs = record { offset = 8; kind = 257; symbol = 2; addend = pos 16 } ∷ record { offset = 24; kind = 257; symbol = 0; addend = pos 8 } ∷ [];
+  init_relocs =
+      record { offset = 8; kind = 257; symbol = 2; addend = pos 16 }
+      ∷ record { offset = 24; kind = 257; symbol = 0; addend = pos 8 }
+      ∷ [];
   tagged = 0 ∷ 2 ∷ [];
 }
 
@@ -120,7 +123,10 @@ at = record { rodata = 0x190; code = 0x1000; filled = 0x20d0; zeros = 0x2100 }
 
 -- bl main; svc #3; then the first object from 0x1010 on and the second from 0x1020 on, where `twice` is at 0x1024
 the_code : code_pieces both at
-    ≡ piece 0 (0x94000004 ∷ 0xd4000061 ∷ []) ∷ piece 4 (0x94000005 ∷ 0xb0000001 ∷ 0xf9406821 ∷ []) ∷ piece 8 (0xd65f03c0 ∷ 0xd65f03c0 ∷ []) ∷ []
+    ≡ piece 0 (0x94000004 ∷ 0xd4000061 ∷ [])
+      ∷ piece 4 (0x94000005 ∷ 0xb0000001 ∷ 0xf9406821 ∷ [])
+      ∷ piece 8 (0xd65f03c0 ∷ 0xd65f03c0 ∷ [])
+      ∷ []
 unfolding got with_page with_low_of_8 with_distance
 the_code = refl
 
@@ -144,6 +150,7 @@ the_tagged = refl
 
 -- an image of these sizes, with three bytes of descriptors, has these places
 the_places : bases_of (sized both 3) ≡ at
-unfolding sized got places.rodata_place places.code_place places.filled_place places.file_end places.descriptors_place places.rodata_end places.dynamic_end
+unfolding sized got places.rodata_place places.code_place places.filled_place places.file_end places.descriptors_place
+    places.rodata_end places.dynamic_end
     places.dynamic_place places.code_end
 the_places = refl

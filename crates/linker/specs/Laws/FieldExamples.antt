@@ -1,5 +1,5 @@
--- Fields as GNU ld 2.40 relocates them. The instructions lie from 0x123450 and from 0x7f23450 on, `thing` is at 0x20005678, its word of the
--- table at 0x13ffe0, and `low` at 0x4000.
+-- Fields as GNU ld 2.40 relocates them. The instructions lie from 0x123450 and from 0x7f23450 on, `thing` is at 0x20005678, its word of
+-- the table at 0x13ffe0, and `low` at 0x4000.
 use Rattle.std.proofs.Common.{◌≡◌, refl}
 use Rattle.linker.specs.Fields.{with_page, with_low, with_low_of_8, with_distance, relocated}
 

@@ -12,7 +12,8 @@ longer_number n a (more low high rest lt some s) m b (more low2 high2 rest2 lt2 
     let tail = longer_number high rest s high2 rest2 s2 (omega arith) in omega arith
 
 -- a descriptor of the same size at a greater distance is no shorter
-pub longer_descriptor : (d size : ℕ) (a : List ℕ) → SpellsOne d size a → (e : ℕ) (b : List ℕ) → SpellsOne e size b → d ≤ e → length a ≤ length b
+pub longer_descriptor : (d size : ℕ) (a : List ℕ) → SpellsOne d size a → (e : ℕ) (b : List ℕ) → SpellsOne e size b → d ≤ e
+    → length a ≤ length b
 longer_descriptor d size a (small _ _ _ some few n) e b (small _ _ _ some2 few2 m) le =
     longer_number (8 * d + size) a n (8 * e + size) b m (omega arith)
 longer_descriptor d size a (small _ _ _ some few n) e b (large _ _ first second many m k) le = absurd (omega arith)

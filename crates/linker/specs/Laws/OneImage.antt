@@ -12,7 +12,8 @@ use Rattle.linker.specs.Addresses.{bases_of}
 use Rattle.linker.specs.Code.{code_pieces, code_words}
 use Rattle.linker.specs.Data.{rodata_pieces, rodata_size, filled_pieces, filled_size}
 use Rattle.linker.specs.Relocations.{relocations}
-use Rattle.linker.specs.Tagged.{SpellsOne, small as spells_small, large as spells_large, SpellsFrom, nothing as spells_nothing, next as spells_next}
+use Rattle.linker.specs.Tagged.{SpellsOne, small as spells_small, large as spells_large, SpellsFrom, nothing as spells_nothing}
+use Rattle.linker.specs.Tagged.{next as spells_next}
 use Rattle.linker.specs.Tagged.{AreTagged, tagged_from, sized, Agrees}
 use Rattle.linker.specs.Linked.{Linked}
 use Rattle.linker.specs.Laws.Sizes.{linked_bases}
@@ -25,7 +26,8 @@ spells_one distance size bytes (small _ _ _ some few n) = spells_small distance 
 spells_one distance size bytes (large _ _ first second many n m) = spells_large distance size first second many n.shortest m.shortest
 
 -- what describes intervals describes them without bounds
-pub described_spells : (from : ℕ) (intervals : List Interval) (bytes : List ℕ) → DescribesFrom from intervals bytes → SpellsFrom from intervals bytes
+pub described_spells : (from : ℕ) (intervals : List Interval) (bytes : List ℕ) → DescribesFrom from intervals bytes
+    → SpellsFrom from intervals bytes
 described_spells from intervals bytes (nothing _) = spells_nothing from
 described_spells from intervals bytes (next _ d n others first rest one le s) =
     spells_next from d n others first rest (spells_one d n first one) (described_spells _ others rest s)

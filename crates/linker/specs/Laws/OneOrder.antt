@@ -43,7 +43,8 @@ all_after at from p (x ∷ xs) lt h =
     let here = h.0 in rw (lt-ltb at x.start (omega arith)) (ap (λ (b : Bool). p x || b) (all_after at from p xs lt h.1))
 
 -- the first interval of the one list begins no later than that of the other
-no_later : (x y : Interval) (xs ys : List Interval) (from : ℕ) → x.start ≤ from → AreBehind from xs → PassAlike (x ∷ xs) (y ∷ ys) → x.start ≤ y.start
+no_later : (x y : Interval) (xs ys : List Interval) (from : ℕ) → x.start ≤ from → AreBehind from xs → PassAlike (x ∷ xs) (y ∷ ys)
+    → x.start ≤ y.start
 no_later x y xs ys from le h alike =
     let none : list_any (λ i. nat_lt i.start x.start) (x ∷ xs) ≡ false =
     rw (le-ltb x.start x.start (omega arith)) (none_before x.start from xs le h) in
@@ -95,7 +96,8 @@ alike_same from other (x ∷ xs) (y ∷ ys) h g alike =
     λ i. record { start = starts i; bytes = bytes i } ∷ rest i
 
 -- lists that have descriptions and the same intervals are equal
-pub one_order : (all xs ys : List Interval) (a b : List ℕ) → IsPermutation all xs → IsPermutation all ys → Describes xs a → Describes ys b → xs ≡ ys
+pub one_order : (all xs ys : List Interval) (a b : List ℕ) → IsPermutation all xs → IsPermutation all ys → Describes xs a
+    → Describes ys b → xs ≡ ys
 one_order all xs ys a b h g d e =
     alike_same 0 0 xs ys (have_description xs a d) (have_description ys b e)
     (λ p. sym (list_any-IsPermutation p all xs h) ∙ list_any-IsPermutation p all ys g)

@@ -2,7 +2,8 @@
 use Rattle.std.proofs.Common.{◌≡◌, ℕ, zero, suc, List, replicate, refl}
 use Rattle.std.proofs.lemmas.List.{length-replicate}
 use Rattle.elf_obj.specs.Object.{Object}
-use Rattle.elf_image.specs.Places.{descriptors_place, rodata_place, rodata_end, code_place, code_end, dynamic_place, dynamic_count, dynamic_end}
+use Rattle.elf_image.specs.Places.{descriptors_place, rodata_place, rodata_end, code_place, code_end, dynamic_place, dynamic_count}
+use Rattle.elf_image.specs.Places.{dynamic_end}
 use Rattle.elf_image.specs.Places.{filled_place, file_end, memory_end}
 use Rattle.linker.specs.Relocations.{relative, relocation_count}
 use Rattle.linker.specs.Code.{code_words}

@@ -3,7 +3,8 @@ use Rattle.std.proofs.Common.{◌≡◌, ℕ, suc, ◌+◌, List, [], ◌∷◌,
 use Rattle.std.proofs.lemmas.List.{length-replicate, length-map}
 use Rattle.elf_obj.specs.Object.{Object}
 use Rattle.elf_image.specs.Image.{Image}
-use Rattle.elf_image.specs.Places.{descriptors_place, rodata_place, rodata_end, code_place, code_end, dynamic_place, dynamic_count, dynamic_end}
+use Rattle.elf_image.specs.Places.{descriptors_place, rodata_place, rodata_end, code_place, code_end, dynamic_place, dynamic_count}
+use Rattle.elf_image.specs.Places.{dynamic_end}
 use Rattle.elf_image.specs.Places.{filled_place, file_end, memory_end}
 use Rattle.linker.specs.declared.bases.Bases.{Bases}
 use Rattle.linker.specs.Sections.{each_from}
@@ -69,7 +70,8 @@ pub length-each_from : {A B : Type 0} (k : ℕ) (f : ℕ → A → B) (xs : List
 length-each_from k f [] = refl
 length-each_from {A} {B} k f (x ∷ xs) = ap suc (length-each_from (k + 1) f xs)
 
-length-data_relocs : (objects : List Object) (bases : Bases) (k : ℕ) (os : List Object) → length (data_relocs_from objects bases k os) ≡ data_reloc_count os
+length-data_relocs : (objects : List Object) (bases : Bases) (k : ℕ) (os : List Object)
+    → length (data_relocs_from objects bases k os) ≡ data_reloc_count os
 length-data_relocs objects bases k [] = refl
 length-data_relocs objects bases k (o ∷ os) =
     let front = map (data_reloc objects bases k o) o.init_relocs in
@@ -92,7 +94,8 @@ length-relocations objects bases =
 -- ---- the image of objects
 
 -- it is as large as they make it
-pub linked_sizes : (objects : List Object) (image : Image) → Linked objects image → AreAsLarge image (sized objects (length image.descriptors))
+pub linked_sizes : (objects : List Object) (image : Image) → Linked objects image
+    → AreAsLarge image (sized objects (length image.descriptors))
 unfolding sized
 linked_sizes objects image h =
     let count = length image.descriptors in record {
@@ -105,5 +108,6 @@ linked_sizes objects image h =
     }
 
 -- and has the places to which the length of its descriptors leads
-pub linked_bases : (objects : List Object) (image : Image) → Linked objects image → bases_of image ≡ bases_of (sized objects (length image.descriptors))
+pub linked_bases : (objects : List Object) (image : Image) → Linked objects image
+    → bases_of image ≡ bases_of (sized objects (length image.descriptors))
 linked_bases objects image h = same_bases image (sized objects (length image.descriptors)) (linked_sizes objects image h)

@@ -27,7 +27,8 @@ loop-number-preserved c = λ seen known.
           ∙ sym w.contains_key.ensures ∙ w.if-not-contains_key.true in
           knows_behind c.if-is_global.names seen xs ys e more
           (knows_new c.loop-number.names c.if-is_global.names (seen ++ xs) e (sym c.is_global.ensures ∙ w.if-is_global.true) new
-          (λ name. rw w.names-is (w.in_ok-insert.ensures.updates.0 (record { ref_ptr = w.as_slice-then-not-contains_key.result.ref_ptr; now = name })
+          (λ name. rw w.names-is (w.in_ok-insert.ensures.updates.0
+          (record { ref_ptr = w.as_slice-then-not-contains_key.result.ref_ptr; now = name })
           ∙ ap (λ (n : List ℕ). cond (bytes_eq n name) (Some (numbers_of e)) (get_by (λ k. bytes_eq name k.now) c.loop-number.names))
           w.as_slice-then-not-contains_key.ensures)) so_far)
       | else-is_global w ↦ rw w.names-is (elim w.else-is_global.branch [
@@ -36,6 +37,7 @@ loop-number-preserved c = λ seen known.
             ∙ sym v.contains_key.ensures ∙ v.if-not-contains_key.false in
             knows_behind c.loop-number.names seen xs ys e more (knows_again c.loop-number.names (seen ++ xs) e there so_far)
         | else-is_global-via-else-is_global v ↦
-            knows_behind c.loop-number.names seen xs ys e more (knows_other c.loop-number.names (seen ++ xs) e (sym c.is_global.ensures ∙ v.if-is_global.false) so_far)
+            knows_behind c.loop-number.names seen xs ys e more
+            (knows_other c.loop-number.names (seen ++ xs) e (sym c.is_global.ensures ∙ v.if-is_global.false) so_far)
       ])
     ]

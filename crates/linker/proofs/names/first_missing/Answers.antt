@@ -15,7 +15,8 @@ returns-in-Some c =
     let all : List Entry = entries (objects_of ps) in
     let left = objects_left ps i p c.loop-object-test.true c.object-item.is in
     let here : find (is_unknown all) p.symbols.items ≡ Some c.in-Some.symbol.now =
-    ap (find (is_unknown all)) (sym c.deref.ensures.value) ∙ sym (c.first_unknown.ensures all c.requires) ∙ ap option_copied c.in-Some.is in
+    ap (find (is_unknown all)) (sym c.deref.ensures.value) ∙ sym (c.first_unknown.ensures all c.requires)
+    ∙ ap option_copied c.in-Some.is in
     sym (find_objects (is_unknown all) 0 (objects_of ps) ∙ sym c.loop-object.invariant
     ∙ in_here (is_unknown all) (drop i (objects_of ps)) (drop (i + 1) (objects_of ps)) (object_of p) c.in-Some.symbol.now left here)
 
@@ -27,7 +28,8 @@ loop-object-preserved c =
     let all : List Entry = entries (objects_of ps) in
     let left = objects_left ps i p c.loop-object-test.true c.object-item.is in
     let here : find (is_unknown all) p.symbols.items ≡ None =
-    ap (find (is_unknown all)) (sym c.deref.ensures.value) ∙ sym (c.first_unknown.ensures all c.requires) ∙ ap option_copied c.in_default.is in
+    ap (find (is_unknown all)) (sym c.deref.ensures.value) ∙ sym (c.first_unknown.ensures all c.requires)
+    ∙ ap option_copied c.in_default.is in
     in_later (is_unknown all) (drop i (objects_of ps)) (drop (i + 1) (objects_of ps)) (object_of p) left here ∙ c.loop-object.invariant
 
 pub returns : goal.returns

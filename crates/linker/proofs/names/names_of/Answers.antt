@@ -26,8 +26,10 @@ returns-in-Some-clause-refused c =
     ap (find (is_known seen)) items ∙ sym (c.first_known.ensures seen c.loop-object.invariant.known)
     ∙ ap option_copied c.in-Some.is in
     let found : FindsEntry (first_repeated os) s =
-    some_repeated os i (object_of p) s within (objects_at ps i p c.loop-object-test.true c.index-objects-object.is) here c.loop-object.invariant.once in
-    let fault : LinkFault os (Duplicate found.entry.symbol.name) = repeated found.entry (omega (arith, c.requires.few, length-map ps object_of)) found.is in
+    some_repeated os i (object_of p) s within (objects_at ps i p c.loop-object-test.true c.index-objects-object.is) here
+    c.loop-object.invariant.once in
+    let fault : LinkFault os (Duplicate found.entry.symbol.name) =
+    repeated found.entry (omega (arith, c.requires.few, length-map ps object_of)) found.is in
     let name : found.entry.symbol.name ≡ c.in_ok-name.name = ap (λ (x : Symbol). x.name) found.symbol ∙ sym c.in_ok-name.ensures.same in
     inr (subst (λ (n : List ℕ). LinkFault os (Duplicate n)) name fault)
 

@@ -27,10 +27,13 @@ loop-reloc-preserved c = λ objects uses knows has.
     let used = sym (c.used_by.ensures objects knows) in
     elim c.match-used_by.branch [
       | in-Some+in_ok-insert w ↦
-          let one : Uses f uses (take i rs) (take (i + 1) rs) w.in-Some.numbers = uses_one f uses (take i rs) (take (i + 1) rs) r w.in-Some.numbers more (used ∙ w.in-Some.is) in
+          let one : Uses f uses (take i rs) (take (i + 1) rs) w.in-Some.numbers =
+          uses_one f uses (take i rs) (take (i + 1) rs) r w.in-Some.numbers more (used ∙ w.in-Some.is) in
           let old : List Entry = uses ++ filter_map f (take i rs) in
           rw w.table-is (w.in_ok-insert.ensures.keys ∙ ap (λ (l : List Numbers). insert_key eq l w.in-Some.numbers) before
           ∙ ap (insert_key eq (map numbers_of (firsts old))) (sym one.numbers) ∙ words_more eq old one.entry (λ a b. refl)
           ∙ ap (λ (l : List Entry). map numbers_of (firsts l)) one.is)
-      | in_default w ↦ rw w.table-is (before ∙ ap (λ (l : List Entry). map numbers_of (firsts l)) (uses_same f uses (take i rs) (take (i + 1) rs) r more (used ∙ w.in_default.is)))
+      | in_default w ↦ rw w.table-is (before
+          ∙ ap (λ (l : List Entry). map numbers_of (firsts l))
+          (uses_same f uses (take i rs) (take (i + 1) rs) r more (used ∙ w.in_default.is)))
     ]

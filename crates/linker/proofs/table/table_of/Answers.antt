@@ -29,4 +29,5 @@ unfolding got
 returns-clause-words c =
     let ps : List ObjectParts = c.args.objects.now in
     c.loop-object.invariant
-    ∙ ap (λ (l : List Object). map numbers_of (firsts (uses_from (objects_of ps) 0 l))) (all_taken ps c.loop-object.object c.loop-object-test.false)
+    ∙ ap (λ (l : List Object). map numbers_of (firsts (uses_from (objects_of ps) 0 l)))
+    (all_taken ps c.loop-object.object c.loop-object-test.false)

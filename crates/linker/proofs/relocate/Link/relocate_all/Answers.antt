@@ -15,7 +15,8 @@ loop-left-init c = record {
   within = omega arith;
   done = λ o there.
       c.requires.same
-      ∙ sym (words_first (objects_of c.args.self.now.objects.now) c.args.self.now.layout.bases c.args.object o c.args.relocs.now c.args.words.now);
+      ∙ sym (words_first (objects_of c.args.self.now.objects.now) c.args.self.now.layout.bases c.args.object o c.args.relocs.now
+      c.args.words.now);
 }
 
 pub loop-left-preserved : goal.loop-left-preserved
@@ -24,8 +25,10 @@ loop-left-preserved c =
     let within = c.loop-left.invariant.within in record {
       within = omega arith;
       done = λ o there.
-          words_more (objects_of c.args.self.now.objects.now) c.args.self.now.layout.bases c.args.object o c.args.relocs.now c.loop-left.left no_reloc
-          c.args.words.now c.loop-left.out c.relocate.new.out (omega arith) within (c.loop-left.invariant.done o there) (c.relocate.ensures o there);
+          words_more (objects_of c.args.self.now.objects.now) c.args.self.now.layout.bases c.args.object o c.args.relocs.now
+          c.loop-left.left no_reloc
+          c.args.words.now c.loop-left.out c.relocate.new.out (omega arith) within (c.loop-left.invariant.done o there)
+          (c.relocate.ensures o there);
     }
 
 pub returns : goal.returns
@@ -33,5 +36,6 @@ returns c = λ o there words relocs.
     let os : List Object = objects_of c.args.self.now.objects.now in
     let none : c.loop-left.left ≡ 0 = let end = c.loop-left-test.false in omega arith in
     c.loop-left.invariant.done o there
-    ∙ ap (λ (m : ℕ). each_from 0 (word_by os c.args.self.now.layout.bases c.args.object o (drop m c.args.relocs.now)) c.args.words.now) none
+    ∙ ap (λ (m : ℕ). each_from 0 (word_by os c.args.self.now.layout.bases c.args.object o (drop m c.args.relocs.now)) c.args.words.now)
+    none
     ∙ (λ i. each_from 0 (word_by os c.args.self.now.layout.bases c.args.object o (relocs i)) (words i))

@@ -25,7 +25,8 @@ returns-in-None c = λ o there.
     let ps : List ObjectParts = c.args.self.now.objects.now in
     let os : List Object = objects_of ps in
     let symbols : c.as_slice-symbols.result.now ≡ o.symbols =
-    c.as_slice-symbols.ensures.value ∙ ap (λ (x : Object). x.symbols) (object_is ps c.args.object o c.index-self-object.result c.requires.within there) in
+    c.as_slice-symbols.ensures.value ∙ ap (λ (x : Object). x.symbols)
+    (object_is ps c.args.object o c.index-self-object.result c.requires.within there) in
     let none : option_map numbers_of (target os c.args.object o.symbols c.args.number) ≡ None =
     ap (λ (l : List Symbol). option_map numbers_of (target os c.args.object l c.args.number)) (sym symbols)
     ∙ sym (c.target.ensures os c.requires.ready.names) ∙ c.in-None.is in
@@ -36,10 +37,12 @@ returns-in-Some c = λ o there.
     let ps : List ObjectParts = c.args.self.now.objects.now in
     let os : List Object = objects_of ps in
     let symbols : c.as_slice-symbols.result.now ≡ o.symbols =
-    c.as_slice-symbols.ensures.value ∙ ap (λ (x : Object). x.symbols) (object_is ps c.args.object o c.index-self-object.result c.requires.within there) in
+    c.as_slice-symbols.ensures.value ∙ ap (λ (x : Object). x.symbols)
+    (object_is ps c.args.object o c.index-self-object.result c.requires.within there) in
     let numbers : option_map numbers_of (target os c.args.object o.symbols c.args.number) ≡ Some c.in-Some.numbers =
     ap (λ (l : List Symbol). option_map numbers_of (target os c.args.object l c.args.number)) (sym symbols)
     ∙ sym (c.target.ensures os c.requires.ready.names) ∙ c.in-Some.is in
     let t : Told os c.args.object c.args.number o c.in-Some.numbers = told os c.args.object c.args.number o c.in-Some.numbers numbers in
-    ap (λ (m : ℕ). c.args.self.now.layout.bases.filled + 8 * m) (c.word_number-words.ensures.number os t.entry c.requires.ready.words t.numbers)
+    ap (λ (m : ℕ). c.args.self.now.layout.bases.filled + 8 * m)
+    (c.word_number-words.ensures.number os t.entry c.requires.ready.words t.numbers)
     ∙ sym (ap (got_address os c.args.self.now.layout.bases) t.is)
