@@ -4,3 +4,4 @@ pub mod Evaluation
 pub mod Declarations
 pub mod Execution
 pub mod Programs
+pub mod Resting

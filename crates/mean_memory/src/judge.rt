@@ -5,6 +5,7 @@ ghost use Rattle.std.specs.List.{list_any};
 ghost use Rattle.block_meaning.specs.Access as spec;
 ghost use Rattle.block_meaning.specs.Blocks.{Block};
 ghost use Rattle.block_meaning.specs.Values.{is_nothing};
+ghost use Rattle.mean_memory.specs.Filled.{Reads};
 ghost use Rattle.mean_memory.specs.Shown.{block_in, IsDead, read_as};
 
 use crate::reading::value_of_cells;
@@ -88,7 +89,7 @@ fn has_nothing(cells: &[Cell]) -> bool
 
 /// Some cells as a scalar of a type, or why they are none.
 pub fn scalar_in(ty: &Ty, cells: &[Cell]) -> Result<Value, Reason>
-    requires { length cells.now ≤ 8 }
+    requires { Reads ty.now (length cells.now) }
     ensures { read_as result ≡ spec.scalar_in ty.now cells.now }
 {
     if has_nothing(cells) {
@@ -102,7 +103,7 @@ pub fn scalar_in(ty: &Ty, cells: &[Cell]) -> Result<Value, Reason>
 
 /// A scalar of a type in a block that is alive, or why reading it is undefined.
 pub fn read_in(slot: &Slot, ty: &Ty, a: Access) -> Result<Value, Reason>
-    requires { a.size ≤ 8 }
+    requires { Reads ty.now a.size }
     ensures { read_as result ≡ spec.read_in (block_in slot.now) ty.now a }
 {
     match reason_against(slot, a) {

@@ -30,13 +30,13 @@ impl Memory {
     ghost use Rattle.block_meaning.specs.Compare as compare;
     ghost use Rattle.block_meaning.specs.Values.{cells_of};
     ghost use Rattle.mean_memory.specs.Ends.{end_in};
-    ghost use Rattle.mean_memory.specs.Filled.{Fills};
+    ghost use Rattle.mean_memory.specs.Filled.{Fills, Reads};
     ghost use Rattle.mean_memory.specs.Shown.{read_as};
     ghost use Rattle.mean_memory.specs.Standing.{IsMemory, IsWritten};
 
     /// Reads a scalar of a type, or tells why that is undefined.
     pub fn read(&mut self, ty: &Ty, a: Access) -> Result<Value, Reason>
-        requires { a.size ≤ 8 }
+        requires { Reads ty.now a.size }
         ensures is { (blocks : List Block) (b : Block) → IsMemory self.old blocks → slice_get blocks a.at.block ≡ Some b
             → read_as result ≡ spec.read_in b ty.now a }
         ensures kept { (blocks : List Block) → IsMemory self.old blocks → IsMemory self.new blocks }

@@ -2,6 +2,7 @@
 
 ghost use Rattle.std.specs.Prelude.{◌≡◌, ◌<◌, ◌≤◌, ◌+◌, ◌*◌, ◌^◌, length, IfSome};
 ghost use Rattle.block_meaning.specs.Values as spec;
+ghost use Rattle.mean_memory.specs.Filled.{Reads};
 
 use block_meaning::{Cell, Pointer, Value};
 use c_type_base::{Ty, wrap};
@@ -72,7 +73,7 @@ pub fn pointer_of_cells(cells: &[Cell]) -> Option<Pointer>
 
 /// The scalar of a type that some cells are.
 pub fn value_of_cells(ty: &Ty, cells: &[Cell]) -> Option<Value>
-    requires { length cells.now ≤ 8 }
+    requires { Reads ty.now (length cells.now) }
     ensures { result ≡ spec.value_of_cells ty.now cells.now }
 {
     match ty {

@@ -7,9 +7,9 @@ ghost use Rattle.mean_memory.specs.Filled.{Fills};
 ghost use Rattle.mean_memory.specs.Shown.{block_in, written_block};
 ghost use Rattle.block_meaning.specs.Access.{reason_against};
 
-use crate::values::{number_in, pointer_in};
 use crate::judge;
 use crate::slot::Slot;
+use crate::values::{number_in, pointer_in};
 use block_meaning::{Access, Cell, Pointer, Reason, Value};
 use c_type_base::Ty;
 

@@ -42,7 +42,8 @@ body_computes of here k c t ready _ = computes-stuck _ _
 inside_computes : {s : StmtParts} → StmtsCompute s → (here : Context) (k : List Frame) (vs : List Value) (g : TFunction) (c : Call) →
     Computes (body_of s g vs (inside here c)) (by (entered_call vs g (inside here c) c) (start_body here k g.result)) (value here k)
 inside_computes of here k vs g c =
-    computes-with (with_arguments (inside here c) 0 (take g.params g.locals) vs) _ (start_body here k g.result) (λ ready. body_computes of here k c g.result ready (out-TStmt g.body))
+    computes-with (with_arguments (inside here c) 0 (take g.params g.locals) vs) _ (start_body here k g.result)
+    (λ ready. body_computes of here k c g.result ready (out-TStmt g.body))
 
 abbrev the_call : Function → ℕ → State → Call
 the_call f place now = record { number = length now.calls; function = f; place = place }

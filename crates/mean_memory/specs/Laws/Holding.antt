@@ -1,6 +1,6 @@
 -- Slots and blocks that change together.
-use Rattle.std.proofs.Common.{◌≡◌, ◌≢◌, refl, sym, subst, ap, ◌∙◌, arith, ℕ, suc, ◌+◌, false, List, [], ◌∷◌, ◌++◌, length, Option, Some, None}
-use Rattle.std.proofs.Common.{◌⊎◌, inl, inr}
+use Rattle.std.proofs.Common.{◌≡◌, ◌≢◌, refl, sym, subst, ap, ◌∙◌, arith, ℕ, ◌+◌, false, List, [], ◌∷◌, ◌++◌, length, Option, Some, None}
+use Rattle.std.proofs.Common.{inl, inr}
 use Rattle.std.proofs.lemmas.Bool.Decides.{eqb_tells}
 use Rattle.std.proofs.lemmas.List.{length-set, length-append}
 use Rattle.std.proofs.lemmas.Option.{slice_get_past}
@@ -14,7 +14,7 @@ use Rattle.block_meaning.specs.Blocks.{Block, ended, changed, with_block, with_c
 use Rattle.mean_memory.specs.declared.slot.Slot.{Slot}
 use Rattle.mean_memory.specs.Laws.Places.{some_same, set_there, get_new, get_old, get_set_same, get_set_other}
 use Rattle.mean_memory.specs.Laws.Slots.{stands_with, set_other, set_same, set_apart, push_other, push_same, push_apart, front_apart}
-use Rattle.mean_memory.specs.Shown.{block_in, slot_with, IsDead, IsShown, Apart, Holds, written_block, written_or_kept}
+use Rattle.mean_memory.specs.Shown.{block_in, slot_with, IsShown, Holds, written_block, written_or_kept}
 
 data Decision (m n : ℕ) : Type 0 where
   Same : m ≡ n → Decision m n
@@ -100,7 +100,8 @@ pub holds_pop : {next : ℕ} {blocks : List Block} (front : List Slot) (s : Slot
     is_null_block s.kind ≡ false → Holds front next (with_block s.number ended blocks)
 holds_pop {next = next} {blocks = blocks} front s holds no_null =
     let at : slice_get blocks s.number ≡ Some (block_in s) = block_at holds (length front) s (get_new front s) in
-    let is : with_block s.number ended blocks ≡ slice_set blocks s.number (ended (block_in s)) = ap (λ o. changed ended o s.number blocks) at in
+    let is : with_block s.number ended blocks ≡ slice_set blocks s.number (ended (block_in s)) =
+    ap (λ o. changed ended o s.number blocks) at in
     subst (Holds front next) (sym is) (record {
       count = holds.count ∙ sym (length-set blocks s.number (ended (block_in s)));
       each = λ n. pop_shown front s holds no_null at n (decision s.number n);
