@@ -11,7 +11,8 @@ use Rattle.linker.specs.declared.refusal.LinkRefusal.TheVariants.{ImageTooLarge}
 use Rattle.linker.specs.Names.{Entry}
 use Rattle.linker.specs.Data.{zero_size}
 use Rattle.linker.specs.Tagged.{sized, IsFewest}
-use Rattle.linker.specs.LinkFault.{LinkFault, too_many, repeated, no_main, missing, too_large, AreBound, object_limit, first_repeated, has_main}
+use Rattle.linker.specs.LinkFault.{LinkFault, too_many, repeated, no_main, missing, too_large, AreBound, object_limit}
+use Rattle.linker.specs.LinkFault.{first_repeated, has_main}
 use Rattle.linker.specs.LinkFault.{first_missing, excess, told_bytes, memory_limit, code_limit}
 use Rattle.linker.specs.Linked.{Linked}
 use Rattle.linker.specs.Laws.Sizes.{linked_sizes, same_memory}
@@ -81,10 +82,12 @@ small objects image h =
     let le = no_excess (sized objects count) (by_case (excess (sized objects count)) refl) in
     omega arith
   where
-    by_case : (x : Option ℕ) → excess (sized objects (length image.descriptors)) ≡ x → excess (sized objects (length image.descriptors)) ≡ None
+    by_case : (x : Option ℕ) → excess (sized objects (length image.descriptors)) ≡ x
+        → excess (sized objects (length image.descriptors)) ≡ None
     by_case None is = is
     by_case (Some n) is =
-        absurd (h.accepted (ImageTooLarge n) (too_large (length image.descriptors) n (bound objects h.accepted) (linked_fewest objects image h) is))
+        absurd (h.accepted (ImageTooLarge n)
+        (too_large (length image.descriptors) n (bound objects h.accepted) (linked_fewest objects image h) is))
 
 -- the image of objects has a file
 pub linked_valid : (objects : List Object) (image : Image) → Linked objects image → IsValid image
