@@ -61,7 +61,7 @@ any_kept x e (y ∷ ys) = by_tests (is_same e y) (is_same x y) (is_same x e) ref
     rest = filter (λ f. not (is_same x f)) ys
 
     by_tests : (a b c : Bool) → is_same e y ≡ a → (a ≡ true → b ≡ c)
-    → list_any (is_same e) rest ≡ (if c then false else list_any (is_same e) ys)
+        → list_any (is_same e) rest ≡ (if c then false else list_any (is_same e) ys)
         → list_any (is_same e) (cond (not b) (y ∷ rest) rest) ≡ (if c then false else (a || list_any (is_same e) ys))
     by_tests a true true is h g = g
     by_tests true true false is h g = absurd (true≢false (h refl))

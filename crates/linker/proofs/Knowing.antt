@@ -97,7 +97,7 @@ knows_new m n xs e global new updates knows name = updates name ∙ by_test (byt
   where
     goal : Bool → Type 0
     goal b = cond b (Some (numbers_of e)) (get_by (λ k. bytes_eq name k.now) m) ≡ option_map numbers_of
-    (find (defines name) (xs ++ e ∷ []))
+        (find (defines name) (xs ++ e ∷ []))
 
     here : (b : Bool) → bytes_eq e.symbol.name name ≡ b → defines name e ≡ b
     here b is = ap (λ (g : Bool). g && bytes_eq e.symbol.name name) global ∙ is

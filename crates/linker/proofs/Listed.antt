@@ -89,7 +89,7 @@ pub target_listed : (os : List Object) (k number : ℕ) (o : Object) (e : Entry)
 target_listed os k number o e there h = by_case (slice_get o.symbols number) refl h
   where
     by_test : (s : Symbol) → slice_get o.symbols number ≡ Some s → (b : Bool)
-    → cond b (Some (entry k number s)) (definition os s.name) ≡ Some e → IsListed os e
+        → cond b (Some (entry k number s)) (definition os s.name) ≡ Some e → IsListed os e
     by_test s is true g =
         let P : Entry → Type 0 = IsListed os in
         subst P (same_Some (entry k number s) e g) (record { object = o; there = there; symbol = is })

@@ -5,6 +5,7 @@ pub mod OneFault
 pub mod Sizes
 pub mod OneOrder
 pub mod OneImage
+pub mod Valid
 pub mod Growth
 pub mod Places
 pub mod LaidLaws

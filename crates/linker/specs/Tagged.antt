@@ -39,7 +39,7 @@ pub record AreTagged (objects : List Object) (bases : Bases) (intervals : List I
 -- one descriptor of a distance and a size in granules, in the form of `IsDescriptor`, whose numbers may have any number of bytes
 pub data SpellsOne : ℕ → ℕ → List ℕ → Type 0 where
   small : (distance size : ℕ) (bytes : List ℕ) → 1 ≤ size → size ≤ 7 → IsShortest (8 * distance + size) bytes
-  → SpellsOne distance size bytes
+      → SpellsOne distance size bytes
   large : (distance size : ℕ) (first second : List ℕ) → 8 ≤ size → IsShortest (8 * distance) first → IsShortest (size - 1) second
       → SpellsOne distance size (first ++ second)
 

@@ -58,7 +58,7 @@ fn add_names<'a>(
     symbols: &'a [Symbol],
 ) -> Result<(), LinkRefusal>
     ensures known { OnOk result ((seen : List Entry) → Knows names.old seen
-    → Knows names.new (seen ++ numbered_from object 0 symbols.now)) }
+        → Knows names.new (seen ++ numbered_from object 0 symbols.now)) }
     ensures memory { IfErr result (λ r. r ≡ NoMemory) }
 {
     for number in 0..symbols.len() {

@@ -100,7 +100,7 @@ impl<'a> Link<'a> {
         requires same { out.old ≡ words.now }
         requires small { length words.now < 2 ^ 61 }
         ensures { (o : Object) → slice_get (objects_of self.now.objects.now) object ≡ Some o → words.now ≡ o.words
-        → relocs.now ≡ o.text_relocs
+            → relocs.now ≡ o.text_relocs
             → out.new ≡ object_words (objects_of self.now.objects.now) self.now.layout.bases object o }
     {
         let mut left = relocs.len();

@@ -24,7 +24,7 @@ pub(crate) fn target<'a>(
     number: u32,
 ) -> Option<Numbers>
     ensures { (objects : List Object) → Knows names.now (entries objects)
-    → result ≡ option_map numbers_of (target objects object symbols.now number) }
+        → result ≡ option_map numbers_of (target objects object symbols.now number) }
 {
     match symbols.get(number as usize) {
         None => None,

@@ -124,9 +124,9 @@ at = record { rodata = 0x190; code = 0x1000; filled = 0x20d0; zeros = 0x2100 }
 -- bl main; svc #3; then the first object from 0x1010 on and the second from 0x1020 on, where `twice` is at 0x1024
 the_code : code_pieces both at
     ≡ piece 0 (0x94000004 ∷ 0xd4000061 ∷ [])
-      ∷ piece 4 (0x94000005 ∷ 0xb0000001 ∷ 0xf9406821 ∷ [])
-      ∷ piece 8 (0xd65f03c0 ∷ 0xd65f03c0 ∷ [])
-      ∷ []
+    ∷ piece 4 (0x94000005 ∷ 0xb0000001 ∷ 0xf9406821 ∷ [])
+    ∷ piece 8 (0xd65f03c0 ∷ 0xd65f03c0 ∷ [])
+    ∷ []
 unfolding got with_page with_low_of_8 with_distance
 the_code = refl
 
