@@ -1,5 +1,5 @@
 -- Judgements in order: what is known without a fault has a property, where the names in scope mean what is there.
-use Rattle.std.proofs.Common.{◌≡◌, refl, ◌∙◌, ap, subst, ℕ, zero, suc, ◌+◌, arith, false, ◌||◌, List, [], ◌∷◌, ◌++◌, length}
+use Rattle.std.proofs.Common.{sym, ◌≡◌, refl, ◌∙◌, ap, subst, ℕ, zero, suc, ◌+◌, arith, false, ◌||◌, List, [], ◌∷◌, ◌++◌, length}
 use Rattle.std.proofs.Common.{slice_get, Option, Some, None}
 use Rattle.std.specs.Prelude.{IfSome}
 use Rattle.std.specs.List.{AllByRecursion}
@@ -49,8 +49,8 @@ pub back : {A : Type 0} (a b : List A) → a ++ b ≡ [] → b ≡ []
 back [] b is = is
 back (x ∷ xs) b is = absurd cc
 
-none_after : {A : Type 0} (a b : List A) → a ≡ [] → b ≡ [] → a ++ b ≡ []
-none_after a b is its = ap (λ a. a ++ b) is ∙ its
+pub none-after : {A : Type 0} (a b : List A) → a ≡ [] → b ≡ [] → a ++ b ≡ []
+none-after a b is its = ap (λ a. a ++ b) is ∙ its
 
 get_front : {A : Type 0} (a b : List A) (k : ℕ) (x : A) → slice_get a k ≡ Some x → slice_get (a ++ b) k ≡ Some x
 get_front [] b k x is = absurd cc
@@ -62,8 +62,8 @@ get_back [] b k n is = let same : n ≡ k = omega (arith, is) in ap (slice_get b
 get_back (y ∷ a) b k zero is = absurd (omega (arith, is))
 get_back (y ∷ a) b k (suc n) is = get_back a b k n (omega (arith, is))
 
-texts_front : (s : Scope) (from : ℕ) (a b : List (List ℕ)) → TextsIn s from (a ++ b) → TextsIn s from a
-texts_front s from a b all k bytes is = all k bytes (get_front a b k bytes is)
+pub texts-front : (s : Scope) (from : ℕ) (a b : List (List ℕ)) → TextsIn s from (a ++ b) → TextsIn s from a
+texts-front s from a b all k bytes is = all k bytes (get_front a b k bytes is)
 
 texts_back : (s : Scope) (from : ℕ) (a b : List (List ℕ)) → TextsIn s from (a ++ b) → TextsIn s (from + length a) b
 texts_back s from a b all k bytes is =
@@ -95,7 +95,7 @@ some_is P o v is holds = subst (λ o. IfSome o P) is holds
 on_silent : {A B : Type 0} (a : Outcome A) (f : A → Judged B) (env : Env) → a.names ≡ [] → ((v : A) → Silent (f v)) → (o : Option A) →
     (continued a o f env).names ≡ []
 on_silent a f env silent each None = silent
-on_silent a f env silent each (Some v) = none_after (f v (behind a env)).names a.names (each v (behind a env)) silent
+on_silent a f env silent each (Some v) = none-after (f v (behind a env)).names a.names (each v (behind a env)) silent
 
 pub silent-on : {A B : Type 0} (p : Judged A) (f : A → Judged B) → Silent p → ((v : A) → Silent (f v)) → Silent (on p f)
 silent-on p f first each env = on_silent (p env) f env (first env) each (p env).known
@@ -106,7 +106,7 @@ on_holds : {A B : Type 0} (s : Scope) (P : A → Type 0) (Q : B → Type 0) (a :
 on_holds s P Q a f env inside silent first each None is kept texts = tt
 on_holds s P Q a f env inside silent first each (Some v) is kept texts =
     let b = f v (behind a env) in
-    let holds = some_is P a.known v is (first (front a.faults b.faults kept) (texts_front s env.texts a.texts b.texts texts)) in
+    let holds = some_is P a.known v is (first (front a.faults b.faults kept) (texts-front s env.texts a.texts b.texts texts)) in
     (each v holds).holds (behind a env) (env-behind s env a silent inside) (back a.faults b.faults kept)
     (texts_back s env.texts a.texts b.texts texts)
 
@@ -119,7 +119,7 @@ good-on {s = s} {P = P} {Q = Q} p f first silent each = record {
 }
 
 pub silent-both : {A B : Type 0} (p : Judged A) (q : Judged B) → Silent p → Silent q → Silent (both p q)
-silent-both p q first second env = none_after (q (behind (p env) env)).names (p env).names (second (behind (p env) env)) (first env)
+silent-both p q first second env = none-after (q (behind (p env) env)).names (p env).names (second (behind (p env) env)) (first env)
 
 pair_holds : {A B : Type 0} (P : A → Type 0) (Q : B → Type 0) (a : Option A) (b : Option B) → IfSome a P → IfSome b Q →
     IfSome (pair a b) (λ x. P x.0 × Q x.1)
@@ -137,7 +137,7 @@ good-both {s = s} {P = P} {Q = Q} p q first second = record {
   holds = λ env inside kept texts.
       let a = p env in
       let b = q (behind a env) in
-      pair_holds P Q a.known b.known (first.holds env inside (front a.faults b.faults kept) (texts_front s env.texts a.texts b.texts texts))
+      pair_holds P Q a.known b.known (first.holds env inside (front a.faults b.faults kept) (texts-front s env.texts a.texts b.texts texts))
       (second.holds (behind a env) (env-behind s env a (first.silent env) inside) (back a.faults b.faults kept)
       (texts_back s env.texts a.texts b.texts texts));
 }
@@ -157,19 +157,19 @@ good-none = record { silent = λ env. refl; holds = λ env inside kept texts. tt
 pub good-more : {A : Type 0} {s : Scope} {P : A → Type 0} (p : Judged A) (ps : List (Judged A)) → Good s P p →
     Good s (AllByRecursion P) (each ps) → Good s (AllByRecursion P) (each (p ∷ ps))
 good-more {s = s} {P = P} p ps first rest = record {
-  silent = λ env. none_after (each ps (behind (p env) env)).names (p env).names (rest.silent (behind (p env) env)) (first.silent env);
+  silent = λ env. none-after (each ps (behind (p env) env)).names (p env).names (rest.silent (behind (p env) env)) (first.silent env);
   holds = λ env inside kept texts.
       let a = p env in
       let b = each ps (behind a env) in
-      listed_holds P a.known b.known (first.holds env inside (front a.faults b.faults kept) (texts_front s env.texts a.texts b.texts texts))
+      listed_holds P a.known b.known (first.holds env inside (front a.faults b.faults kept) (texts-front s env.texts a.texts b.texts texts))
       (rest.holds (behind a env) (env-behind s env a (first.silent env) inside) (back a.faults b.faults kept)
       (texts_back s env.texts a.texts b.texts texts));
 }
 
 met_silent : {A B : Type 0} (a : Outcome A) (q : Judged B) (f : A → Judged B) (env : Env) → a.names ≡ [] → Silent q →
     ((v : A) → Silent (f v)) → (o : Option A) → (met a o q f env).names ≡ []
-met_silent a q f env silent other each None = none_after (q (behind a env)).names a.names (other (behind a env)) silent
-met_silent a q f env silent other each (Some v) = none_after (f v (behind a env)).names a.names (each v (behind a env)) silent
+met_silent a q f env silent other each None = none-after (q (behind a env)).names a.names (other (behind a env)) silent
+met_silent a q f env silent other each (Some v) = none-after (f v (behind a env)).names a.names (each v (behind a env)) silent
 
 pub silent-either : {A B : Type 0} (p : Judged A) (q : Judged B) (f : A → Judged B) → Silent p → Silent q → ((v : A) → Silent (f v)) →
     Silent (either p q f)
@@ -182,3 +182,32 @@ some_any (Some a) = tt
 -- where nothing is asked of what is known
 pub good-any : {A : Type 0} {s : Scope} (p : Judged A) → Silent p → Good s (λ (a : A). Unit {0}) p
 good-any p silent = record { silent = silent; holds = λ env inside kept texts. some_any (p env).known }
+
+either_holds : {A B : Type 0} (s : Scope) (P : A → Type 0) (Q : B → Type 0) (a : Outcome A) (q : Judged B) (f : A → Judged B) (env : Env) →
+    EnvIn env s → a.names ≡ [] → (a.faults ≡ [] → TextsIn s env.texts a.texts → IfSome a.known P) → Good s Q q →
+    ((v : A) → P v → Good s Q (f v)) → (o : Option A) → a.known ≡ o → (met a o q f env).faults ≡ [] →
+    TextsIn s env.texts (met a o q f env).texts → IfSome (met a o q f env).known Q
+either_holds s P Q a q f env inside silent first other each None is kept texts =
+    let b = q (behind a env) in
+    other.holds (behind a env) (env-behind s env a silent inside) (back a.faults b.faults kept)
+    (texts_back s env.texts a.texts b.texts texts)
+either_holds s P Q a q f env inside silent first other each (Some v) is kept texts =
+    let b = f v (behind a env) in
+    let holds = some_is P a.known v is (first (front a.faults b.faults kept) (texts-front s env.texts a.texts b.texts texts)) in
+    (each v holds).holds (behind a env) (env-behind s env a silent inside) (back a.faults b.faults kept)
+    (texts_back s env.texts a.texts b.texts texts)
+
+pub good-either : {A B : Type 0} {s : Scope} {P : A → Type 0} {Q : B → Type 0} (p : Judged A) (q : Judged B) (f : A → Judged B) →
+    Good s P p → Good s Q q → ((v : A) → Silent (f v)) → ((v : A) → P v → Good s Q (f v)) → Good s Q (either p q f)
+good-either {s = s} {P = P} {Q = Q} p q f first other silent each = record {
+  silent = silent-either p q f first.silent other.silent silent;
+  holds = λ env inside kept texts. either_holds s P Q (p env) q f env inside (first.silent env) (first.holds env inside) other each
+      (p env).known refl kept texts;
+}
+
+-- what is never known has each property
+pub good-never : {A : Type 0} {s : Scope} {P : A → Type 0} (p : Judged A) → Silent p → ((env : Env) → (p env).known ≡ None) → Good s P p
+good-never {P = P} p silent never = record {
+  silent = silent;
+  holds = λ env inside kept texts. subst (λ o. IfSome o P) (sym (never env)) tt;
+}

@@ -85,7 +85,7 @@ readable (Ty-F.Int t) is its = refl
 readable (Ty-F.Pointer t) is its = refl
 readable (Ty-F.Struct n) is its = refl
 
-or_right : (a b c : Bool) → b ≡ true → (a || (b || c)) ≡ true
+pub or_right : (a b c : Bool) → b ≡ true → (a || (b || c)) ≡ true
 or_right true b c is = refl
 or_right false true c is = refl
 or_right false false c is = absurd cc

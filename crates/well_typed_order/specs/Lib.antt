@@ -6,3 +6,4 @@ pub mod Postfix
 pub mod Good
 pub mod Silent
 pub mod Expressions
+pub mod Initials
