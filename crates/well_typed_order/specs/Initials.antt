@@ -1,0 +1,465 @@
+-- Initialisers of locals that keep all rules are in order.
+use Rattle.std.proofs.Common.{◌≡◌, refl, sym, ◌∙◌, ap, subst, ℕ, suc, ◌+◌, arith, Bool, true, false, ◌&&◌, ◌||◌, List, [], ◌∷◌, ◌++◌}
+use Rattle.std.proofs.Common.{map, Option, Some, None, slice_get}
+use Rattle.std.specs.Prelude.{IfSome, if◌then◌else◌, ltb, ◌%◌, ◌^◌, ◌*◌}
+use Rattle.std.specs.List.{AllByRecursion}
+use Rattle.std.proofs.lemmas.Option.{same_Some}
+use Rattle.c_ast.specs.Laws.Opened.{given_trees}
+use Rattle.c_ast.specs.Tree.{NodeLayer}
+use Rattle.c_ast.specs.declared.token.Span.{Span}
+use Rattle.c_ast.specs.declared.int_type.IntType.TheVariants as int
+use Rattle.c_ast.specs.declared.expr.CType.TheOpen.{Node-F}
+use Rattle.c_ast.specs.declared.expr.CType.TheFolds.{fold-Node, fold-roll-Node, fold_out-Expr}
+use Rattle.c_ast.specs.declared.expr.Expr.{Expr}
+use Rattle.c_ast.specs.declared.declaration.Init.{Init, roll-Init, map-Init}
+use Rattle.c_ast.specs.declared.declaration.Init.TheOpen.{Init-F}
+use Rattle.c_ast.specs.declared.declaration.Init.TheFolds.{fold-roll-Init, ind-Init}
+use Rattle.c_ast.specs.declared.expr.Node.{Node, out-Node, roll-Node, roll-out-Node}
+use Rattle.c_type_base.specs.Laws.Opened.{given_types, given_typed}
+use Rattle.c_type_base.specs.Laws.SizeLaws.{complete-struct}
+use Rattle.c_type_base.specs.Layout.{members_of, first_scalar}
+use Rattle.c_type_base.specs.Sizes.{size, is_complete, complete_struct}
+use Rattle.c_type_base.specs.declared.ty.Ty.{Ty, out-Ty, roll-Ty, roll-out-Ty}
+use Rattle.c_type_base.specs.declared.ty.Ty.TheVariants as ty
+use Rattle.c_type_base.specs.declared.ty.Ty.TheOpen.{Ty-F}
+use Rattle.c_type_base.specs.declared.expr.TNode.{out-TNode}
+use Rattle.c_type_base.specs.declared.expr.TNode.TheOpen.{TNode-F}
+use Rattle.c_type_base.specs.declared.statement.TInit.{TInit, out-TInit, out-roll-TInit}
+use Rattle.c_type_base.specs.declared.statement.TInit.TheVariants as tinit
+use Rattle.c_type_base.specs.declared.statement.TInit.TheOpen.{TInit-F}
+use Rattle.c_type_base.specs.declared.typed.MemberInfo.{MemberInfo}
+use Rattle.c_type_base.specs.declared.known.Known.{Known}
+use Rattle.c_type_base.specs.declared.known.Written.{Written}
+use Rattle.c_type_base.specs.Known.{value, assignable, is_value, is_null}
+use Rattle.c_type_base.specs.Types.{TyLayer, is_there, element_of_level, struct_of_level, is_char_type, is_scalar}
+use Rattle.c_type_base.specs.Types.{is_integer, is_pointer, is_struct, is_array, same_type, element_of, struct_of}
+use Rattle.c_type_expr.specs.Environment.{Env}
+use Rattle.c_type_expr.specs.Expressions.{node_step, expr_step, expression}
+use Rattle.c_type_expr.specs.Faults.{rule}
+use Rattle.c_type_expr.specs.Operators.{breaks}
+use Rattle.c_type_expr.specs.Outcomes.{Judged, listed, each, behind, sure, not_known, both, on, either, asked}
+use Rattle.c_type_expr.specs.Said.{Said, NodeSaid, type_step, text}
+use Rattle.c_type_stmt.specs.declared.fitted.Fitted.{Fitted}
+use Rattle.c_type_stmt.specs.declared.initial.Slot.{Slot}
+use Rattle.c_type_stmt.specs.Initials.{loose_all, moved_fitted, too_many, fit_all, tree_of, member_slot, in_braces, is_zero_list, zero_list}
+use Rattle.c_type_stmt.specs.Initials.{is_aggregate_slot, list_by, slots, init_step, initialiser}
+use Rattle.c_type_stmt.specs.Initials.{InitSaid, spelled, array_by, assigned, may_begin, may_fit, expression_for}
+use Rattle.block_meaning.specs.ExpressionsInOrder.{Scope, file_of}
+use Rattle.block_meaning.specs.Locals.{text_of}
+use Rattle.block_meaning.specs.StatementsInOrder as order
+use Rattle.block_meaning.specs.StatementsInOrder.{Initialises, Elements, Members}
+use Rattle.well_typed_order.specs.Binary.{kept-first, kept-rest}
+use Rattle.well_typed_order.specs.Expressions.{expression-good}
+use Rattle.well_typed_order.specs.Good.{EnvIn, TextsIn, Silent, Good, good-on, good-both, good-sure, good-either, good-never, good-any}
+use Rattle.well_typed_order.specs.Good.{none-after, silent-on, silent-both, front, texts-front}
+use Rattle.well_typed_order.specs.Postfix.{TableIn}
+use Rattle.well_typed_order.specs.Known.{ValueIn, Into, assignable-in, value-in}
+use Rattle.well_typed_order.specs.Types.{and_first}
+
+module _ (s : Scope) where
+  -- ---- a text alone
+
+  record IsText (bytes : List ℕ) (k : Known) : Type 0 where
+    number : ℕ
+    node_is : out-TNode k.tree.node ≡ TNode-F.Text number
+    there : text_of (file_of s) number ≡ Some bytes
+
+  text_is : (bytes : List ℕ) (span : Span) → Good s (IsText bytes) (text bytes span)
+  unfolding given_typed
+  text_is bytes span = record {
+    silent = λ env. refl;
+    holds = λ env inside kept texts.
+        let same : env.texts + 0 ≡ env.texts = omega arith in
+        record { number = env.texts; node_is = refl; there = subst (λ n. text_of (file_of s) n ≡ Some bytes) same (texts 0 bytes refl) };
+  }
+
+  abbrev said_node : Node → NodeSaid
+  said_node = fold-Node (Span → Judged Written) NodeSaid Said type_step node_step expr_step
+
+  abbrev TextGood : NodeSaid → Type 0
+  TextGood n = (bytes : List ℕ) → n.text ≡ Some bytes → (span : Span) → Good s (IsText bytes) (n.judged span)
+
+  text_node : (d : Node-F (Span → Judged Written) NodeSaid Said) → TextGood (node_step d)
+  text_node (Node-F.Text bytes) other is span =
+      subst (λ b. Good s (IsText b) (text (bytes ++ 0 ∷ []) span)) (same_Some (bytes ++ 0 ∷ []) other is) (text_is (bytes ++ 0 ∷ []) span)
+  text_node _ other is span = absurd cc
+
+  text_rolled : (d : NodeLayer) → TextGood (said_node (roll-Node d))
+  text_rolled d = subst TextGood (sym (fold-roll-Node (Span → Judged Written) NodeSaid Said type_step node_step expr_step d)) (text_node _)
+
+  text_said : (n : Node) → TextGood (said_node n)
+  text_said n = subst (λ n. TextGood (said_node n)) (roll-out-Node n) (text_rolled (out-Node n))
+
+  said_is : (e : Expr) → expression e ≡ expr_step (record { span = e.span; node = said_node e.node })
+  unfolding given_trees
+  said_is e = fold_out-Expr (Span → Judged Written) NodeSaid Said type_step node_step expr_step e
+
+  -- an expression that is a text alone
+  text-good : (e : Expr) (bytes : List ℕ) → (expression e).text ≡ Some bytes → Good s (IsText bytes) (expression e).judged
+  text-good e bytes is = subst (λ (x : Said). x.text ≡ Some bytes → Good s (IsText bytes) x.judged) (sym (said_is e))
+      (λ is. text_said e.node bytes is e.span) is
+
+  -- ---- what an object is initialised with
+
+  abbrev pub FitsIn : Ty → Fitted → Type 0
+  FitsIn t f = Initialises s t (out-TInit f.tree)
+
+  spelled_good : (span : Span) (t element : Ty) (n : ℕ) (bytes : List ℕ) → element_of t ≡ Some element → (k : Known) → IsText bytes k →
+      Good s (FitsIn t) (spelled span n bytes k)
+  unfolding given_typed
+  spelled_good span t element n bytes is k text = record {
+    silent = λ env. refl;
+    holds = λ env inside kept texts. order.text is text.node_is text.there;
+  }
+
+  array_good : (span : Span) (t element : Ty) (n : ℕ) → element_of t ≡ Some element → (e : Expr) (o : Option (List ℕ)) →
+      (expression e).text ≡ o → (b : Bool) → Good s (FitsIn t) (array_by span (expression e).judged o b n)
+  array_good span t element n is e (Some bytes) text true = good-on (expression e).judged (spelled span n bytes) (text-good e bytes text)
+      (λ k env. refl) (spelled_good span t element n bytes is)
+  array_good span t element n is e (Some bytes) text false = good-either (expression e).judged (breaks 16 span) _ (expression-good s e)
+      (good-never (breaks 16 span) (λ env. refl) (λ env. refl)) (λ k env. refl)
+      (λ k known. good-never _ (λ env. refl) (λ env. refl))
+  array_good span t element n is e None text b = good-either (expression e).judged (breaks 16 span) _ (expression-good s e)
+      (good-never (breaks 16 span) (λ env. refl) (λ env. refl)) (λ k env. refl)
+      (λ k known. good-never _ (λ env. refl) (λ env. refl))
+
+  -- ---- an expression for a scalar or a struct
+
+  or_kinds : (a b c d e f : Bool) → ((a && d) || (b && e) || (c && f)) ≡ true → ((a || b) || c) ≡ true
+  or_kinds true b c d e f is = refl
+  or_kinds false true c d e f is = refl
+  or_kinds false false true d e f is = refl
+  or_kinds false false false d e f is = absurd cc
+
+  one_init : (t : Ty) (k : Known) (b : Bool) → is_scalar t ≡ b → Into s t k → (b || is_struct t) ≡ true →
+      Initialises s t (TInit-F.One k.tree)
+  one_init t k true is into kinds = order.scalar is into.value.has into.is
+  one_init t k false is into kinds = order.struct_value kinds into.value.has into.is
+
+  assigned_good : (span : Span) (t : Ty) (k : Known) → ValueIn s k → Good s (FitsIn t) (assigned span false t k)
+  unfolding given_typed
+  assigned_good span t k value = record {
+    silent = λ env. refl;
+    holds = λ env inside kept texts.
+        let rules = rule 16 (assignable t k && may_begin false t k) ∷ [] in
+        let both = kept-first span 16 (assignable t k && may_begin false t k) [] (kept-rest span 12 (is_value k) rules kept) in
+        let fits = and_first (assignable t k) (may_begin false t k) both in
+        one_init t _ (is_scalar t) refl (assignable-in k t value fits)
+        (or_kinds (is_integer t) (is_pointer t) (is_struct t) (is_integer k.tree.ty)
+        (same_type t k.tree.ty || is_null k) (same_type t k.tree.ty) fits);
+  }
+
+  plain_good : (e : Expr) (t : Ty) (l : TyLayer) → Good s (FitsIn t)
+      (either (expression e).judged (asked (expression e).span (rule 16 (may_fit false (expression e).computes l) ∷ []))
+      (λ k. assigned (expression e).span false t (value k)))
+  plain_good e t l = good-either (expression e).judged _ _ (expression-good s e) (good-never _ (λ env. refl) (λ env. refl))
+      (λ k env. refl) (λ k known. assigned_good (expression e).span t (value k) (value-in k known))
+
+  expression_for_good : (e : Expr) (t : Ty) (l : TyLayer) → out-Ty t ≡ l → Good s (FitsIn t) (expression_for (expression e) false t l)
+  expression_for_good e t (Ty-F.Array element n) is =
+      array_good (expression e).span t element n (ap element_of_level is) e (expression e).text refl (is_char_type element)
+  expression_for_good e t Ty-F.Void is = plain_good e t Ty-F.Void
+  expression_for_good e t (Ty-F.Int i) is = plain_good e t (Ty-F.Int i)
+  expression_for_good e t (Ty-F.Pointer u) is = plain_good e t (Ty-F.Pointer u)
+  expression_for_good e t (Ty-F.Struct n) is = plain_good e t (Ty-F.Struct n)
+
+  -- ---- lists
+
+  pub record InitGood (i : InitSaid) : Type 0 where
+    pub loose : Silent i.loose
+    pub fits : (t : Ty) → Good s (FitsIn t) (i.fitted false t)
+
+  abbrev SlotFits : Option Slot → Fitted → Type 0
+  SlotFits None f = ⊥
+  SlotFits (Some x) f = FitsIn x.ty f
+
+  -- each fits the place of its number
+  abbrev FitsFrom : (ℕ → Option Slot) → ℕ → List Fitted → Type 0
+  FitsFrom slot k [] = Unit {0}
+  FitsFrom slot k (f ∷ fs) = SlotFits (slot k) f × FitsFrom slot (k + 1) fs
+
+  loose_silent : (is : List InitSaid) → AllByRecursion InitGood is → Silent (loose_all is)
+  loose_silent [] all env = refl
+  loose_silent (i ∷ is) all env =
+      none-after (loose_all is (behind (i.loose env) env)).names (i.loose env).names (loose_silent is all.1 (behind (i.loose env) env))
+      (all.0.loose env)
+
+  many_silent : (i : InitSaid) (is : List InitSaid) → InitGood i → AllByRecursion InitGood is → Silent (both (too_many i) (loose_all is))
+  many_silent i is good all = silent-both (too_many i) (loose_all is) good.loose (loose_silent is all)
+
+  abbrev fit_rest : (ℕ → Option Slot) → ℕ → InitSaid → List InitSaid → Option Slot → Judged (List Fitted)
+  fit_rest slot k i is o = elim o [
+    | None ↦ on (both (too_many i) (loose_all is)) (λ x. not_known)
+    | Some s ↦ on (both (i.fitted false s.ty) (fit_all slot false (k + 1) is)) (λ (f, fs). sure (moved_fitted s.offset f ∷ fs))
+  ]
+
+  rest_good : (slot : ℕ → Option Slot) (k : ℕ) (i : InitSaid) (is : List InitSaid) → InitGood i → AllByRecursion InitGood is →
+      Good s (FitsFrom slot (k + 1)) (fit_all slot false (k + 1) is) → (o : Option Slot) → slot k ≡ o →
+      Good s (FitsFrom slot k) (fit_rest slot k i is o)
+  rest_good slot k i is good all rest None same = good-on (both (too_many i) (loose_all is)) _
+      (good-any (both (too_many i) (loose_all is)) (many_silent i is good all)) (λ x env. refl)
+      (λ x known. good-never not_known (λ env. refl) (λ env. refl))
+  rest_good slot k i is good all rest (Some x) same = good-on (both (i.fitted false x.ty) (fit_all slot false (k + 1) is)) _
+      (good-both (i.fitted false x.ty) (fit_all slot false (k + 1) is) (good.fits x.ty) rest) (λ v env. refl)
+      (λ v known. good-sure (moved_fitted x.offset v.0 ∷ v.1)
+      (subst (λ o. SlotFits o (moved_fitted x.offset v.0)) (sym same) known.0, known.1))
+
+  all_good : (slot : ℕ → Option Slot) (k : ℕ) (is : List InitSaid) → AllByRecursion InitGood is →
+      Good s (FitsFrom slot k) (fit_all slot false k is)
+  all_good slot k [] all = good-sure [] tt
+  all_good slot k (i ∷ is) all = rest_good slot k i is all.0 all.1 (all_good slot (k + 1) is all.1) (slot k) refl
+
+  -- an initialiser of an int is one of an array or struct as the 0 of `{0}`
+  int_no_array : (is_array (ty.Int int.Int) || is_struct (ty.Int int.Int)) ≡ false
+  unfolding given_types
+  int_no_array = refl
+
+  int_no_element : (element : Ty) → element_of (ty.Int int.Int) ≡ Some element → ⊥
+  unfolding given_types
+  int_no_element element is = cc
+
+  int_no_struct : (number : ℕ) → struct_of (ty.Int int.Int) ≡ Some number → ⊥
+  unfolding given_types
+  int_no_struct number is = cc
+
+  int_is_integer : is_integer (ty.Int int.Int) ≡ true
+  unfolding given_types
+  int_is_integer = refl
+
+  zero_fits : (t u : Ty) (x : TInit-F TInit) → t ≡ ty.Int int.Int → (is_array u || is_struct u) ≡ true →
+      Initialises s t x → Initialises s u x
+  zero_fits t u x is kinds (order.scalar {e = e} scalar value same) =
+      order.zero_of_list kinds value (ap is_integer (same ∙ is) ∙ int_is_integer)
+  zero_fits t u x is kinds (order.struct_value {e = e} struct value same) =
+      order.zero_of_list kinds value (ap is_integer (same ∙ is) ∙ int_is_integer)
+  zero_fits t u x is kinds (order.text {element = element} there node_is text) =
+      absurd (int_no_element element (ap element_of (sym is) ∙ there))
+  zero_fits t u x is kinds (order.zero_of_list arrays value integer) =
+      let no : true ≡ false = sym arrays ∙ ap (λ t. is_array t || is_struct t) is ∙ int_no_array in absurd cc
+  zero_fits t u x is kinds (order.elements {element = element} there all) = absurd (int_no_element element (ap element_of (sym is) ∙ there))
+  zero_fits t u x is kinds (order.members {number = number} there all) = absurd (int_no_struct number (ap struct_of (sym is) ∙ there))
+
+  -- places of an array
+  slot_element : (element : Ty) (f : Fitted) (o : Option Slot) → ((x : Slot) → o ≡ Some x → x.ty ≡ element) → SlotFits o f →
+      Initialises s element (out-TInit f.tree)
+  slot_element element f None all fits = absurd fits
+  slot_element element f (Some x) all fits = subst (λ t. Initialises s t (out-TInit f.tree)) (all x refl) fits
+
+  elements_in : (slot : ℕ → Option Slot) (element : Ty) → ((k : ℕ) (x : Slot) → slot k ≡ Some x → x.ty ≡ element) → (k : ℕ)
+      (fs : List Fitted) → FitsFrom slot k fs → Elements s element (map tree_of fs)
+  elements_in slot element all k [] fits = order.no_element
+  elements_in slot element all k (f ∷ fs) fits =
+      order.element (slot_element element f (slot k) (all k) fits.0) (elements_in slot element all (k + 1) fs fits.1)
+
+  -- places of a struct
+  slot_none : (f : Fitted) (o : Option MemberInfo) → o ≡ None → SlotFits (member_slot o) f → ⊥
+  slot_none f None is fits = fits
+  slot_none f (Some m) is fits = absurd cc
+
+  slot_member : (f : Fitted) (m : MemberInfo) (o : Option MemberInfo) → o ≡ Some m → SlotFits (member_slot o) f →
+      Initialises s m.ty (out-TInit f.tree)
+  slot_member f m None is fits = absurd fits
+  slot_member f m (Some n) is fits = subst (λ (m : MemberInfo). Initialises s m.ty (out-TInit f.tree)) (same_Some n m is) fits
+
+  members_in : (ms rest : List MemberInfo) (k : ℕ) → ((j : ℕ) → slice_get ms (k + j) ≡ slice_get rest j) → (fs : List Fitted) →
+      FitsFrom (λ k. member_slot (slice_get ms k)) k fs → Members s rest (map tree_of fs)
+  members_in ms rest k same [] fits = order.no_member
+  members_in ms [] k same (f ∷ fs) fits =
+      let zero_on : k + 0 ≡ k = omega arith in
+      absurd (slot_none f (slice_get ms k) (subst (λ j. slice_get ms j ≡ None) zero_on (same 0)) fits.0)
+  members_in ms (m ∷ rest) k same (f ∷ fs) fits =
+      let zero_on : k + 0 ≡ k = omega arith in
+      order.member (slot_member f m (slice_get ms k) (subst (λ j. slice_get ms j ≡ Some m) zero_on (same 0)) fits.0)
+      (members_in ms rest (k + 1) (λ j.
+      let next : k + suc j ≡ k + 1 + j = omega arith in subst (λ i. slice_get ms i ≡ slice_get rest j) next (same (suc j))) fs fits.1)
+
+  -- ---- a list for what has places
+
+  abbrev ListFits : Ty → Span → (ℕ → Option Slot) → Type 0
+  ListFits t span slot = (fs : List Fitted) → FitsFrom slot 0 fs → Initialises s t (TInit-F.List (map tree_of fs) span)
+
+  braces_in : (t : Ty) (span : Span) (ts : List TInit) → Initialises s t (TInit-F.List ts span) →
+      Initialises s t (out-TInit (tinit.List ts span))
+  unfolding given_typed
+  braces_in t span ts init = subst (Initialises s t) (sym (out-roll-TInit (TInit-F.List ts span))) init
+
+  abbrev OneFits : Ty → List Fitted → Type 0
+  OneFits t [] = ⊥
+  OneFits t (f ∷ []) = FitsIn t f
+  OneFits t (f ∷ g ∷ fs) = ⊥
+
+  one_listed : (t : Ty) (o : Option Fitted) → IfSome o (FitsIn t) → IfSome (listed o (Some [])) (OneFits t)
+  one_listed t None holds = tt
+  one_listed t (Some f) holds = holds
+
+  one_good : (t : Ty) (p : Judged Fitted) → Good s (FitsIn t) p → Good s (OneFits t) (each (p ∷ []))
+  one_good t p good = record {
+    silent = λ env. good.silent env;
+    holds = λ env inside kept texts. one_listed t (p env).known (good.holds env inside (front (p env).faults [] kept)
+        (texts-front s env.texts (p env).texts [] texts));
+  }
+
+  slot_there : (slot : ℕ → Option Slot) (o : Option Slot) → slot 0 ≡ o → is_aggregate_slot o ≡ true → (f : Fitted) →
+      FitsIn (ty.Int int.Int) f → SlotFits o f
+  slot_there slot None same kinds f fits = absurd cc
+  slot_there slot (Some x) same kinds f fits = zero_fits (ty.Int int.Int) x.ty (out-TInit f.tree) refl kinds fits
+
+  zero_made : (t : Ty) (span : Span) (bytes : ℕ) (slot : ℕ → Option Slot) → ListFits t span slot → is_aggregate_slot (slot 0) ≡ true →
+      (fs : List Fitted) → OneFits (ty.Int int.Int) fs → Initialises s t (out-TInit (tinit.List (map tree_of fs) span))
+  zero_made t span bytes slot fits kinds [] one = absurd one
+  zero_made t span bytes slot fits kinds (f ∷ []) one =
+      braces_in t span (map tree_of (f ∷ [])) (fits (f ∷ []) (slot_there slot (slot 0) refl kinds f one, tt))
+  zero_made t span bytes slot fits kinds (f ∷ g ∷ fs) one = absurd one
+
+  zero_good : (t : Ty) (span : Span) (bytes : ℕ) (is : List InitSaid) → AllByRecursion InitGood is → is_zero_list is ≡ true →
+      (slot : ℕ → Option Slot) → ListFits t span slot → is_aggregate_slot (slot 0) ≡ true → Good s (FitsIn t) (zero_list span is bytes)
+  zero_good t span bytes [] all zeros slot fits kinds = absurd cc
+  zero_good t span bytes (i ∷ []) all zeros slot fits kinds =
+      good-on (each (i.fitted false (ty.Int int.Int) ∷ [])) _
+      (one_good (ty.Int int.Int) (i.fitted false (ty.Int int.Int)) (all.0.fits (ty.Int int.Int)))
+      (λ fs env. refl) (λ fs one. good-sure _ (zero_made t span bytes slot fits kinds fs one))
+  zero_good t span bytes (i ∷ j ∷ is) all zeros slot fits kinds = absurd cc
+
+  list_if : (t : Ty) (span : Span) (bytes : ℕ) (is : List InitSaid) → AllByRecursion InitGood is → (slot : ℕ → Option Slot) →
+      ListFits t span slot → (a b : Bool) → is_zero_list is ≡ a → is_aggregate_slot (slot 0) ≡ b →
+      Good s (FitsIn t) (if a && b then zero_list span is bytes else on (fit_all slot false 0 is) (λ fs. sure (in_braces span fs)))
+  list_if t span bytes is all slot fits true true zeros kinds = zero_good t span bytes is all zeros slot fits kinds
+  list_if t span bytes is all slot fits true false zeros kinds =
+      good-on (fit_all slot false 0 is) _ (all_good slot 0 is all) (λ fs env. refl)
+      (λ fs known. good-sure (in_braces span fs) (braces_in t span (map tree_of fs) (fits fs known)))
+  list_if t span bytes is all slot fits false b zeros kinds =
+      good-on (fit_all slot false 0 is) _ (all_good slot 0 is all) (λ fs env. refl)
+      (λ fs known. good-sure (in_braces span fs) (braces_in t span (map tree_of fs) (fits fs known)))
+
+  list_by_good : (t : Ty) (span : Span) (bytes : ℕ) (is : List InitSaid) → AllByRecursion InitGood is → (slot : ℕ → Option Slot) →
+      ListFits t span slot → Good s (FitsIn t) (list_by span is false bytes (Some slot))
+  list_by_good t span bytes is all slot fits =
+      list_if t span bytes is all slot fits (is_zero_list is) (is_aggregate_slot (slot 0)) refl refl
+
+  -- ---- lists, by what they are for
+
+  fitted_silent : (is : List InitSaid) → AllByRecursion InitGood is → Silent (each (map (λ i. i.fitted false (ty.Int int.Int)) is))
+  fitted_silent [] all env = refl
+  fitted_silent (i ∷ is) all env =
+      let a = i.fitted false (ty.Int int.Int) env in
+      none-after (each (map (λ i. i.fitted false (ty.Int int.Int)) is) (behind a env)).names a.names
+      (fitted_silent is all.1 (behind a env)) ((all.0.fits (ty.Int int.Int)).silent env)
+
+  list_silent : (span : Span) (bytes : ℕ) (is : List InitSaid) → AllByRecursion InitGood is → (slot : ℕ → Option Slot) → (b : Bool) →
+      Silent (if b then zero_list span is bytes else on (fit_all slot false 0 is) (λ fs. sure (in_braces span fs)))
+  list_silent span bytes is all slot true = silent-on (each (map (λ i. i.fitted false (ty.Int int.Int)) is)) _ (fitted_silent is all)
+      (λ fs env. refl)
+  list_silent span bytes is all slot false = silent-on (fit_all slot false 0 is) _ (all_good slot 0 is all).silent (λ fs env. refl)
+
+  by_silent : (span : Span) (bytes : ℕ) (is : List InitSaid) → AllByRecursion InitGood is → (o : Option (ℕ → Option Slot)) →
+      Silent (list_by span is false bytes o)
+  by_silent span bytes is all None = silent-on (loose_all is) _ (loose_silent is all) (λ x env. refl)
+  by_silent span bytes is all (Some slot) = list_silent span bytes is all slot (is_zero_list is && is_aggregate_slot (slot 0))
+
+  for_silent : (span : Span) (t : Ty) (is : List InitSaid) → AllByRecursion InitGood is → (env : Env) (b : Bool) →
+      (if b then on (loose_all is) (λ x. not_known {A = Fitted}) env
+      else list_by span is false (first_scalar env.structs t) (slots env.structs (out-Ty t)) env).names ≡ []
+  for_silent span t is all env true = silent-on (loose_all is) (λ x. not_known) (loose_silent is all) (λ x env. refl) env
+  for_silent span t is all env false = by_silent span (first_scalar env.structs t) is all (slots env.structs (out-Ty t)) env
+
+  nowhere_good : (t : Ty) (span : Span) (bytes : ℕ) (is : List InitSaid) → AllByRecursion InitGood is →
+      Good s (FitsIn t) (list_by span is false bytes None)
+  nowhere_good t span bytes is all = good-on (loose_all is) _ (good-any (loose_all is) (loose_silent is all)) (λ x env. refl)
+      (λ x known. good-never (breaks 16 span) (λ env. refl) (λ env. refl))
+
+  slot_is : (b : Bool) (element : Ty) (offset : ℕ) (x : Slot) →
+      ◌≡◌ {A = Option Slot} (if b then Some (record { ty = element; offset = offset }) else None) (Some x) → x.ty ≡ element
+  slot_is true element offset x is = ap (λ (x : Slot). x.ty) (sym (same_Some (record { ty = element; offset = offset }) x is))
+  slot_is false element offset x is = absurd cc
+
+  struct_complete : (a b : Bool) → (a && (if b then false else true)) ≡ false → a ≡ true → b ≡ true
+  struct_complete true true is its = refl
+  struct_complete true false is its = absurd cc
+  struct_complete false b is its = absurd cc
+
+  struct_slots : (t : Ty) (span : Span) (env : Env) → TableIn env s → (number : ℕ) → out-Ty t ≡ Ty-F.Struct number →
+      is_complete env.structs t ≡ true → ListFits t span (λ k. member_slot (slice_get (members_of (slice_get env.structs number)) k))
+  unfolding given_types
+  struct_slots t span env table number is complete fs fits =
+      let whole : ty.Struct number ≡ t = ap roll-Ty (sym is) ∙ roll-out-Ty t in
+      let there : complete_struct (slice_get env.structs number) ≡ true =
+      sym (complete-struct env.structs number) ∙ ap (is_complete env.structs) whole ∙ complete in
+      let same = table.extends number there in
+      order.members (ap struct_of_level is)
+      (subst (λ o. Members s (members_of o) (map tree_of fs)) (sym same)
+      (members_in (members_of (slice_get env.structs number)) (members_of (slice_get env.structs number)) 0 (λ j.
+      let zero_on : 0 + j ≡ j = omega arith in ap (slice_get (members_of (slice_get env.structs number))) zero_on) fs fits))
+
+  array_slots : (t : Ty) (span : Span) (env : Env) (element : Ty) (n : ℕ) → out-Ty t ≡ Ty-F.Array element n →
+      ListFits t span (λ k. (if ltb k n then Some (record { ty = element; offset = k * size env.structs element % 2 ^ 64 }) else None))
+  array_slots t span env element n is fs fits =
+      order.elements (ap element_of_level is) (elements_in _ element (λ k x same. slot_is (ltb k n) element _ x same) 0 fs fits)
+
+  level_good : (t : Ty) (span : Span) (bytes : ℕ) (is : List InitSaid) → AllByRecursion InitGood is → (env : Env) → TableIn env s →
+      (is_struct t ≡ true → is_complete env.structs t ≡ true) → (l : TyLayer) → out-Ty t ≡ l →
+      Good s (FitsIn t) (list_by span is false bytes (slots env.structs l))
+  level_good t span bytes is all env table complete (Ty-F.Array element n) same =
+      list_by_good t span bytes is all _ (array_slots t span env element n same)
+  level_good t span bytes is all env table complete (Ty-F.Struct number) same =
+      list_by_good t span bytes is all _
+      (struct_slots t span env table number same (complete (ap (λ l. is_there (struct_of_level l)) same)))
+  level_good t span bytes is all env table complete Ty-F.Void same = nowhere_good t span bytes is all
+  level_good t span bytes is all env table complete (Ty-F.Int i) same = nowhere_good t span bytes is all
+  level_good t span bytes is all env table complete (Ty-F.Pointer u) same = nowhere_good t span bytes is all
+
+  for_holds : (t : Ty) (span : Span) (is : List InitSaid) → AllByRecursion InitGood is → (env : Env) → EnvIn env s → (b : Bool) →
+      (is_struct t && (if is_complete env.structs t then false else true)) ≡ b →
+      let o = (if b then on (loose_all is) (λ x. not_known {A = Fitted}) env
+      else list_by span is false (first_scalar env.structs t) (slots env.structs (out-Ty t)) env) in
+      o.faults ≡ [] → TextsIn s env.texts o.texts → IfSome o.known (FitsIn t)
+  for_holds t span is all env inside true same kept texts =
+      (good-on {Q = FitsIn t} (loose_all is) (λ x. not_known) (good-any (loose_all is) (loose_silent is all)) (λ x env. refl)
+      (λ x known. good-never not_known (λ env. refl) (λ env. refl))).holds env inside kept texts
+  for_holds t span is all env inside false same kept texts =
+      (level_good t span (first_scalar env.structs t) is all env inside.table
+      (struct_complete (is_struct t) (is_complete env.structs t) same)
+      (out-Ty t) refl).holds env inside kept texts
+
+  list_good : (is : List InitSaid) (span : Span) → AllByRecursion InitGood is → InitGood (init_step (Init-F.List is span))
+  list_good is span all = record {
+    loose = silent-on (loose_all is) _ (loose_silent is all) (λ x env. refl);
+    fits = λ t. record {
+      silent = λ env. for_silent span t is all env (is_struct t && (if is_complete env.structs t then false else true));
+      holds = λ env inside kept texts. for_holds t span is all env inside _ refl kept texts;
+    };
+  }
+
+  one_init_good : (e : Expr) → InitGood (init_step (Init-F.One e))
+  one_init_good e = record {
+    loose = silent-on (expression e).judged _ (expression-good s e).silent (λ k env. refl);
+    fits = λ t. expression_for_good e t (out-Ty t) refl;
+  }
+
+  -- ---- all of them
+
+  abbrev WithInit : Type 0
+  WithInit = (i : Init) × InitGood (initialiser i)
+
+  inits_with : Init-F WithInit → Init-F Init
+  inits_with = map-Init WithInit Init (λ i. i.0)
+
+  each_init : (is : List WithInit) → AllByRecursion InitGood (map initialiser (map (λ i. i.0) is))
+  each_init [] = tt
+  each_init (i ∷ is) = (i.1, each_init is)
+
+  init_is : (d : Init-F Init) → InitGood (init_step (map-Init Init InitSaid initialiser d)) → InitGood (initialiser (roll-Init d))
+  init_is d good = subst InitGood (sym (fold-roll-Init InitSaid init_step d)) good
+
+  init_good : (y : Init-F WithInit) → InitGood (initialiser (roll-Init (inits_with y)))
+  unfolding inits_with
+  init_good (Init-F.One e) = init_is (Init-F.One e) (one_init_good e)
+  init_good (Init-F.List is span) = init_is (Init-F.List (map (λ i. i.0) is) span)
+      (list_good (map initialiser (map (λ i. i.0) is)) span (each_init is))
+
+  inits_good : (x : Init-F Init) (y : Init-F WithInit) → inits_with y ≡ x → InitGood (initialiser (roll-Init x))
+  inits_good x y is = subst (λ x. InitGood (initialiser (roll-Init x))) is (init_good y)
+
+  -- an initialiser of a local without a fault is in order
+  pub initialiser-good : (i : Init) → InitGood (initialiser i)
+  unfolding inits_with
+  initialiser-good = ind-Init (λ i. InitGood (initialiser i)) inits_good
