@@ -3,6 +3,7 @@ use Rattle.std.proofs.Common.{◌≡◌, ℕ, List, refl, ap}
 use Rattle.c_ast.specs.declared.program.Program.{Program}
 use Rattle.c_ast.specs.declared.token.Span.{Span}
 use Rattle.c_type_base.specs.declared.typed.Typed.{Typed}
+use Rattle.c_type_expr.specs.declared.fault.Fault.{Fault}
 use Rattle.c_types.specs.Refusal.{refusal_of}
 use Rattle.c_types.specs.WellTyped.{WellTyped, FirstBroken}
 use Rattle.c_types.specs.Laws.WellTypedLaws.{one_typed, one_first_broken, not_both}
@@ -26,7 +27,7 @@ data TypesStop (program : Program) : CompileRefusal → ℕ → Type 0 where
 types_once : (program : Program) (r s : CompileRefusal) (p q : ℕ) → TypesStop program r p → TypesStop program s q → (r ≡ s) × (p ≡ q)
 types_once program _ _ _ _ (breaks m s first) (breaks n t second) =
     let same = one_first_broken program m n s t first second in
-    (ap (λ f. Types (refusal_of f.number f.span)) same, ap (λ f. f.span.start) same)
+    (ap (λ (f : Fault). Types (refusal_of f.number f.span)) same, ap (λ (f : Fault). f.span.start) same)
 
 types_never : (program : Program) (typed : Typed) (r : CompileRefusal) (p : ℕ) → WellTyped program typed → TypesStop program r p → ⊥
 types_never program typed _ _ well (breaks number span first) = not_both program typed number span well first
