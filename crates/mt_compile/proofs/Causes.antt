@@ -6,7 +6,6 @@ use Rattle.c_ast.specs.declared.token.Span.{Span}
 use Rattle.c_type_base.specs.declared.typed.Typed.{Typed}
 use Rattle.c_types.specs.Refusal.{IsCause as IsTypesCause, refusal_of}
 use Rattle.c_types.specs.declared.refusal.TypeRefusal.{TypeRefusal}
-use Rattle.c_types.specs.declared.refusal.TypeRefusal.TheVariants as types
 use Rattle.frame_plan.specs.Refusal.{HasNoText, many, large}
 use Rattle.frame_plan.specs.declared.refusal.PlanRefusal.{PlanRefusal}
 use Rattle.frame_plan.specs.declared.refusal.PlanRefusal.TheVariants as plan

@@ -1,5 +1,4 @@
 -- A refusal with its place, and those of a source as the compiler gives them.
-use Rattle.std.specs.Prelude.{ℕ}
 use Rattle.c_lex.specs.Refusal.{place_of}
 use Rattle.c_lex.specs.declared.fault.LexRefusal.{LexRefusal}
 use Rattle.c_lex.specs.declared.fault.LexRefusal.TheVariants as lex

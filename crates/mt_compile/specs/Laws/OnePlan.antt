@@ -1,5 +1,5 @@
 -- A text has one typed program, or one refusal, and not both; and so it is for the lines that tell its frames.
-use Rattle.std.proofs.Common.{◌≡◌, ℕ, List, refl, ap}
+use Rattle.std.proofs.Common.{◌≡◌, ℕ, List, ap}
 use Rattle.c_ast.specs.declared.program.Program.{Program}
 use Rattle.c_ast.specs.declared.token.Span.{Span}
 use Rattle.c_type_base.specs.declared.typed.Typed.{Typed}
