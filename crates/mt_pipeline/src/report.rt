@@ -76,9 +76,7 @@ fn report_refusal<E: Sink>(
     match refusal {
         CompileRefusal::Lex(LexRefusal::TextTooLong)
         | CompileRefusal::Plan(PlanRefusal::TooManyFunctions { .. })
-        | CompileRefusal::NotYet => {
-            write!(line, "mtcc: {file}: {refusal}\n")
-        }
+        | CompileRefusal::NotYet => { write!(line, "mtcc: {file}: {refusal}\n") }
         _ => write!(line, "mtcc: {file}:{place}: {refusal}\n"),
     }
 }
