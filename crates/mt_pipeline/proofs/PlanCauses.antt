@@ -7,7 +7,7 @@ use Rattle.mt_compile.specs.Laws.OnePlan.{one_plan, one_plan_refusal, no_plan}
 use Rattle.mt_compile.specs.declared.refusal.CompileRefusal.{CompileRefusal}
 use Rattle.mt_compile.specs.declared.refusal.CompileRefusal.TheVariants.{NoMemory as SourceNoMemory}
 use Rattle.mt_pipeline.specs.Plan.{CauseOfPlan, put, put_failed, refused, unread, no_memory, Plans}
-use Rattle.mt_pipeline.specs.Put.{Output, PutsAll, PutsPart, with_output, IsPut, all, part}
+use Rattle.mt_pipeline.specs.Put.{Output, PutsAll, with_output, IsPut, all, part}
 use Rattle.mt_pipeline.specs.Counted.{UncountedReads}
 use Rattle.mt_pipeline.specs.Answer.{ended_of}
 use Rattle.mt_pipeline.specs.Read.{CauseOfNoBytes}

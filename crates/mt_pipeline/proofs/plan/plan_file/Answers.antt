@@ -1,4 +1,4 @@
-use Rattle.std.proofs.Common.{◌≡◌, ◌∙◌, List, ℕ, refl, sym, subst}
+use Rattle.std.proofs.Common.{List, ℕ, refl, sym, subst}
 use Rattle.mt_compile.specs.Planned.{HasPlan, IsPlanCause}
 use Rattle.mt_pipeline.specs.declared.answer.Answer.{Answer}
 use Rattle.mt_pipeline.specs.Answer.{ended_of}
