@@ -8,7 +8,7 @@ use Rattle.c_lex.specs.declared.fault.LexRefusal.TheVariants as lex
 use Rattle.c_lex.specs.Refusal.{IsCause as IsLexCause, text_limit}
 use Rattle.c_lex.specs.Tokens.{Tokens}
 use Rattle.mt_compile.specs.Causes.{of_text}
-use Rattle.mt_compile.specs.Refused.{IsCause, faulty, too_long}
+use Rattle.mt_compile.specs.Refused.{IsReadCause, faulty, too_long}
 use Rattle.mt_compile.specs.Source.{HasTokens}
 
 -- a text that is not longer than the limit
@@ -33,7 +33,7 @@ same_err : (X : Type 0) {a b : LexRefusal} → SameAnswer {X = X} (Err a) (Err b
 same_err X e = cc
 
 text_so : (text : List ℕ) (refusal : LexRefusal) → IsLexCause text refusal → (text_limit < length text → refusal ≡ lex.TextTooLong) →
-    IsCause text (of_text refusal)
+    IsReadCause text (of_text refusal)
 text_so text lex.NoMemory cause only = inl refl
 text_so text lex.TextTooLong cause only = inr (too_long cause)
 text_so text (lex.BadByte at) cause only =
@@ -49,5 +49,5 @@ text_so text (lex.BadDirective at) cause only =
 
 -- what the lexer says of a text is a cause
 pub text_cause : (X : Type 0) (text : List ℕ) (refusal : LexRefusal) → IsLexCause text refusal →
-    (text_limit < length text → SameAnswer {X = X} (Err refusal) (Err lex.TextTooLong)) → IsCause text (of_text refusal)
+    (text_limit < length text → SameAnswer {X = X} (Err refusal) (Err lex.TextTooLong)) → IsReadCause text (of_text refusal)
 text_cause X text refusal cause only = text_so text refusal cause (λ long. same_err X (only long))

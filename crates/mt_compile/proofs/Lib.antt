@@ -1,3 +1,4 @@
 pub mod ConstantExamples
 pub mod Encoded
 pub mod LexCauses
+pub mod Causes

@@ -4,3 +4,4 @@ pub mod ConstantTrees
 pub mod Respelled
 pub mod RefusedPlaces
 pub mod OneRefusal
+pub mod OnePlan

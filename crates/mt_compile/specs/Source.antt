@@ -1,4 +1,4 @@
--- The texts of the programs that are taken today.
+-- The program of a text, and the texts of the programs that are compiled today.
 use Rattle.std.specs.Prelude.{◌≡◌, ◌≤◌, ℕ, List, length}
 use Rattle.c_ast.specs.Seen.{all_seen}
 use Rattle.c_ast.specs.declared.program.Program.{Program}
@@ -13,12 +13,16 @@ pub record HasTokens (text : List ℕ) (tokens : List Token) : Type 0 where
   pub within : length text ≤ text_limit
   pub are : Tokens text (all_seen tokens)
 
--- the tokens of the text spell a program within the limit of levels, which returns this constant
-pub record ReturnsConstant (text : List ℕ) (n : ℕ) : Type 0 where
+-- the tokens of the text spell this program within the limit of levels
+pub record SpelledBy (text : List ℕ) (program : Program) : Type 0 where
   pub tokens : List Token
-  pub program : Program
   pub held : HasTokens text tokens
   pub spells : SpellsWithin limit tokens program
+
+-- the text spells a program that returns this constant
+pub record ReturnsConstant (text : List ℕ) (n : ℕ) : Type 0 where
+  pub program : Program
+  pub spelled : SpelledBy text program
   pub constant : IsConstantProgram program n
 
 -- the text returns this constant, and no other

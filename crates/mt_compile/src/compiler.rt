@@ -6,11 +6,10 @@ ghost use Rattle.mt_compile.specs.Source.{ReturnsOnly};
 
 use crate::code::words_of;
 use crate::constant::constant_of;
+use crate::program::program_of;
 use crate::refusal::CompileRefusal;
 use crate::refused::Refused;
 use crate::source::SourceText;
-use c_lex::lex;
-use c_parse::parse;
 use std::alloc::Global;
 
 /// The words of a source's code, or its refusal with the byte that is told of it.
@@ -29,13 +28,9 @@ fn constant_in(alloc: Global, text: &[u8]) -> Result<u32, Refused<CompileRefusal
     ensures constant { IfOk result (ReturnsOnly text.now) }
     ensures refused { IfErr result (IsCause text.now) }
 {
-    let tokens = match lex(alloc, text) {
-        Ok(tokens) => tokens,
-        Err(refusal) => return Err(CompileRefusal::of_text(refusal)),
-    };
-    let program = match parse(alloc, &tokens) {
+    let program = match program_of(alloc, text) {
         Ok(program) => program,
-        Err(refusal) => return Err(CompileRefusal::of_tokens(text, &tokens, refusal)),
+        Err(refused) => return Err(refused),
     };
     match constant_of(&program) {
         Some(n) => Ok(n),

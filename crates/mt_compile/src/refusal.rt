@@ -2,6 +2,8 @@
 
 use c_lex::LexRefusal;
 use c_parse::ParseRefusal;
+use c_types::TypeRefusal;
+use frame_plan::PlanRefusal;
 use std::alloc::AllocError;
 use thiserror::Error;
 
@@ -14,7 +16,13 @@ pub enum CompileRefusal {
     /// Its tokens spell no program that is read.
     #[error("{0}")]
     Parse(ParseRefusal),
-    /// Its program is not of the form that is taken today.
+    /// Its program breaks a rule on types.
+    #[error("{0}")]
+    Types(TypeRefusal),
+    /// Its program has too many functions, or a frame that is too large.
+    #[error("{0}")]
+    Plan(PlanRefusal),
+    /// Its program is not of the form that is compiled today.
     #[error("NotYet")]
     NotYet,
     /// Want of memory.
@@ -33,6 +41,8 @@ impl CompileRefusal {
         match self {
             CompileRefusal::Lex(refusal) => refusal.number(),
             CompileRefusal::Parse(refusal) => refusal.number(),
+            CompileRefusal::Types(refusal) => refusal.number(),
+            CompileRefusal::Plan(refusal) => refusal.number(),
             CompileRefusal::NotYet => 44,
             CompileRefusal::NoMemory => 0,
         }

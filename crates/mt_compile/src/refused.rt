@@ -2,14 +2,16 @@
 ghost use Rattle.std.specs.Prelude.{◌≡◌, ◌≤◌, length, Err};
 ghost use Rattle.c_lex.specs.Refusal.{text_limit};
 ghost use Rattle.c_parse.specs.Parsed.{Parsed, limit};
-ghost use Rattle.mt_compile.specs.Causes.{of_text, without_place};
-ghost use Rattle.mt_compile.specs.Refused.{IsCause, byte_at};
+ghost use Rattle.mt_compile.specs.Causes.{of_plan, of_text, of_types, without_place};
+ghost use Rattle.mt_compile.specs.Refused.{IsReadCause, byte_at};
 ghost use Rattle.mt_compile.specs.Source.{HasTokens};
 
 use crate::refusal::CompileRefusal;
 use c_ast::Token;
 use c_lex::LexRefusal;
 use c_parse::ParseRefusal;
+use c_types::TypeRefusal;
+use frame_plan::PlanRefusal;
 use std::alloc::{AllocError, AllocFailed};
 
 /// Why something is refused, and the place in it that is told: 0 where none is told.
@@ -67,7 +69,7 @@ impl CompileRefusal {
     ) -> Refused<CompileRefusal>
         requires held { HasTokens text.now tokens.now }
         requires cause { Parsed limit tokens.now (Err refusal) }
-        ensures { IsCause text.now result }
+        ensures { IsReadCause text.now result }
     {
         match refusal {
             ParseRefusal::Unexpected { place } => Refused {
@@ -79,6 +81,34 @@ impl CompileRefusal {
                 place: byte_at(text, tokens, place),
             },
             ParseRefusal::NoMemory => Refused::without_place(CompileRefusal::NoMemory),
+        }
+    }
+
+    /// Of a program that breaks a rule on types, with the byte where its construct starts.
+    pub(crate) fn of_types(refusal: TypeRefusal) -> Refused<CompileRefusal>
+        ensures { result ≡ of_types refusal }
+    {
+        let place = refusal.place();
+        match refusal {
+            TypeRefusal::NoMemory => Refused::without_place(CompileRefusal::NoMemory),
+            refusal => Refused {
+                refusal: CompileRefusal::Types(refusal),
+                place,
+            },
+        }
+    }
+
+    /// Of a program with too many functions or a frame that is too large, with the byte where that function starts.
+    pub(crate) fn of_plan(refusal: PlanRefusal) -> Refused<CompileRefusal>
+        ensures { result ≡ of_plan refusal }
+    {
+        let place = refusal.place();
+        match refusal {
+            PlanRefusal::NoMemory => Refused::without_place(CompileRefusal::NoMemory),
+            refusal => Refused {
+                refusal: CompileRefusal::Plan(refusal),
+                place,
+            },
         }
     }
 }

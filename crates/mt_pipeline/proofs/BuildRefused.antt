@@ -1,6 +1,7 @@
 -- Why texts are not built, as a cause of the build and of the commands.
 use Rattle.std.proofs.Common.{◌≡◌, ◌⊎◌, ℕ, List, [], ◌∷◌, ◌++◌, length, refl, sym, ap, subst, inl, inr, arith}
-use Rattle.mt_compile.specs.Refused.{Refuses, IsCause as IsSourceCause, faulty, too_long, unexpected, too_deep, not_yet}
+use Rattle.mt_compile.specs.Refused.{ReadRefuses, faulty, too_long, unexpected, too_deep}
+use Rattle.mt_compile.specs.Refused.{Refuses, IsCause as IsSourceCause, unread, not_yet}
 use Rattle.mt_compile.specs.declared.refusal.CompileRefusal.{CompileRefusal}
 use Rattle.mt_compile.specs.declared.refusal.CompileRefusal.TheVariants as compile
 use Rattle.mt_compile.specs.declared.refused.Refused.{Refused}
@@ -26,6 +27,12 @@ source_refuses texts front back objects text file byte (compile.Lex r) parts com
 source_refuses texts front back objects text file byte (compile.Parse r) parts compiled at refuses differ =
     inr (subst (λ n. RefusesTexts texts (of_source n (compile.Parse r) byte).refusal byte) at
     (source front back objects parts compiled refuses))
+source_refuses texts front back objects text file byte (compile.Types r) parts compiled at refuses differ =
+    inr (subst (λ n. RefusesTexts texts (of_source n (compile.Types r) byte).refusal byte) at
+    (source front back objects parts compiled refuses))
+source_refuses texts front back objects text file byte (compile.Plan r) parts compiled at refuses differ =
+    inr (subst (λ n. RefusesTexts texts (of_source n (compile.Plan r) byte).refusal byte) at
+    (source front back objects parts compiled refuses))
 source_refuses texts front back objects text file byte compile.NotYet parts compiled at refuses differ =
     inr (subst (λ n. RefusesTexts texts (of_source n compile.NotYet byte).refusal byte) at
     (source front back objects parts compiled refuses))
@@ -35,12 +42,15 @@ wants : (texts : List (List ℕ)) (file byte : ℕ) (refusal : CompileRefusal) �
     IsCause texts (of_source file refusal byte)
 wants texts file byte refusal is = subst (λ r. IsCause texts (of_source file r byte)) (sym is) (inl refl)
 
+read_not_memory : (text : List ℕ) (refusal : CompileRefusal) (byte : ℕ) → ReadRefuses text refusal byte → ¬ (refusal ≡ compile.NoMemory)
+read_not_memory text _ _ (faulty within first) is = cc
+read_not_memory text _ _ (too_long long) is = cc
+read_not_memory text _ _ (unexpected held first) is = cc
+read_not_memory text _ _ (too_deep held first) is = cc
+
 not_memory : (text : List ℕ) (refusal : CompileRefusal) (byte : ℕ) → Refuses text refusal byte → ¬ (refusal ≡ compile.NoMemory)
-not_memory text _ _ (faulty within first) is = cc
-not_memory text _ _ (too_long long) is = cc
-not_memory text _ _ (unexpected held first) is = cc
-not_memory text _ _ (too_deep held first) is = cc
-not_memory text _ _ (not_yet held spells none) is = cc
+not_memory text refusal byte (unread refuses) is = read_not_memory text refusal byte refuses is
+not_memory text _ _ (not_yet program spelled none) is = cc
 
 -- the first text that is refused, behind others that have code
 pub source_cause : (texts front back objects : List (List ℕ)) (text : List ℕ) (file : ℕ) (refused : Refused CompileRefusal) →

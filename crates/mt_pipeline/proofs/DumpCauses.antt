@@ -1,16 +1,17 @@
 -- The answers of the command `dump`, from their causes.
-use Rattle.std.proofs.Common.{◌≡◌, ◌⊎◌, ℕ, List, Some, refl, sym, ap, ◌∙◌, subst, inl, inr}
+use Rattle.std.proofs.Common.{◌≡◌, ◌⊎◌, ℕ, List, Some, refl, sym, ap, subst, inl, inr}
 use Rattle.mt_outside.specs.Told.{Rose}
 use Rattle.memtag_dump.specs.Lines.{HasText}
 use Rattle.memtag_dump.specs.Refusal.{HasNoText, number_of, place_of}
 use Rattle.memtag_dump.specs.Laws.OneText.{one_text, one_fault, no_fault}
 use Rattle.memtag_dump.specs.declared.refusal.DumpRefusal.{DumpRefusal}
 use Rattle.memtag_dump.specs.declared.refusal.DumpRefusal.TheVariants.{NoMemory as DumpNoMemory}
-use Rattle.mt_pipeline.specs.Dump.{Output, PutsAll, PutsPart, CauseOfDump, put, put_failed, refused, unread, no_memory, Dumps, with_output}
-use Rattle.mt_pipeline.specs.Counted.{UncountedReads, IsReadFault}
+use Rattle.mt_pipeline.specs.Dump.{CauseOfDump, put, put_failed, refused, unread, no_memory, Dumps}
+use Rattle.mt_pipeline.specs.Put.{Output, PutsAll, with_output, IsPut, all, part}
+use Rattle.mt_pipeline.specs.Counted.{UncountedReads}
 use Rattle.mt_pipeline.specs.Answer.{ended_of}
 use Rattle.mt_pipeline.specs.Read.{CauseOfNoBytes}
-use Rattle.mt_pipeline.specs.Undumped.{answer_to_dump, IsPut, all, part}
+use Rattle.mt_pipeline.specs.Undumped.{answer_to_dump}
 use Rattle.mt_pipeline.specs.Unread.{answer_to_unread, why_unread}
 use Rattle.mt_pipeline.specs.declared.answer.Answer.{Answer}
 use Rattle.mt_pipeline.specs.declared.read.Unread.{Unread}

@@ -3,17 +3,18 @@ use Rattle.std.proofs.Common.{◌≡◌, ℕ, List, [], ◌∷◌, Bool, true, f
 use Rattle.std.specs.Prelude.{codes}
 use Rattle.std.specs.Str.{bytes_eq}
 use Rattle.std.specs.Str.Parse.{digits_value}
-use Rattle.mt_pipeline.specs.Job.{Job, Go, Build, Run, Dump, HasJob, go, go_steps, build, run, run_steps, dump, default_steps}
+use Rattle.mt_pipeline.specs.Job.{Job, Go, Build, Run, Dump, Plan, HasJob, go, go_steps, build, run, run_steps, dump, plan, default_steps}
 
 -- the job of a command that runs something, by whether its name is `go`
 named : Bool → List ℕ → ℕ → Job
 named true file steps = Go file steps
 named false file steps = Run file steps
 
--- the job of a command without an option, by whether its name is `dump`, and `go`
-alone : Bool → Bool → List ℕ → Job
-alone true is_go file = Dump file
-alone false is_go file = named is_go file default_steps
+-- the job of a command without an option, by whether its name is `dump`, `plan`, and `go`
+alone : Bool → Bool → Bool → List ℕ → Job
+alone true is_plan is_go file = Dump file
+alone false true is_go file = Plan file
+alone false false is_go file = named is_go file default_steps
 
 -- the job of a command with an option, by whether its name is `build`, and `go`
 with_option : Bool → Bool → List ℕ → List ℕ → Job
@@ -21,7 +22,7 @@ with_option true is_go file value = Build file value
 with_option false is_go file value = named is_go file (digits_value 10 value)
 
 asked : List (List ℕ) → Option Job
-asked (a ∷ file ∷ []) = Some (alone (bytes_eq a (codes "dump")) (bytes_eq a (codes "go")) file)
+asked (a ∷ file ∷ []) = Some (alone (bytes_eq a (codes "dump")) (bytes_eq a (codes "plan")) (bytes_eq a (codes "go")) file)
 asked (a ∷ file ∷ option ∷ value ∷ []) = Some (with_option (bytes_eq a (codes "build")) (bytes_eq a (codes "go")) file value)
 asked _ = None
 
@@ -33,6 +34,7 @@ asks words _ (go_steps file digits steps e n) = ap asked e ∙ ap (λ m. Some (G
 asks words _ (build file out e) = ap asked e
 asks words _ (run image e) = ap asked e
 asks words _ (dump file e) = ap asked e
+asks words _ (plan file e) = ap asked e
 asks words _ (run_steps image digits steps e n) = ap asked e ∙ ap (λ m. Some (Run image m)) n.value
 
 one_job : (j k : Job) → Some j ≡ Some k → j ≡ k

@@ -16,3 +16,4 @@ pub mod Objects
 pub mod Taken
 pub mod Written
 pub mod DumpCauses
+pub mod PlanCauses

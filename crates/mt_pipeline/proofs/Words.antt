@@ -6,7 +6,7 @@ use Rattle.std.proofs.lemmas.Slice.Eq.{bytes_eq-Decides}
 use Rattle.std.specs.Prelude.{codes}
 use Rattle.mt_pipeline.specs.Number.{IsSteps}
 use Rattle.mt_pipeline.specs.Command.{Asks, AsksAlone, AsksWith}
-use Rattle.mt_pipeline.specs.Job.{Job, Go, Build, Run, Dump, HasJob, go, go_steps, build, run, run_steps, dump, default_steps}
+use Rattle.mt_pipeline.specs.Job.{Job, Go, Build, Run, Dump, Plan, HasJob, go, go_steps, build, run, run_steps, dump, plan, default_steps}
 
 pub two_items : {A : Type 0} (xs : List A) (a b : A) → 2 ≤ length xs → length xs < 3 → a ≡ get_or xs 0 a → b ≡ get_or xs 1 b →
     xs ≡ a ∷ b ∷ []
@@ -27,22 +27,27 @@ four_items (x ∷ y ∷ z ∷ w ∷ v ∷ vs) a b c d least most first second th
 -- two words ask for what the first of them names
 pub two_ask : (words : List (List ℕ)) (a b : List ℕ) (job : Job) → words ≡ a ∷ b ∷ [] → AsksAlone a b job → HasJob words job
 two_ask words a b job are (inl is) = subst (λ j. HasJob words j) (sym is.1) (dump b (are ∙ ap (λ x. x ∷ b ∷ []) is.0))
-two_ask words a b job are (inr (inl is)) = subst (λ j. HasJob words j) (sym is.1) (go b (are ∙ ap (λ x. x ∷ b ∷ []) is.0))
-two_ask words a b job are (inr (inr is)) = subst (λ j. HasJob words j) (sym is.1) (run b (are ∙ ap (λ x. x ∷ b ∷ []) is.0))
+two_ask words a b job are (inr (inl is)) = subst (λ j. HasJob words j) (sym is.1) (plan b (are ∙ ap (λ x. x ∷ b ∷ []) is.0))
+two_ask words a b job are (inr (inr (inl is))) = subst (λ j. HasJob words j) (sym is.1) (go b (are ∙ ap (λ x. x ∷ b ∷ []) is.0))
+two_ask words a b job are (inr (inr (inr is))) = subst (λ j. HasJob words j) (sym is.1) (run b (are ∙ ap (λ x. x ∷ b ∷ []) is.0))
 
 pub two_asked : (words : List (List ℕ)) (a b : List ℕ) (job : Job) → words ≡ a ∷ b ∷ [] → HasJob words job → AsksAlone a b job
 two_asked words a b _ are (go file e) =
     let name : a ≡ codes "go" = cc in
     let same : file ≡ b = cc in
-    inr (inl (name, ap (λ f. Go f default_steps) same))
+    inr (inr (inl (name, ap (λ f. Go f default_steps) same)))
 two_asked words a b _ are (run image e) =
     let name : a ≡ codes "run" = cc in
     let same : image ≡ b = cc in
-    inr (inr (name, ap (λ f. Run f default_steps) same))
+    inr (inr (inr (name, ap (λ f. Run f default_steps) same)))
 two_asked words a b _ are (dump file e) =
     let name : a ≡ codes "dump" = cc in
     let same : file ≡ b = cc in
     inl (name, ap Dump same)
+two_asked words a b _ are (plan file e) =
+    let name : a ≡ codes "plan" = cc in
+    let same : file ≡ b = cc in
+    inr (inl (name, ap Plan same))
 two_asked words a b _ are (go_steps file digits steps e n) = absurd (cc)
 two_asked words a b _ are (build file out e) = absurd (cc)
 two_asked words a b _ are (run_steps image digits steps e n) = absurd (cc)
@@ -62,6 +67,7 @@ pub four_asked : (words : List (List ℕ)) (a b c d : List ℕ) (job : Job) → 
 four_asked words a b c d _ are (go file e) = absurd (cc)
 four_asked words a b c d _ are (run image e) = absurd (cc)
 four_asked words a b c d _ are (dump file e) = absurd (cc)
+four_asked words a b c d _ are (plan file e) = absurd (cc)
 four_asked words a b c d _ are (build file out e) =
     let option : c ≡ codes "--out" = cc in
     let name : a ≡ codes "build" = cc in
@@ -86,6 +92,7 @@ pub other_words : (words : List (List ℕ)) (job : Job) → HasJob words job →
 other_words words _ (go file e) = inl (ap length e)
 other_words words _ (run image e) = inl (ap length e)
 other_words words _ (dump file e) = inl (ap length e)
+other_words words _ (plan file e) = inl (ap length e)
 other_words words _ (build file out e) = inr (ap length e)
 other_words words _ (go_steps file digits steps e n) = inr (ap length e)
 other_words words _ (run_steps image digits steps e n) = inr (ap length e)
@@ -99,11 +106,12 @@ no_asks command file option value steps is number none job (inr asked) =
     let same : asked.0 ≡ steps = sym asked.2.value ∙ number.value in
     none job (subst (λ n. Asks command file n job) same asked.3)
 
--- a command that is no dump asks for what it asks for with the steps that are given by default
-pub not_alone : (command file : List ℕ) → ¬ (command ≡ codes "dump") → ((job : Job) → ¬ Asks command file default_steps job) →
-    (job : Job) → ¬ AsksAlone command file job
-not_alone command file other none job (inl is) = other is.0
-not_alone command file other none job (inr asks) = none job asks
+-- a command that is no dump and no plan asks for what it asks for with the steps that are given by default
+pub not_alone : (command file : List ℕ) → ¬ (command ≡ codes "dump") → ¬ (command ≡ codes "plan") →
+    ((job : Job) → ¬ Asks command file default_steps job) → (job : Job) → ¬ AsksAlone command file job
+not_alone command file other also none job (inl is) = other is.0
+not_alone command file other also none job (inr (inl is)) = also is.0
+not_alone command file other also none job (inr (inr asks)) = none job asks
 
 -- what follows where there is none
 pub none_then : {A : Type 0} (r : Option A) {P Q : Type 0} → IfNone r P → (P → Q) → IfNone r Q

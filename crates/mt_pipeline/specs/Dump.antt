@@ -1,47 +1,17 @@
 -- What the command `dump` answers, and what it puts on the output (this project's own).
-use Rattle.std.specs.Prelude.{◌≡◌, ◌⊎◌, ℕ, List, ◌++◌, Option, Some}
-use Rattle.mt_outside.specs.Told.{Rose, WhereTold}
-use Rattle.mt_outside.specs.Sink.{PutGives}
-use Rattle.mt_outside.specs.declared.sink.PutAnswer.TheVariants.{Failed}
-use Rattle.mt_outside.specs.declared.sink.Sink.{Ghosts as SinkGhosts}
+use Rattle.std.specs.Prelude.{◌≡◌, ◌⊎◌, List, ℕ, Some}
+use Rattle.mt_outside.specs.Told.{Rose}
 use Rattle.memtag_dump.specs.Lines.{HasText}
 use Rattle.memtag_dump.specs.Refusal.{HasNoText, number_of, place_of}
 use Rattle.memtag_dump.specs.declared.refusal.DumpRefusal.{DumpRefusal}
-use Rattle.mte_machine.specs.Objects.{Objects}
 use Rattle.mt_pipeline.specs.Counted.{UncountedReads}
+use Rattle.mt_pipeline.specs.Put.{FilesAndOutput, PutsAll, PutsPart, output_of, with_output}
 use Rattle.mt_pipeline.specs.Read.{CauseOfNoBytes}
-use Rattle.mt_pipeline.specs.Seen.{FilesSeen, Seen, bytes_of, MayHold, ReadFailed, SameFiles}
+use Rattle.mt_pipeline.specs.Seen.{Seen, bytes_of, MayHold, ReadFailed, SameFiles}
 use Rattle.mt_pipeline.specs.Status.{ends}
 use Rattle.mt_pipeline.specs.declared.ended.Ended.{Ended}
 use Rattle.mt_pipeline.specs.declared.ended.Why.{Why}
 use Rattle.mt_pipeline.specs.declared.ended.Why.TheVariants.{Done, BadImage, NoMemory, OutputFault}
-
--- the output, with the bytes that it tells and the count of its faults
-pub record Output (K : Type 0) : Type 0 where
-  pub sink : K
-  pub told : Option (List ℕ)
-  pub faults : ℕ
-
-abbrev pub output_seen : {K : Type 0} → SinkGhosts K → K → Output K
-output_seen show sink = record { sink = sink; told = show.told sink; faults = show.faults sink }
-
--- the text was put, all of it, and no fault was counted
-pub record PutsAll {K : Type 0} (text : List ℕ) (before after : Output K) : Type 0 where
-  pub content : WhereTold before.told after.told (λ old new. new ≡ old ++ text)
-  pub uncounted : after.faults ≡ before.faults
-
--- the put failed: a fault was counted, and what was put begins the text
-pub record PutsPart {K : Type 0} (text : List ℕ) (before after : Output K) : Type 0 where
-  pub content : WhereTold before.told after.told (PutGives text Failed)
-  pub failed : Rose before.faults after.faults
-
--- the files and the output
-pub record FilesAndOutput (K : Type 0) : Type 0 where
-  pub files : FilesSeen
-  pub output : Output K
-
-abbrev pub with_output : {K : Type 0} → FilesSeen → Output K → FilesAndOutput K
-with_output files output = record { files = files; output = output }
 
 -- The answers, each by its cause.
 pub data CauseOfDump {K : Type 0} (file : List ℕ) (before after : FilesAndOutput K) : Ended → Type 0 where
@@ -76,9 +46,6 @@ pub record Dumps {K : Type 0} (file : List ℕ) (before after : FilesAndOutput K
   pub files : SameFiles before.files after.files
   -- No fault of a file is counted but the one that is answered, and none of a write.
   pub counts : UncountedReads before.files after.files ended.why
-
-abbrev pub output_of : {S K : Type 0} → Objects S K → Output K
-output_of streams = record { sink = streams.sink; told = streams.output; faults = streams.write_faults }
 
 -- Nothing is taken from the input.
 pub record DumpAnswers {S K : Type 0} (file : List ℕ) (before after : Seen S K) (ended : Ended) : Type 0 where

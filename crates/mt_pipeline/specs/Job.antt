@@ -11,6 +11,8 @@ pub data Job : Type 0 where
   Run : (image : List ℕ) (steps : ℕ) → Job
   -- print what this ELF file says of memory tagging
   Dump : (file : List ℕ) → Job
+  -- print the frames of the functions of this source
+  Plan : (file : List ℕ) → Job
 
 -- the steps of a run where the words give none
 abbrev pub default_steps : ℕ
@@ -26,3 +28,4 @@ pub data HasJob (words : List (List ℕ)) : Job → Type 0 where
   run_steps : (image digits : List ℕ) (steps : ℕ) → words ≡ codes "run" ∷ image ∷ codes "--steps" ∷ digits ∷ [] → IsSteps digits steps →
       HasJob words (Run image steps)
   dump : (file : List ℕ) → words ≡ codes "dump" ∷ file ∷ [] → HasJob words (Dump file)
+  plan : (file : List ℕ) → words ≡ codes "plan" ∷ file ∷ [] → HasJob words (Plan file)

@@ -11,7 +11,9 @@ pub mod Counted
 pub mod Go
 pub mod Build
 pub mod RunFile
+pub mod Put
 pub mod Dump
+pub mod Plan
 pub mod Usage
 pub mod Answers
 -- what the parts below it say
@@ -20,6 +22,7 @@ pub mod Unread
 pub mod Unbuilt
 pub mod Unrun
 pub mod Undumped
+pub mod Unplanned
 pub mod Command
 pub mod NoWords
 -- laws for later proofs

@@ -13,7 +13,7 @@ use mte_machine::MachineEnd;
 /// never a refusal.
 #[derive(Drop)]
 pub enum Answer {
-    /// The file that was asked for is written.
+    /// The file that was asked for is written, or the text is put.
     Done,
     /// The program ran.
     Ran(MachineEnd),

@@ -19,6 +19,8 @@ pub enum Command<'a> {
     Run { image: &'a str, steps: u64 },
     /// Prints what an ELF file says of memory tagging.
     Dump { file: &'a str },
+    /// Prints the frames of a source's functions.
+    Plan { file: &'a str },
 }
 
 /// The command that the words ask for; None where there is none.
@@ -45,6 +47,7 @@ fn alone<'a>(command: &str, file: &'a str) -> Option<Command<'a>>
 {
     match command {
         "dump" => Some(Command::Dump { file }),
+        "plan" => Some(Command::Plan { file }),
         _ => with_steps(command, file, DEFAULT_STEPS),
     }
 }

@@ -15,6 +15,7 @@ use crate::command::{Command, command_of};
 use crate::commands::{go, run_file, write_built};
 use crate::dump::dump_file;
 use crate::ended::{Ended, Why};
+use crate::plan::plan_file;
 use crate::report::finish;
 use mt_outside::{Files, Sink, Source};
 use std::alloc::Global;
@@ -51,6 +52,7 @@ pub fn drive<F: Files, S: Source, K: Sink, E: Sink>(
             finish(err, image, run_file(alloc, image, steps, files, input, out))
         }
         Some(Command::Dump { file }) => finish(err, file, dump_file(alloc, file, files, out)),
+        Some(Command::Plan { file }) => finish(err, file, plan_file(alloc, file, files, out)),
         None => finish(err, "", Answer::Usage),
     }
 }

@@ -1,14 +1,16 @@
 // The command `dump`.
 ghost use Rattle.std.specs.Prelude.{◌≡◌};
 ghost use Rattle.mt_pipeline.specs.Answer.{ended_of};
-ghost use Rattle.mt_pipeline.specs.Dump.{Dumps, output_seen, with_output};
+ghost use Rattle.mt_pipeline.specs.Dump.{Dumps};
+ghost use Rattle.mt_pipeline.specs.Put.{output_seen, with_output};
 ghost use Rattle.mt_pipeline.specs.Seen.{files_seen};
-ghost use Rattle.mt_pipeline.specs.Undumped.{IsPut, answer_to_dump};
+ghost use Rattle.mt_pipeline.specs.Undumped.{answer_to_dump};
 
 use crate::answer::Answer;
+use crate::put::put_bytes;
 use crate::read::read_file;
 use memtag_dump::{DumpRefusal, dump};
-use mt_outside::{Files, PutAnswer, Sink};
+use mt_outside::{Files, Sink};
 use std::alloc::Global;
 
 /// Prints what an ELF file says of memory tagging.
@@ -21,18 +23,8 @@ pub fn dump_file<F: Files, K: Sink>(alloc: Global, file: &str, files: &mut F, ou
         Err(unread) => return unread.answer(),
     };
     match dump(alloc, &bytes) {
-        Ok(text) => put_text(text.as_str(), out),
+        Ok(text) => put_bytes(text.as_str().as_bytes(), out),
         Err(refusal) => answer_to_dump(refusal),
-    }
-}
-
-// Puts the text on the output.
-fn put_text<K: Sink>(text: &str, out: &mut K) -> Answer
-    ensures { IsPut text.now (output_seen K.Sink out.old) (output_seen K.Sink out.new) result }
-{
-    match out.put(text.as_bytes()) {
-        PutAnswer::Done => Answer::Done,
-        PutAnswer::Failed => Answer::OutputFault,
     }
 }
 

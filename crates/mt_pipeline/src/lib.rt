@@ -8,6 +8,8 @@ mod commands;
 mod driver;
 mod dump;
 mod ended;
+mod plan;
+mod put;
 mod read;
 mod refusal;
 mod report;

@@ -8,6 +8,7 @@ use crate::ended::Ended;
 use crate::refusal::{LinkRefusal, RunRefusal};
 use c_lex::LexRefusal;
 use elf_image::ImageRefusal;
+use frame_plan::PlanRefusal;
 use memtag_dump::DumpRefusal;
 use mt_compile::CompileRefusal;
 use mt_outside::{PutAnswer, Sink};
@@ -73,9 +74,9 @@ fn report_refusal<E: Sink>(
     refusal: &CompileRefusal,
 ) -> fmt::Result {
     match refusal {
-        CompileRefusal::Lex(LexRefusal::TextTooLong) | CompileRefusal::NotYet => {
-            write!(line, "mtcc: {file}: {refusal}\n")
-        }
+        CompileRefusal::Lex(LexRefusal::TextTooLong)
+        | CompileRefusal::Plan(PlanRefusal::TooManyFunctions { .. })
+        | CompileRefusal::NotYet => { write!(line, "mtcc: {file}: {refusal}\n") }
         _ => write!(line, "mtcc: {file}:{place}: {refusal}\n"),
     }
 }

@@ -1,5 +1,5 @@
 -- The constant of a program is one, and of type int.
-use Rattle.std.proofs.Common.{◌≡◌, ◌≤◌, ℕ, List, [], ◌∷◌, Option, Some, None, sym, subst, ◌∙◌}
+use Rattle.std.proofs.Common.{◌≡◌, ◌≤◌, ℕ, List, [], ◌∷◌, Option, Some, None, sym, ◌∙◌}
 use Rattle.c_ast.specs.Tree.{NodeLayer, StmtLayer, ItemLayer}
 use Rattle.c_ast.specs.declared.int_type.IntType.TheVariants as integer
 use Rattle.c_ast.specs.declared.expr.CType.TheOpen.{Node-F}
@@ -10,12 +10,8 @@ use Rattle.c_ast.specs.declared.statement.Stmt.{Stmt, out-Stmt}
 use Rattle.c_ast.specs.declared.program.External.{External}
 use Rattle.c_ast.specs.declared.program.External.TheVariants as external
 use Rattle.c_ast.specs.declared.program.Program.{Program}
-use Rattle.c_ast.specs.declared.token.Token.{Token}
-use Rattle.c_grammar.specs.Spells.{Spells}
-use Rattle.c_parse.specs.Parsed.{SpellsWithin, limit}
 use Rattle.mt_compile.specs.Constant.{IsConstant, IsReturn, IsReturnItem, IsBlock, IsBody, AreMain, IsConstantProgram}
-use Rattle.mt_compile.specs.Source.{HasTokens, ReturnsConstant, ReturnsOnly}
-use Rattle.mt_compile.specs.Laws.Respelled.{respelled}
+use Rattle.mt_compile.specs.Source.{ReturnsConstant}
 
 -- what is said of two constants of one tree
 record AreSame (m n : ℕ) : Type 0 where
@@ -52,16 +48,3 @@ one_constant program m n is other = (of_main program.items m n is other).same
 
 pub constant_in_range : {text : List ℕ} {n : ℕ} → ReturnsConstant text n → n ≤ 2147483647
 constant_in_range {text} {n} returns = (of_main returns.program.items n n returns.constant returns.constant).in_range
-
--- a text whose tokens spell this program alone returns its constant alone
-pub returns_only : {text : List ℕ} {tokens : List Token} {program : Program} {n : ℕ} → HasTokens text tokens →
-    SpellsWithin limit tokens program → IsConstantProgram program n →
-    ((other : Program) (depth : ℕ) → Spells tokens other depth → depth ≤ limit → program ≡ other) → ReturnsOnly text n
-returns_only {text} {tokens} {program} {n} held spells constant alone = record {
-  returns = record { tokens = tokens; program = program; held = held; spells = spells; constant = constant };
-  only = λ m other.
-      let words : Spells tokens other.program other.spells.depth =
-      respelled other.held held other.program other.spells.depth other.spells.spells in
-      let same : program ≡ other.program = alone other.program other.spells.depth words other.spells.within in
-      (of_main program.items m n (subst (λ p. IsConstantProgram p m) (sym same) other.constant) constant).same;
-}

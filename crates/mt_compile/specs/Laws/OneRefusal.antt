@@ -9,21 +9,21 @@ use Rattle.c_lex.specs.declared.fault.LexRefusal.TheVariants as lex
 use Rattle.c_lex.specs.Refusal.{refusal_of, text_limit}
 use Rattle.c_lex.specs.Tokens.{FirstFault}
 use Rattle.c_lex.specs.Laws.TokenLaws.{read_one_way}
-use Rattle.c_parse.specs.Parsed.{FirstUnexpected, FirstTooDeep, SpellsWithin, limit}
+use Rattle.c_parse.specs.Parsed.{FirstUnexpected, FirstTooDeep, limit}
 use Rattle.c_parse.specs.Laws.ParsedLaws.{unexpected_spells_none, too_deep_is_deep}
 use Rattle.c_parse.specs.Laws.SpellsLaws.{spells_at_most_one}
 use Rattle.c_parse.specs.declared.refusal.ParseRefusal.TheVariants.{Unexpected, TooDeep}
 use Rattle.mt_compile.specs.declared.refusal.CompileRefusal.{CompileRefusal}
 use Rattle.mt_compile.specs.declared.refusal.CompileRefusal.TheVariants.{Lex, Parse, NotYet}
 use Rattle.mt_compile.specs.Constant.{IsConstantProgram}
-use Rattle.mt_compile.specs.Refused.{byte_at, Refuses, faulty, too_long, unexpected, too_deep, not_yet}
+use Rattle.mt_compile.specs.Refused.{byte_at, ReadRefuses, faulty, too_long, unexpected, too_deep, Refuses, unread, not_yet}
 use Rattle.c_parse.specs.Laws.PlaceLaws.{one_unexpected, one_too_deep, never_both}
 use Rattle.c_parse.specs.Laws.SeenPlaces.{unexpected_seen, too_deep_seen}
 use Rattle.mt_compile.specs.Laws.RefusedPlaces.{byte_same}
 use Rattle.mt_compile.specs.Laws.Respelled.{same_seen, respelled}
-use Rattle.mt_compile.specs.Source.{HasTokens, ReturnsConstant}
+use Rattle.mt_compile.specs.Source.{HasTokens, SpelledBy, ReturnsConstant, ReturnsOnly}
 use Rattle.mt_compile.specs.Laws.ConstantTrees.{one_constant}
-use Rattle.mt_compile.specs.Laws.OneWay.{OneWay, GoesOn, Stops, at_first, behind, in_turn, Fails, check}
+use Rattle.mt_compile.specs.Laws.OneWay.{OneWay, GoesOn, Stops, at_first, behind, in_turn, Fails, check, led_by}
 
 -- tokens of which one is too deep spell none within the limit
 not_too_deep : {levels place : ℕ} {tokens : List Token} → FirstTooDeep levels tokens place → (program : Program) (depth : ℕ) →
@@ -95,21 +95,16 @@ expecting : (text : List ℕ) → OneWay (Right text) (Wrong text)
 expecting text = record { gives_one = λ b c x y. refl; refuses_one = wrong_once text; never_both = wrong_never text }
 
 -- the tokens spell a program, or one is the first that is too deep
-record Spelled (text : List ℕ) (program : Program) : Type 0 where
-  tokens : List Token
-  held : HasTokens text tokens
-  spells : SpellsWithin limit tokens program
-
 data Deep (text : List ℕ) : CompileRefusal → ℕ → Type 0 where
   deep : {tokens : List Token} {place : ℕ} → HasTokens text tokens → FirstTooDeep limit tokens place →
       Deep text (Parse (TooDeep place)) (byte_at text tokens place)
 
 -- the program of other tokens of the text
-again : {text : List ℕ} {program : Program} {tokens : List Token} (s : Spelled text program) → HasTokens text tokens →
+again : {text : List ℕ} {program : Program} {tokens : List Token} (s : SpelledBy text program) → HasTokens text tokens →
     Spells tokens program s.spells.depth
 again {program = program} s held = respelled s.held held program s.spells.depth s.spells.spells
 
-one_program : (text : List ℕ) (program other : Program) → Spelled text program → Spelled text other → program ≡ other
+one_program : (text : List ℕ) (program other : Program) → SpelledBy text program → SpelledBy text other → program ≡ other
 one_program text program other x y =
     (spells_at_most_one x.tokens program other x.spells.depth y.spells.depth x.spells.spells (again y x.held)).0
 
@@ -118,14 +113,14 @@ deep_once text _ _ _ _ (deep {place} held f) (deep {tokens = others} {place = la
     let same : place ≡ later = two_too_deep held other f g in
     (ap (λ p. Parse (TooDeep p)) same, byte_same place held other ∙ ap (byte_at text others) same)
 
-deep_never : (text : List ℕ) (program : Program) (r : CompileRefusal) (p : ℕ) → Spelled text program → Deep text r p → ⊥
+deep_never : (text : List ℕ) (program : Program) (r : CompileRefusal) (p : ℕ) → SpelledBy text program → Deep text r p → ⊥
 deep_never text program _ _ s (deep held f) = not_too_deep f program s.spells.depth (again s held) s.spells.within
 
-spelling : (text : List ℕ) → OneWay (Spelled text) (Deep text)
+spelling : (text : List ℕ) → OneWay (SpelledBy text) (Deep text)
 spelling text = record { gives_one = one_program text; refuses_one = deep_once text; never_both = deep_never text }
 
 -- tokens that spell a program, and those of which one is too deep, have none that cannot be right
-right_spelled : {text : List ℕ} {program : Program} → Spelled text program → Right text tt
+right_spelled : {text : List ℕ} {program : Program} → SpelledBy text program → Right text tt
 right_spelled {program = program} s =
     record { none = λ tokens place held f. unexpected_spells_none f program s.spells.depth (again s held) }
 
@@ -145,28 +140,18 @@ form_never program n _ _ is (other_form none) = none n is
 forming : (program : Program) → OneWay (IsConstantProgram program) (FormRefuses program)
 forming program = record { gives_one = one_constant program; refuses_one = form_once program; never_both = form_never program }
 
--- ---- all in turn, from the last one up
+-- ---- the program of a text, from the last stage up
 
-abbrev ProgramGives : List ℕ → ℕ → Type 0
-ProgramGives text = GoesOn (Spelled text) IsConstantProgram
-
-abbrev ProgramStops : List ℕ → CompileRefusal → ℕ → Type 0
-ProgramStops text = Stops (Spelled text) (Deep text) FormRefuses
-
-from_program : (text : List ℕ) → OneWay (ProgramGives text) (ProgramStops text)
-from_program text = in_turn (Spelled text) (Deep text) IsConstantProgram FormRefuses (spelling text) forming
-
-abbrev RightGives : List ℕ → ℕ → Type 0
-RightGives text = GoesOn (Right text) (λ _. ProgramGives text)
+abbrev RightGives : List ℕ → Program → Type 0
+RightGives text = GoesOn (Right text) (λ _. SpelledBy text)
 
 abbrev RightStops : List ℕ → CompileRefusal → ℕ → Type 0
-RightStops text = Stops (Right text) (Wrong text) (λ _. ProgramStops text)
+RightStops text = Stops (Right text) (Wrong text) (λ _. Deep text)
 
 from_right : (text : List ℕ) → OneWay (RightGives text) (RightStops text)
-from_right text =
-    in_turn (Right text) (Wrong text) (λ _. ProgramGives text) (λ _. ProgramStops text) (expecting text) (λ _. from_program text)
+from_right text = in_turn (Right text) (Wrong text) (λ _. SpelledBy text) (λ _. Deep text) (expecting text) (λ _. spelling text)
 
-abbrev TokensGive : List ℕ → ℕ → Type 0
+abbrev TokensGive : List ℕ → Program → Type 0
 TokensGive text = GoesOn (HasSome text) (λ _. RightGives text)
 
 abbrev TokensStop : List ℕ → CompileRefusal → ℕ → Type 0
@@ -175,39 +160,63 @@ TokensStop text = Stops (HasSome text) (Faulty text) (λ _. RightStops text)
 from_tokens : (text : List ℕ) → OneWay (TokensGive text) (TokensStop text)
 from_tokens text = in_turn (HasSome text) (Faulty text) (λ _. RightGives text) (λ _. RightStops text) (lexing text) (λ _. from_right text)
 
-abbrev Returns : List ℕ → ℕ → Type 0
-Returns text = GoesOn (Short text) (λ _. TokensGive text)
+abbrev Reads : List ℕ → Program → Type 0
+Reads text = GoesOn (Short text) (λ _. TokensGive text)
 
-abbrev Refused : List ℕ → CompileRefusal → ℕ → Type 0
-Refused text = Stops (Short text) (TooLong text) (λ _. TokensStop text)
+abbrev ReadStops : List ℕ → CompileRefusal → ℕ → Type 0
+ReadStops text = Stops (Short text) (TooLong text) (λ _. TokensStop text)
 
-compiling : (text : List ℕ) → OneWay (Returns text) (Refused text)
-compiling text = in_turn (Short text) (TooLong text) (λ _. TokensGive text) (λ _. TokensStop text) (sizing text) (λ _. from_tokens text)
+from_size : (text : List ℕ) → OneWay (Reads text) (ReadStops text)
+from_size text = in_turn (Short text) (TooLong text) (λ _. TokensGive text) (λ _. TokensStop text) (sizing text) (λ _. from_tokens text)
 
 -- the refusal of a text is one of a stage
-staged : {text : List ℕ} {refusal : CompileRefusal} {byte : ℕ} → Refuses text refusal byte → Refused text refusal byte
+staged : {text : List ℕ} {refusal : CompileRefusal} {byte : ℕ} → ReadRefuses text refusal byte → ReadStops text refusal byte
 staged (too_long more) = at_first (record { bad = more; reason_is = refl; place_is = refl })
 staged (faulty within first) = behind tt within (at_first (fault first))
 staged (unexpected {tokens} held f) = behind tt held.within (behind tt (tokens, held) (at_first (wrong held f)))
-staged (too_deep {tokens} held f) =
-    behind tt held.within (behind tt (tokens, held) (behind tt (right_deep held f) (at_first (deep held f))))
-staged {text} (not_yet {tokens} {program} held spells none) =
-    let s : Spelled text program = record { tokens = tokens; held = held; spells = spells } in
-    behind tt held.within (behind tt (tokens, held) (behind tt (right_spelled s) (behind program s (other_form none))))
+staged (too_deep {tokens} held f) = behind tt held.within (behind tt (tokens, held) (behind tt (right_deep held f) (deep held f)))
 
--- and so is the constant that it returns
+-- and so is the program that it spells
+passed : {text : List ℕ} {program : Program} → SpelledBy text program → Reads text program
+passed {text} {program} s =
+    let right : RightGives text program = record { between = tt; first = right_spelled s; second = s } in
+    record { between = tt; first = s.held.within; second = record { between = tt; first = (s.tokens, s.held); second = right } }
+
+-- A text spells one program, or has one refusal, and not both.
+pub reading : (text : List ℕ) → OneWay (SpelledBy text) (ReadRefuses text)
+reading text = led_by (from_size text) (λ program s. passed s) (λ refusal byte refuses. staged refuses)
+
+-- ---- its constant
+
+abbrev Returns : List ℕ → ℕ → Type 0
+Returns text = GoesOn (SpelledBy text) IsConstantProgram
+
+abbrev Refused : List ℕ → CompileRefusal → ℕ → Type 0
+Refused text = Stops (SpelledBy text) (ReadRefuses text) FormRefuses
+
+refused : {text : List ℕ} {refusal : CompileRefusal} {byte : ℕ} → Refuses text refusal byte → Refused text refusal byte
+refused (unread refuses) = at_first refuses
+refused (not_yet program s none) = behind program s (other_form none)
+
 returned : {text : List ℕ} {n : ℕ} → ReturnsConstant text n → Returns text n
-returned {text} {n} r =
-    let s : Spelled text r.program = record { tokens = r.tokens; held = r.held; spells = r.spells } in
-    let program : ProgramGives text n = record { between = r.program; first = s; second = r.constant } in
-    let right : RightGives text n = record { between = tt; first = right_spelled s; second = program } in
-    record { between = tt; first = r.held.within; second = record { between = tt; first = (r.tokens, r.held); second = right } }
+returned r = record { between = r.program; first = r.spelled; second = r.constant }
 
--- ---- the two laws
+compiling : (text : List ℕ) → OneWay (ReturnsConstant text) (Refuses text)
+compiling text =
+    led_by (in_turn (SpelledBy text) (ReadRefuses text) IsConstantProgram FormRefuses (reading text) forming) (λ n r. returned r)
+    (λ refusal byte refuses. refused refuses)
+
+-- ---- the laws
 
 -- A text that is refused returns no constant.
 pub no_constant : {text : List ℕ} {refusal : CompileRefusal} {byte : ℕ} → Refuses text refusal byte → (n : ℕ) → ReturnsConstant text n → ⊥
-no_constant {text} {refusal} {byte} refuses n returns = (compiling text).never_both n refusal byte (returned returns) (staged refuses)
+no_constant {text} {refusal} {byte} refuses n returns = (compiling text).never_both n refusal byte returns refuses
+
+-- A text that spells a program of a constant returns it alone.
+pub returns_only : {text : List ℕ} {program : Program} {n : ℕ} → SpelledBy text program → IsConstantProgram program n → ReturnsOnly text n
+returns_only {text} {program} {n} s constant =
+    let returns : ReturnsConstant text n = record { program = program; spelled = s; constant = constant } in
+    record { returns = returns; only = λ m other. (compiling text).gives_one m n other returns }
 
 -- two refusals are the same, at the same byte
 pub record AreOne (refusal other : CompileRefusal) (byte place : ℕ) : Type 0 where
@@ -218,5 +227,5 @@ pub record AreOne (refusal other : CompileRefusal) (byte place : ℕ) : Type 0 w
 pub one_refusal : {text : List ℕ} {refusal other : CompileRefusal} {byte place : ℕ} → Refuses text refusal byte →
     Refuses text other place → AreOne refusal other byte place
 one_refusal {text} {refusal} {other} {byte} {place} first second =
-    let one = (compiling text).refuses_one refusal other byte place (staged first) (staged second) in
+    let one = (compiling text).refuses_one refusal other byte place first second in
     record { same = one.0; there = one.1 }

@@ -73,3 +73,14 @@ told_by tells way = record {
       (x.is ∙ ap tells one.0 ∙ sym y.is, one.1);
   never_both = λ b r p gives told. way.never_both b told.reason p gives told.refuses;
 }
+
+-- ---- what leads to a way
+
+-- What leads to what a way gives, and what leads to its refusals, go one way too.
+pub led_by : {B R : Type 0} {Gives Leads : B → Type 0} {Refuses Stopped : R → ℕ → Type 0} → OneWay Gives Refuses →
+    ((b : B) → Leads b → Gives b) → ((r : R) (p : ℕ) → Stopped r p → Refuses r p) → OneWay Leads Stopped
+led_by way gives refuses = record {
+  gives_one = λ b c x y. way.gives_one b c (gives b x) (gives c y);
+  refuses_one = λ r s p q x y. way.refuses_one r s p q (refuses r p x) (refuses s q y);
+  never_both = λ b r p x y. way.never_both b r p (gives b x) (refuses r p y);
+}

@@ -1,35 +1,17 @@
-use Rattle.std.proofs.Common.{arith, inr, subst, sym}
-use Rattle.std.proofs.lemmas.List.{length-map}
-use Rattle.c_ast.specs.Seen.{seen, all_seen}
-use Rattle.c_lex.specs.Laws.Starts.{tokens_are_few}
-use Rattle.mt_compile.specs.Refused.{IsCause, not_yet}
-use Rattle.mt_compile.specs.Laws.ConstantTrees.{returns_only}
-use Rattle.mt_compile.proofs.LexCauses.{held_tokens, text_cause}
+use Rattle.std.proofs.Common.{inr}
+use Rattle.mt_compile.specs.Refused.{not_yet}
+use Rattle.mt_compile.specs.Laws.OneRefusal.{returns_only}
+use Rattle.mt_compile.proofs.Causes.{compile_unread}
 use Rattle.mt_compile.proofs.compiler.constant_in.Goals as goal
 
--- what the lexer says of the text
+-- the text spells no program that is read
 pub returns-in-Err-clause-refused : goal.returns-in-Err-clause-refused
-returns-in-Err-clause-refused c =
-    subst (λ r. IsCause c.args.text.now r) (sym c.of_text.ensures)
-    (text_cause _ c.args.text.now c.in-Err.refusal c.in-Err.ensures.refused c.in-Err.ensures.too_long.1)
-
--- they are at most as many as its bytes
-pub parse-requires : goal.parse-requires
-parse-requires c =
-    let held = held_tokens c.args.text.now c.in-Ok.tokens c.in-Ok.tokens.items c.deref.result.now c.deref.ensures.value
-    c.in-Ok.ensures.tokens c.in-Ok.ensures.too_long.1 in
-    omega (arith, tokens_are_few c.args.text.now (all_seen c.deref.result.now) held.are, held.within, length-map c.deref.result.now seen)
+returns-in-Err-clause-refused c = compile_unread c.args.text.now c.in-Err.refused c.in-Err.ensures.refused
 
 -- the program returns a constant
 pub returns-in-Some-clause-constant : goal.returns-in-Some-clause-constant
-returns-in-Some-clause-constant c =
-    let held = held_tokens c.args.text.now c.in-Ok.tokens c.in-Ok.tokens.items c.deref.result.now c.deref.ensures.value
-    c.in-Ok.ensures.tokens c.in-Ok.ensures.too_long.1 in
-    returns_only held c.in-Ok-parse.ensures.parsed c.in-Some.ensures.some c.in-Ok-parse.ensures.all
+returns-in-Some-clause-constant c = returns_only c.in-Ok.ensures.spelled c.in-Some.ensures.some
 
 -- or none
 pub returns-clause-refused : goal.returns-clause-refused
-returns-clause-refused c =
-    let held = held_tokens c.args.text.now c.in-Ok.tokens c.in-Ok.tokens.items c.deref.result.now c.deref.ensures.value
-    c.in-Ok.ensures.tokens c.in-Ok.ensures.too_long.1 in
-    inr (not_yet held c.in-Ok-parse.ensures.parsed c.in-None.ensures.none)
+returns-clause-refused c = inr (not_yet _ c.in-Ok.ensures.spelled c.in-None.ensures.none)

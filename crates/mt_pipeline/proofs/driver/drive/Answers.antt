@@ -3,7 +3,7 @@ use Rattle.std.specs.String.{string_bytes}
 use Rattle.mte_machine.specs.Objects.{objects}
 use Rattle.mt_pipeline.specs.Answers.{Answers}
 use Rattle.mt_pipeline.specs.Command.{job_of}
-use Rattle.mt_pipeline.specs.Job.{Go, Build, Run, Dump, HasJob}
+use Rattle.mt_pipeline.specs.Job.{Go, Build, Run, Dump, Plan, HasJob}
 use Rattle.mt_pipeline.specs.Seen.{seen, files_seen}
 use Rattle.mt_pipeline.specs.declared.ended.Ended.{Ended}
 use Rattle.mt_pipeline.specs.declared.ended.Why.TheVariants.{Usage}
@@ -11,6 +11,7 @@ use Rattle.mt_pipeline.proofs.Asked.{asked}
 use Rattle.mt_pipeline.proofs.BuildCauses.{build_not_usage}
 use Rattle.mt_pipeline.proofs.DumpCauses.{dump_not_usage}
 use Rattle.mt_pipeline.proofs.GoCauses.{go_not_usage}
+use Rattle.mt_pipeline.proofs.PlanCauses.{plan_not_usage}
 use Rattle.mt_pipeline.proofs.RunCauses.{run_not_usage}
 use Rattle.mt_pipeline.proofs.driver.drive.Goals as goal
 
@@ -50,6 +51,15 @@ returns-in-Some-Dump-clause-answers g c =
     (subst (λ (e : Ended). Answers (Dump c.in-Some-Dump.file.now) before after e) (sym c.finish-in-Some-Dump.ensures.ended)
     (record { dumps = c.dump_file.ensures; source = refl; input = refl; input_faults = refl }))
 
+pub returns-in-Some-Plan-clause-answers : goal.returns-in-Some-Plan-clause-answers
+returns-in-Some-Plan-clause-answers g c =
+    let before = seen (files_seen g.F.Files c.args.files.now) (objects g.S.Source g.K.Sink c.args.input.now c.args.out.now) in
+    let after = seen (files_seen g.F.Files c.plan_file.new.files) (objects g.S.Source g.K.Sink c.args.input.now c.plan_file.new.out) in
+    asked (λ job. Answers job before after c.finish-in-Some-Plan.result) _ (Plan c.in-Some-Plan.file.now)
+    (subst (λ command. HasJob (map string_bytes c.args.words.now) (job_of command)) c.in-Some-Plan.field-0-is c.in-Some-Plan.ensures.some)
+    (subst (λ (e : Ended). Answers (Plan c.in-Some-Plan.file.now) before after e) (sym c.finish-in-Some-Plan.ensures.ended)
+    (record { plans = c.plan_file.ensures; source = refl; input = refl; input_faults = refl }))
+
 -- words that ask for something are answered by no usage
 pub returns-in-Some-Go-clause-usage : goal.returns-in-Some-Go-clause-usage
 returns-in-Some-Go-clause-usage g c =
@@ -83,5 +93,14 @@ returns-in-Some-Dump-clause-usage g c =
     (job_of command)) c.in-Some-Dump.field-0-is c.in-Some-Dump.ensures.some in (
       λ is. absurd (dump_not_usage _ _ _ _ _ c.dump_file.ensures.cause
           (subst (λ (e : Ended). e.why ≡ Usage) c.finish-in-Some-Dump.ensures.ended is)),
+      λ none. absurd (none _ found),
+    )
+
+pub returns-in-Some-Plan-clause-usage : goal.returns-in-Some-Plan-clause-usage
+returns-in-Some-Plan-clause-usage g c =
+    let found = subst (λ command. HasJob (map string_bytes c.args.words.now)
+    (job_of command)) c.in-Some-Plan.field-0-is c.in-Some-Plan.ensures.some in (
+      λ is. absurd (plan_not_usage _ _ _ _ _ c.plan_file.ensures.cause
+          (subst (λ (e : Ended). e.why ≡ Usage) c.finish-in-Some-Plan.ensures.ended is)),
       λ none. absurd (none _ found),
     )

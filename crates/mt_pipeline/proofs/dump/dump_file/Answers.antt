@@ -1,10 +1,11 @@
-use Rattle.std.proofs.Common.{◌≡◌, ◌⊎◌, List, ℕ, refl, sym, subst}
+use Rattle.std.proofs.Common.{◌≡◌, ◌⊎◌, ◌∙◌, List, ℕ, refl, sym, subst}
 use Rattle.memtag_dump.specs.Lines.{HasText}
 use Rattle.memtag_dump.specs.Refusal.{HasNoText}
 use Rattle.memtag_dump.specs.declared.refusal.DumpRefusal.TheVariants.{NoMemory}
 use Rattle.mt_pipeline.specs.declared.answer.Answer.{Answer}
 use Rattle.mt_pipeline.specs.Answer.{ended_of}
-use Rattle.mt_pipeline.specs.Dump.{Dumps, output_seen, with_output}
+use Rattle.mt_pipeline.specs.Dump.{Dumps}
+use Rattle.mt_pipeline.specs.Put.{output_seen, with_output}
 use Rattle.mt_pipeline.specs.Seen.{files_seen}
 use Rattle.mt_pipeline.specs.Undumped.{answer_to_dump}
 use Rattle.mt_pipeline.specs.Unread.{answer_to_unread}
@@ -31,13 +32,14 @@ returns-in-Ok-dump g c =
     let before = files_seen g.F.Files c.args.files.now in
     let after = files_seen g.F.Files c.read_file.new.files in
     let out = output_seen g.K.Sink c.args.out.now in
-    let now = output_seen g.K.Sink c.put_text.new.out in
-    let has : HasText c.in-Ok.bytes.items c.as_str.result.now =
-    subst (λ (b : List ℕ). HasText b c.as_str.result.now) c.deref.ensures.value
-    (subst (λ (t : List ℕ). HasText c.deref.result.now t) (sym c.as_str.ensures.value) c.in-Ok-dump.ensures.found) in
-    dump_answers c.args.file.now before after out now (ended_of c.put_text.result)
-    (dump_put c.args.file.now before after out now c.in-Ok.bytes.items c.as_str.result.now c.put_text.result c.in-Ok.ensures.bytes has
-    c.put_text.ensures)
+    let now = output_seen g.K.Sink c.put_bytes.new.out in
+    let has : HasText c.in-Ok.bytes.items c.as_bytes.result.now =
+    subst (λ (b : List ℕ). HasText b c.as_bytes.result.now) c.deref.ensures.value
+    (subst (λ (t : List ℕ). HasText c.deref.result.now t) (sym (c.as_bytes.ensures.value ∙ c.as_str.ensures.value))
+    c.in-Ok-dump.ensures.found) in
+    dump_answers c.args.file.now before after out now (ended_of c.put_bytes.result)
+    (dump_put c.args.file.now before after out now c.in-Ok.bytes.items c.as_bytes.result.now c.put_bytes.result c.in-Ok.ensures.bytes has
+    c.put_bytes.ensures)
     (same_files _ _ c.read_file.ensures.kept)
     (both_stay before after c.in-Ok.ensures.uncounted_ok c.read_file.ensures.writes)
 
