@@ -263,6 +263,14 @@ def each_byte(file):
                 edit(file, [(at, bytes([value]))])
 
 
+def each_entry_byte(image):
+    for at in range(8):
+        for value in (0, 255):
+            entry = image.entry & ~(255 << 8 * at) | value << 8 * at
+            if entry != image.entry:
+                base(Image(entry, image.relocs, image.descriptors, image.rodata, image.words, image.filled, image.zero))
+
+
 FULL = Image(0x1004, [(0x2100, 0x2110), (0x2108, -8)], bytes([0x81, 2, 0x23]), b"hi", [0xD503201F, 0x52800540, 0xD4000061],
              bytes(range(1, 33)), 48)
 ONES = [
@@ -288,6 +296,9 @@ def main():
     file = base(Image())
     hand(Image())
     each_byte(file)
+    print("\n# each byte of the entry set to 0 and to 255: another image")
+    each_entry_byte(FULL)
+    each_entry_byte(Image())
 
 
 if __name__ == "__main__":
