@@ -16,7 +16,7 @@ compared_now here span o p q = by_blocks (λ blocks. comparison here span (compa
 abbrev pub compares : Context → Span → BinaryOperator → Pointer → Pointer → Run Value
 compares here span o p q = and_then (compared_now here span o p q) (λ b. gives (number_of_truth b))
 
-pub not_subtracted : (o : BinaryOperator) → o ≢ binary.Subtract → (here : Context) (span : Span) (size : ℕ) (p q : Pointer) (now : State) →
-    on_pointers here span o size p q now ≡ compares here span o p q now
+pub not_subtracted : (o : BinaryOperator) → o ≢ binary.Subtract → (here : Context) (span : Span) (size : ℕ) (p q : Pointer)
+    (now : State) → on_pointers here span o size p q now ≡ compares here span o p q now
 not_subtracted binary.Subtract differs here span size p q now = absurd (differs refl)
 not_subtracted _ differs here span size p q now = refl

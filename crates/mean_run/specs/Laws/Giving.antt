@@ -32,14 +32,16 @@ pub ends_stuck : (e : Ending) (a b : State) → EndsAs e Stuck a b
 ends_stuck ending.NoMemory a b = tt
 ends_stuck _ a b = tt
 
-later_by : {A : Type 0} (n : Now) (a b : State) (r : Result A Ending) (m : meaning.Result A) → Quiet a b → GivesBy n b r m → GivesBy n a r m
+later_by : {A : Type 0} (n : Now) (a b : State) (r : Result A Ending) (m : meaning.Result A) → Quiet a b → GivesBy n b r m →
+    GivesBy n a r m
 later_by n a b (Ok x) (meaning.Goes y after) first gives =
     record { same = gives.same; shown = gives.shown; quiet = quiet-through first gives.quiet }
 later_by n a b (Ok x) (meaning.Stops why after) first gives = gives
 later_by n a b (Err e) (meaning.Goes y after) first gives = gives
 later_by n a b (Err e) (meaning.Stops why after) first gives = ends_later e why a b after first gives
 
-gives-later : {A : Type 0} {n : Now} {a b : State} {r : Result A Ending} {m : meaning.Result A} → Quiet a b → Gives n b r m → Gives n a r m
+gives-later : {A : Type 0} {n : Now} {a b : State} {r : Result A Ending} {m : meaning.Result A} → Quiet a b → Gives n b r m →
+    Gives n a r m
 gives-later {n = n} {a = a} {b = b} {r = r} {m = m} first gives = record { told = later_by n a b r m first gives.told }
 
 stuck_by : {A : Type 0} (n : Now) (a : State) (r : Result A Ending) (why : Stop) (after : State) → IsStuck why →

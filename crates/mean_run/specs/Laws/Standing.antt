@@ -68,26 +68,29 @@ stops_by middle n frames here start e (meaning.Stops why after) f told = told
 
 -- that part stopped
 pub stands-stop : {A : Type 0} {middle n : Now} {frames : List Frame} {here : Context} {start : State} {first : Result A Ending}
-    {e : Ending} (m : meaning.Result A) (f : A → Stand) → first ≡ Err e → Gives middle start first m → Stands n frames here start (Err e) (go_by m f)
+    {e : Ending} (m : meaning.Result A) (f : A → Stand) → first ≡ Err e → Gives middle start first m →
+    Stands n frames here start (Err e) (go_by m f)
 stands-stop {middle = middle} {n = n} {frames = frames} {here = here} {start = start} {e = e} m f is first = record {
   told = stops_by middle n frames here start e m f (subst (λ x. Gives middle start x m) is first).told;
 }
 
-spend_is : (work : ℕ) (next : Stand) (now : State) → spend_of work next now ≡ go_by (one_of work (gives {A = Unit {0}} tt) now) (λ u. next)
+spend_is : (work : ℕ) (next : Stand) (now : State) → spend_of work next now ≡
+    go_by (one_of work (gives {A = Unit {0}} tt) now) (λ u. next)
 spend_is zero next now = refl
 spend_is (suc rest) next now = refl
 
 -- a unit was spent, and then what follows
-pub stands-spent : {middle n : Now} {frames : List Frame} {here : Context} {start : State} {first : Result (Unit {0}) Ending} {u : Unit {0}}
-    {r : Result Control Ending} (next : Stand) → first ≡ Ok u → Gives middle start first (unit_gives tt start) →
+pub stands-spent : {middle n : Now} {frames : List Frame} {here : Context} {start : State} {first : Result (Unit {0}) Ending}
+    {u : Unit {0}} {r : Result Control Ending} (next : Stand) → first ≡ Ok u → Gives middle start first (unit_gives tt start) →
     ((now : State) → IsNow middle now → Stands n frames here now r (next now)) → Stands n frames here start r (spend next start)
 stands-spent {n = n} {frames = frames} {here = here} {start = start} {r = r} next is first each =
     subst (Stands n frames here start r) (sym (spend_is start.work next start))
     (stands-then (unit_gives tt start) (λ v. next) is first each)
 
 -- none was left
-pub stands-unspent : {middle n : Now} {frames : List Frame} {here : Context} {start : State} {first : Result (Unit {0}) Ending} {e : Ending}
-    (next : Stand) → first ≡ Err e → Gives middle start first (unit_gives tt start) → Stands n frames here start (Err e) (spend next start)
+pub stands-unspent : {middle n : Now} {frames : List Frame} {here : Context} {start : State} {first : Result (Unit {0}) Ending}
+    {e : Ending} (next : Stand) → first ≡ Err e → Gives middle start first (unit_gives tt start) →
+    Stands n frames here start (Err e) (spend next start)
 stands-unspent {n = n} {frames = frames} {here = here} {start = start} {e = e} next is first =
     subst (Stands n frames here start (Err e)) (sym (spend_is start.work next start))
     (stands-stop (unit_gives tt start) (λ v. next) is first)
