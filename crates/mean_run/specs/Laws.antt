@@ -1,0 +1,5 @@
+-- Answers of the code, and what the definition's runs are in its words.
+pub mod Giving
+pub mod Comparing
+pub mod Standing
+pub mod Reading
