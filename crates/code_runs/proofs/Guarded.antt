@@ -90,7 +90,8 @@ divided s ready other = (
   },
 )
   where
-    passes : Runs (map instr_of (Jump (OnOther true x0) (Forward 2) ∷ Plain (Svc 4) ∷ [])) 1 (asked s) (puts_pc ((asked s).pc + 8) (asked s))
+    passes : Runs (map instr_of (Jump (OnOther true x0) (Forward 2) ∷ Plain (Svc 4) ∷ [])) 1 (asked s)
+        (puts_pc ((asked s).pc + 8) (asked s))
     passes = record {
       steps = RunsFrom-one_at 0 _ (omega arith) refl (jump-taken (OnOther true x0) (Forward 2) (asked s) (omega (arith, ready.fits))
           (omega arith, omega (arith, ready.fits)) (ap not (ne_eqb (next_number s.outside.answers) 0 other)));
