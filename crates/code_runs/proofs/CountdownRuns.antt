@@ -1,8 +1,10 @@
 -- The loop does what its source means, with both bounds.
-use Rattle.std.specs.Prelude.{◌≡◌, ℕ, zero, suc, ◌≤◌, [], ◌∷◌, refl}
+use Rattle.std.specs.Prelude.{◌≡◌, ℕ, zero, suc, ◌+◌, ◌*◌, ◌≤◌, [], ◌∷◌, refl}
 use Rattle.std.proofs.Common.{arith, sym, ◌∙◌, subst}
 use Rattle.a64_code.specs.State.{State}
+use Rattle.a64_code.specs.declared.end.MachineEnd.{MachineEnd}
 use Rattle.a64_code.specs.declared.end.MachineEnd.TheVariants.{Exited}
+use Rattle.mte_machine.specs.Run.{Stopped, run}
 use Rattle.code_runs.specs.Laws.CodeAt.{step-at}
 use Rattle.a64_laws.specs.Forms.{puts_register}
 use Rattle.a64_laws.specs.Laws.Results.{constant_moved}
@@ -10,9 +12,10 @@ use Rattle.a64_laws.specs.Laws.Services.{exited}
 use Rattle.code_runs.specs.Outcome.{Finishes}
 use Rattle.code_runs.specs.Bounded.{Account, Room, just, sparing, later, Bounded}
 use Rattle.code_runs.specs.Items.{HasAt}
-use Rattle.code_runs.specs.Laws.Bounded.{Stands, opened, Stands-opened, done, finishes, unsaid, after, ticks, binds}
+use Rattle.code_runs.specs.Within.{StepsWithin}
+use Rattle.code_runs.specs.Laws.Bounded.{IsWider-same, Stands, opened, Stands-opened, done, finishes, unsaid, after, ticks, binds, changes}
 use Rattle.code_runs.specs.Laws.Items.{item-there}
-use Rattle.code_runs.specs.Laws.Told.{RunStops, run_stops, RunsOn, runs_on}
+use Rattle.code_runs.specs.Laws.Told.{RunStops, run_stops, RunsOn, runs_on, stopped_lacks}
 use Rattle.code_runs.proofs.Countdown.{Now, spent, turned, body, turns, program, items, x0, setting, Relates}
 use Rattle.code_runs.proofs.CountdownSteps.{step, after_register, tested, left, put, lowered}
 
@@ -75,6 +78,15 @@ runs loaded at fuel now s has related =
     binds (loop loaded at fuel _ now s has related (Stands-opened (setting at) now))
     (λ value after t n bounds there. exits loaded at _ after t has there bounds)
 
+-- where n steps among its items have led to its start, the bound from above has n more
+pub runs_behind : (loaded : State) (at fuel n : ℕ) (now : Now) (r s : State) → StepsWithin (setting at).Inside n r s →
+    HasAt loaded at items → Relates loaded at 0 now.cell now.output s →
+    Bounded (setting at) (record { so_far = 0; least = now.left; most = 8 * now.left + n }) (λ (value : Unit {0}). just) r
+    (λ value _ t. Unit {0}) (program fuel now)
+runs_behind loaded at fuel n now r s led has related =
+    after led (changes (record { least = omega arith; most = omega arith }) (λ value. IsWider-same just) (λ value now t holds. holds)
+    (runs loaded at fuel now s has related))
+
 -- ---- what that says of runs of the machine
 
 -- of the cell 2 the source means the bytes 2 and 1, and the exit with 0, in three units
@@ -96,3 +108,9 @@ pub two_lacks : (loaded : State) (at : ℕ) (s : State) → HasAt loaded at item
     RunsOn (setting at) 2 s (record { cell = 0; left = 0; output = 2 ∷ 1 ∷ [] })
 two_lacks loaded at s has related =
     runs_on {work = 2} 2 (omega arith) (runs loaded at 4 (record { cell = 2; left = 2; output = [] }) s has related)
+
+-- so no run of at most two steps has stopped
+pub two_goes_on : (loaded : State) (at n : ℕ) (s t : State) (end : MachineEnd) → HasAt loaded at items → Relates loaded at 0 2 [] s →
+    n ≤ 2 → run n s ≡ Stopped end t → ⊥
+two_goes_on loaded at n s t end has related few stopped =
+    stopped_lacks {work = 2} few stopped (runs loaded at 4 (record { cell = 2; left = 2; output = [] }) s has related)

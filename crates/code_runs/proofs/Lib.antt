@@ -4,3 +4,4 @@ mod CountdownRuns
 mod Called
 mod Beside
 mod Pointed
+mod Guarded

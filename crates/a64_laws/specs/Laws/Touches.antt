@@ -1,6 +1,6 @@
 -- What a list that passes the test leaves as it was (this project's own).
-use Rattle.std.specs.Prelude.{◌≡◌, ℕ, zero, suc, ◌+◌, ◌*◌, ◌^◌, ◌≤◌, Bool, true, false}
-use Rattle.std.specs.Prelude.{List, [], ◌∷◌, Some, refl}
+use Rattle.std.specs.Prelude.{◌≡◌, ℕ, zero, suc, ◌+◌, ◌*◌, ◌^◌, ◌≤◌, Bool, true, false, ◌&&◌}
+use Rattle.std.specs.Prelude.{List, [], ◌∷◌, ◌++◌, Some, refl}
 use Rattle.std.proofs.Common.{arith, sym, ◌∙◌, subst, true≢false}
 use Rattle.mt_base.specs.Extension.{sign_extend}
 use Rattle.a64_code.specs.declared.instr.Instr.{Instr}
@@ -163,6 +163,17 @@ shape_narrow touch sp (Serves number) within = record {
 }
 
 -- ---- lists
+
+-- the test of two lists, one behind the other
+pub touches_only-append : (touch : Touch) (xs ys : List Instr) (s : State) →
+    touches_only touch (xs ++ ys) s ≡ (touches_only touch xs s && touches_only touch ys s)
+touches_only-append touch [] ys s = refl
+touches_only-append touch (x ∷ xs) ys s = by_first (instr_within touch x s) (touches_only-append touch xs ys s)
+  where
+    by_first : (within : Bool) → touches_only touch (xs ++ ys) s ≡ (touches_only touch xs s && touches_only touch ys s) →
+        (within && touches_only touch (xs ++ ys) s) ≡ ((within && touches_only touch xs s) && touches_only touch ys s)
+    by_first true again = again
+    by_first false again = refl
 
 listed_within : (touch : Touch) (instrs : List Instr) (k : ℕ) (instr : Instr) (u : State) → instr_at instrs k ≡ Some instr →
     touches_only touch instrs u ≡ true → instr_within touch instr u ≡ true

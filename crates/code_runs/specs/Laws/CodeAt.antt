@@ -48,6 +48,15 @@ HasCode-front {s} {at} xs ys code = record { stand = stand-front s at xs ys code
 pub HasCode-back : {s : State} {at : ℕ} (xs ys : List Instr) → HasCode s at (xs ++ ys) → HasCode s (at + 4 * length xs) ys
 HasCode-back {s} {at} xs ys code = record { stand = stand-back s at xs ys code.stand }
 
+stand-append : (s : State) (at : ℕ) (xs ys : List Instr) → Stand s at xs → Stand s (at + 4 * length xs) ys → Stand s at (xs ++ ys)
+stand-append s at [] ys first rest = subst (λ (a : ℕ). Stand s a ys) (omega arith) rest
+stand-append s at (x ∷ xs) ys first rest =
+    (first.0, stand-append s (at + 4) xs ys first.1 (subst (λ (a : ℕ). Stand s a ys) (omega arith) rest))
+
+pub HasCode-append : {s : State} {at : ℕ} (xs ys : List Instr) → HasCode s at xs → HasCode s (at + 4 * length xs) ys →
+    HasCode s at (xs ++ ys)
+HasCode-append {s} {at} xs ys first rest = record { stand = stand-append s at xs ys first.stand rest.stand }
+
 -- ---- code that stays
 
 -- the regions are the same in both states, and so is each of so many bytes from an address on

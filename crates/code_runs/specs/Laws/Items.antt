@@ -33,6 +33,18 @@ pub HasAt-back : {loaded : State} {at : ℕ} (xs ys : List Item) → HasAt loade
 HasAt-back {loaded} {at} xs ys has =
     record { stand = stand-back loaded at xs ys has.stand; below = omega (arith, has.below, length-append xs ys) }
 
+stand-append : (s : State) (at : ℕ) (xs ys : List Item) → StandAt s at xs → StandAt s (at + 4 * length xs) ys → StandAt s at (xs ++ ys)
+stand-append s at [] ys first rest = subst (λ (a : ℕ). StandAt s a ys) (omega arith) rest
+stand-append s at (x ∷ xs) ys first rest =
+    (first.0, first.1, stand-append s (at + 4) xs ys first.2 (subst (λ (a : ℕ). StandAt s a ys) (omega arith) rest))
+
+pub HasAt-append : {loaded : State} {at : ℕ} (xs ys : List Item) → HasAt loaded at xs → HasAt loaded (at + 4 * length xs) ys →
+    HasAt loaded at (xs ++ ys)
+HasAt-append {loaded} {at} xs ys first rest = record {
+  stand = stand-append loaded at xs ys first.stand rest.stand;
+  below = omega (arith, rest.below, length-append xs ys);
+}
+
 -- the items stand where their instructions do
 stand-code : (s : State) (at : ℕ) (items : List Item) → HasCode s at (map instr_of items) → AllInReach at items → StandAt s at items
 stand-code s at [] code reach = tt

@@ -1,6 +1,6 @@
 -- Code without branches: as many steps as instructions, where it stays as it is (this project's own).
 use Rattle.std.specs.Prelude.{◌≡◌, ℕ, zero, suc, ◌+◌, ◌*◌, ◌^◌, ◌<◌, ◌≤◌, Bool, true, false, if◌then◌else◌, List, [], ◌∷◌, ◌++◌, length}
-use Rattle.std.specs.Prelude.{refl}
+use Rattle.std.specs.Prelude.{◌&&◌, refl}
 use Rattle.std.proofs.Common.{sym, ◌∙◌, subst, arith}
 use Rattle.a64_code.specs.declared.instr.Instr.{Instr}
 use Rattle.a64_code.specs.State.{State}
@@ -45,6 +45,12 @@ Stays-append at count [] ys s stays behind = behind s (Carries-nil s)
 Stays-append at count (x ∷ xs) ys s stays behind =
     λ t leads. ((stays t leads).0, Stays-append at count xs ys t (stays t leads).1 (λ u carries. behind u (Carries-cons leads carries)))
 
+pub Avoids-append : (at count : ℕ) (xs ys : List Instr) (s : State) → Avoids at count xs s →
+    ((t : State) → Carries xs s t → Avoids at count ys t) → Avoids at count (xs ++ ys) s
+Avoids-append at count [] ys s avoids behind = behind s (Carries-nil s)
+Avoids-append at count (x ∷ xs) ys s avoids behind =
+    (avoids.0, λ t leads. Avoids-append at count xs ys t (avoids.1 t leads) (λ u carries. behind u (Carries-cons leads carries)))
+
 pub Stays-avoids : (at count : ℕ) (instrs : List Instr) (s : State) → Avoids at count instrs s → Stays at count instrs s
 Stays-avoids at count [] s avoids = tt
 Stays-avoids at count (instr ∷ instrs) s avoids = λ t leads. (
@@ -72,6 +78,15 @@ Stays-within at count first fewer (instr ∷ instrs) s from to stays =
 abbrev pub are_straight : List Instr → Bool
 are_straight [] = true
 are_straight (instr ∷ instrs) = if is_branch instr then false else are_straight instrs
+
+pub are_straight-append : (xs ys : List Instr) → are_straight (xs ++ ys) ≡ (are_straight xs && are_straight ys)
+are_straight-append [] ys = refl
+are_straight-append (x ∷ xs) ys = by_first (is_branch x) (are_straight-append xs ys)
+  where
+    by_first : (branches : Bool) → are_straight (xs ++ ys) ≡ (are_straight xs && are_straight ys) →
+        (if branches then false else are_straight (xs ++ ys)) ≡ ((if branches then false else are_straight xs) && are_straight ys)
+    by_first true again = refl
+    by_first false again = again
 
 -- so many steps lead there, past so many instructions, one after another
 pub record Passes (n : ℕ) (from to : State) : Type 0 where
