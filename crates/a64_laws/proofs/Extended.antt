@@ -1,5 +1,5 @@
 -- Examples: a char is extended in a register, behind it a negative constant is put; and the pointer to a slot before the base.
-use Rattle.std.specs.Prelude.{◌≡◌, ℕ, ◌+◌, ◌-◌, ◌^◌, ◌<◌, ◌≤◌, true, false, [], ◌∷◌, refl}
+use Rattle.std.specs.Prelude.{◌≡◌, ℕ, ◌+◌, ◌-◌, ◌*◌, ◌^◌, ◌<◌, ◌≤◌, true, false, [], ◌∷◌, refl}
 use Rattle.std.proofs.Common.{arith}
 use Rattle.mt_base.specs.Extension.{sign_extend}
 use Rattle.mt_base.specs.Tags.{base, slot_tag}
@@ -10,7 +10,7 @@ use Rattle.a64_code.specs.Stepped.{Leads}
 use Rattle.a64_code.specs.Effect.{effect}
 use Rattle.a64_laws.specs.Forms.{Points, x0, next, puts_register}
 use Rattle.a64_laws.specs.Runs.{Runs}
-use Rattle.a64_laws.specs.Laws.Extending.{sign_extended, negative_moved, passed_over}
+use Rattle.a64_laws.specs.Laws.Extending.{sign_extended, inverted_moved, negative_moved, passed_over}
 use Rattle.a64_laws.specs.Laws.Runs.{Runs-cons, Runs-two}
 use Rattle.a64_laws.specs.Laws.Tags.{tag_stepped_back, Points-slot_back}
 
@@ -36,6 +36,11 @@ extended s pc = (
   where
     u : State
     u = puts_register x1 (sign_extend 8 32 (s.register 0)) s
+
+-- mov x1, #0xedcbffffffffffff, by MOVN: the highest halfword is turned, too
+inverted : (s : State) → (t : State) × (effect (Movn true 3 4660 x1) s ≡ Leads t) × (t.register 1 ≡ 60875 * 2 ^ 48 + 2 ^ 48 - 1)
+unfolding puts_register
+inverted s = (_, inverted_moved true 3 4660 x1 s (omega arith), refl)
 
 -- X1 points to a frame's base: X2 gets the pointer to two granules before it, with the tag of slot 3
 before_base : (a choice : ℕ) (s : State) → Points (s.register 1) a (base choice) → 32 ≤ a →

@@ -9,3 +9,5 @@ mod ReadBack
 mod Clamped
 mod Extended
 mod Fields
+mod Digits
+mod TaggedFrame
