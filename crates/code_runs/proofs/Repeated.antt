@@ -17,10 +17,10 @@ use Rattle.a64_laws.specs.Laws.Touches.{touches_only-append, RunsFrom-touches}
 use Rattle.a64_laws.specs.Runs.{RunsFrom}
 use Rattle.a64_laws.specs.Touches.{Touch, touches_only, reach_from}
 use Rattle.code_runs.specs.Items.{Item, Plain, Jump, HasAt}
-use Rattle.code_runs.specs.Laws.CodeAt.{HasCode, HasCode-append}
+use Rattle.code_runs.specs.Laws.CodeAt.{HasCode, HasCode-front, HasCode-back, HasCode-append, CannotBeWritten}
 use Rattle.code_runs.specs.Laws.Items.{HasAt-append}
 use Rattle.code_runs.specs.Laws.Straight.{Avoids, Avoids-append, Stays-avoids, are_straight, are_straight-append}
-use Rattle.code_runs.specs.Laws.Straight.{Passes, Passes-Carries}
+use Rattle.code_runs.specs.Laws.Straight.{Stays, Stays-append, Passes, Passes-Carries, Passes-protected}
 
 abbrev x9 : Reg
 x9 = record { 0 = 9 }
@@ -84,6 +84,18 @@ stepped n s t code below above carries =
     Passes-Carries (copies n) s t (record { code = code; straight = straight n; within = omega (arith, below, above) })
     (Stays-avoids s.pc (4 * length (copies n)) (copies n) s (avoids n s.pc (4 * length (copies n)) s below above)) carries
 
+-- before others, in whose states the bytes stay as well
+stays_before : (n at count : ℕ) (others : List Instr) (s : State) → s.sp + 16 ≤ 2 ^ 56 → at + count ≤ s.sp →
+    ((t : State) → Carries (copies n) s t → Stays at count others t) → Stays at count (copies n ++ others) s
+stays_before n at count others s below above behind =
+    Stays-append at count (copies n) others s (Stays-avoids at count (copies n) s (avoids n at count s below above)) behind
+
+-- wherever SP is, where the code cannot be written
+stepped_protected : (n : ℕ) (s t : State) → HasCode s s.pc (copies n) → CannotBeWritten s s.pc (4 * length (copies n)) →
+    s.pc + 4 * length (copies n) < 2 ^ 64 → Carries (copies n) s t → Passes (length (copies n)) s t
+stepped_protected n s t code cannot fits carries =
+    Passes-protected (copies n) s t (record { code = code; straight = straight n; within = fits }) cannot carries
+
 -- ---- where they stand
 
 -- each in its place, so all of them one behind another
@@ -93,6 +105,14 @@ standing (suc n) at s each =
     HasCode-append one (copies n) (subst (λ (a : ℕ). HasCode s a one) (omega arith) (each 0 (omega arith)))
     (standing n (at + 8) s (λ k h. subst (λ (a : ℕ). HasCode s a one)
     (let e : at + 8 * suc k ≡ at + 8 + 8 * k = omega arith in e) (each (suc k) (omega (arith, h)))))
+
+-- and each of them where all stand
+each_stands : (n at k : ℕ) (s : State) → HasCode s at (copies n) → k < n → HasCode s (at + 8 * k) one
+each_stands zero at k s code none = absurd (omega (arith, none))
+each_stands (suc n) at zero s code h = subst (λ (a : ℕ). HasCode s a one) (omega arith) (HasCode-front one (copies n) code)
+each_stands (suc n) at (suc k) s code h =
+    subst (λ (a : ℕ). HasCode s a one) (let e : at + 8 + 8 * k ≡ at + 8 * suc k = omega arith in e)
+    (each_stands n (at + 8) k s (HasCode-back one (copies n) code) (omega (arith, h)))
 
 -- the same of items: a branch over the service that tells a division by zero
 abbrev guard : List Item
