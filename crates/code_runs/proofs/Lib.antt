@@ -5,3 +5,4 @@ mod Called
 mod Beside
 mod Pointed
 mod Guarded
+mod Repeated
