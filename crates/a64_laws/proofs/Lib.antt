@@ -11,3 +11,5 @@ mod Extended
 mod Fields
 mod Digits
 mod TaggedFrame
+mod Kept
+mod Echo
