@@ -1,6 +1,6 @@
 -- Examples: a byte of the input is put, a run exits with a number, and a division by zero is told.
 use Rattle.std.specs.Prelude.{◌≡◌, ℕ, ◌+◌, ◌%◌, ◌^◌, ◌<◌, true, List, [], ◌∷◌, ◌++◌, Option, Some, None, map, refl}
-use Rattle.std.proofs.Common.{arith, ap, ◌∙◌, subst}
+use Rattle.std.proofs.Common.{arith, ap, subst}
 use Rattle.a64_code.specs.declared.end.MachineEnd.TheVariants.{Exited, Divide}
 use Rattle.a64_code.specs.declared.instr.Instr.{Instr}
 use Rattle.a64_code.specs.declared.instr.Instr.TheVariants.{Svc, OrrReg, Movz, Cbnz, Udiv}

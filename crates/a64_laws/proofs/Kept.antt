@@ -1,7 +1,6 @@
 -- Examples: what single instructions put and keep, told by laws of the closed words. No state is opened.
 use Rattle.std.specs.Prelude.{◌≡◌, ◌≢◌, ℕ, ◌+◌, ◌*◌, ◌%◌, ◌^◌, ◌<◌, true, false, None, [], ◌∷◌, refl}
 use Rattle.std.proofs.Common.{arith, ap, sym, ◌∙◌}
-use Rattle.std.proofs.lemmas.Bool.{ne_eqb}
 use Rattle.mt_base.specs.Granules.{granule_of}
 use Rattle.mt_base.specs.Laws.Memory.{store_tag_same}
 use Rattle.mt_base.specs.Memory.{is_between, load, store}
