@@ -13,3 +13,5 @@ mod Digits
 mod TaggedFrame
 mod Kept
 mod Echo
+mod Faults
+mod Steps
