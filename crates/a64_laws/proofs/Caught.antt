@@ -16,7 +16,7 @@ use Rattle.a64_laws.specs.Laws.OpenMemory.{IsOpen-part}
 use Rattle.a64_laws.specs.Laws.Loads.{load_through, load_caught}
 use Rattle.a64_laws.specs.Laws.Pairs.{pair_on}
 use Rattle.a64_laws.specs.Laws.PairsThrough.{pair_stored_through, pair_store_caught, pair_load_caught}
-use Rattle.a64_laws.specs.Laws.Stores.{store_caught}
+use Rattle.a64_laws.specs.Laws.Stores.{store_through, store_caught}
 
 abbrev x0 : Reg
 x0 = record { 0 = 0 }
@@ -42,6 +42,15 @@ own_is_read a s slots =
     (Points-start a 3 (omega (arith, slots.below)) (omega arith))))
     (omega (arith, slots.aligned)) (IsOpen-part (a + 8) 8 (omega arith) (omega arith) slots.memory).readable
     (ap s.tag (let e : granule_of (a + 8) ≡ granule_of a = omega (arith, slots.aligned) in e) ∙ slots.own)
+
+-- the last byte is stored
+last_is_stored : (a : ℕ) (s : State) → Slots a s →
+    effect (Strb 15 x1 x0) s ≡ Leads (puts_bytes (store 1 s.byte (a + 15) (s.register 0)) s)
+last_is_stored a s slots =
+    store_through StoreByte 15 (a + 15) 3 x1 x0 s (omega arith)
+    (rw slots.pointer (Points-behind a 3 15 (omega (arith, slots.below)) (omega arith)))
+    (omega arith) (IsOpen-part (a + 15) 1 (omega arith) (omega arith) slots.memory)
+    (ap s.tag (let e : granule_of (a + 15) ≡ granule_of a = omega (arith, slots.aligned) in e) ∙ slots.own)
 
 -- a byte one behind the end is not stored: the run ends with the address, the pointer's tag and that of memory
 next_is_caught : (a : ℕ) (s : State) → Slots a s → effect (Strb 16 x1 x0) s ≡ Ends (TagFault (a + 16) 3 4)

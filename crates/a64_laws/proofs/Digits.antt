@@ -1,5 +1,5 @@
 -- Examples: a hash goes on by a byte of the input, the input is at its end, a product, and bytes of a number that was stored.
-use Rattle.std.specs.Prelude.{◌≡◌, ℕ, zero, suc, ◌+◌, ◌-◌, ◌*◌, ◌%◌, ◌^◌, ◌<◌, ◌≤◌, true, false, List, [], ◌∷◌, ◌++◌, Option, Some, None, refl}
+use Rattle.std.specs.Prelude.{◌≡◌, ℕ, zero, suc, ◌+◌, ◌-◌, ◌*◌, ◌%◌, ◌^◌, ◌<◌, true, false, List, [], ◌∷◌, ◌++◌, Option, Some, None, refl}
 use Rattle.std.proofs.Common.{arith, ap, ◌∙◌}
 use Rattle.mt_base.specs.Extension.{sign_extend}
 use Rattle.mt_base.specs.Memory.{load, store}
@@ -21,7 +21,8 @@ use Rattle.a64_laws.specs.Laws.Constants.{constant_put}
 use Rattle.a64_laws.specs.Laws.Effects.Open.{IsOpen}
 use Rattle.a64_laws.specs.Laws.Extending.{zero_extended}
 use Rattle.a64_laws.specs.Laws.Loads.{load_at_sp, signed_low}
-use Rattle.a64_laws.specs.Laws.Numbers.{byte_of, byte_of-lt, store-byte, load-bytes, load-store_low, pointer-tag_byte, pointer-load_address}
+use Rattle.a64_laws.specs.Laws.Numbers.{byte_of, byte_of-lt, store-byte, load-bytes, load-store_low}
+use Rattle.a64_laws.specs.Laws.Numbers.{pointer-tag_byte, pointer-load_address}
 use Rattle.a64_laws.specs.Laws.OpenMemory.{IsOpen-part, IsOpen-kept, IsReadable-kept}
 use Rattle.a64_laws.specs.Laws.Runs.{Runs-one, Runs-two, Runs-cons, Runs-append}
 use Rattle.a64_laws.specs.Laws.Services.{byte_taken}

@@ -11,3 +11,7 @@ mod Extended
 mod Fields
 mod Digits
 mod TaggedFrame
+mod Kept
+mod Echo
+mod Faults
+mod Steps

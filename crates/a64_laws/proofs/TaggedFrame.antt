@@ -1,6 +1,6 @@
 -- Examples: the entry of a function with two tagged slots. Their pointers are made, their granules cleared, and an access from one slot to
 -- the other is caught.
-use Rattle.std.specs.Prelude.{◌≡◌, ◌≢◌, ℕ, ◌+◌, ◌-◌, ◌*◌, ◌%◌, ◌^◌, ◌<◌, true, List, [], ◌∷◌, ◌++◌, refl}
+use Rattle.std.specs.Prelude.{◌≡◌, ℕ, ◌+◌, ◌-◌, ◌*◌, ◌%◌, ◌^◌, ◌<◌, true, List, [], ◌∷◌, ◌++◌, refl}
 use Rattle.std.proofs.Common.{arith, ap, sym, ◌∙◌, subst}
 use Rattle.mt_base.specs.Extension.{sign_extend}
 use Rattle.mt_base.specs.Granules.{granule_of}
