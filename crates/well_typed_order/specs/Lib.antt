@@ -1,9 +1,1 @@
-pub mod Types
-pub mod Known
-pub mod Binary
-pub mod Unary
-pub mod Postfix
-pub mod Good
-pub mod Silent
-pub mod Expressions
-pub mod Initials
+pub mod Laws

@@ -39,11 +39,13 @@ use Rattle.c_type_expr.specs.Operators.{signed_row, denied, not_row, with_arms, 
 use Rattle.c_type_expr.specs.Operators.{arms, cond_row, cond_judged}
 use Rattle.block_meaning.specs.ExpressionsInOrder as order
 use Rattle.block_meaning.specs.ExpressionsInOrder.{Scope, HasValue, Designates, Converts, CompoundTypes, is_sign, int_type}
-use Rattle.well_typed_order.specs.Binary.{Keeps, kept-first, kept-rest, sort-integer, sort-pointer, sort-target, int-integer, one-pointer}
-use Rattle.well_typed_order.specs.Binary.{integer-scalar, pointer-scalar}
-use Rattle.well_typed_order.specs.Known.{KnownIn, ValueIn, known_by, int-plain, pointer-plain, Into, converted-in, value-in, null-integer}
-use Rattle.well_typed_order.specs.Known.{assignable-in, wrapped-integer}
-use Rattle.well_typed_order.specs.Types.{and_first, and_second}
+use Rattle.well_typed_order.specs.Laws.Binary.{Keeps, kept-first, kept-rest, sort-integer, sort-pointer, sort-target, int-integer}
+use Rattle.well_typed_order.specs.Laws.Binary.{one-pointer}
+use Rattle.well_typed_order.specs.Laws.Binary.{integer-scalar, pointer-scalar}
+use Rattle.well_typed_order.specs.Laws.Known.{KnownIn, ValueIn, known_by, int-plain, pointer-plain, Into, converted-in, value-in}
+use Rattle.well_typed_order.specs.Laws.Known.{null-integer}
+use Rattle.well_typed_order.specs.Laws.Known.{assignable-in, wrapped-integer}
+use Rattle.well_typed_order.specs.Laws.Types.{and_first, and_second}
 
 -- ---- what is complete is not void
 

@@ -48,13 +48,13 @@ use Rattle.block_meaning.specs.ExpressionsInOrder.{Scope, file_of}
 use Rattle.block_meaning.specs.Locals.{text_of}
 use Rattle.block_meaning.specs.StatementsInOrder as order
 use Rattle.block_meaning.specs.StatementsInOrder.{Initialises, Elements, Members}
-use Rattle.well_typed_order.specs.Binary.{kept-first, kept-rest}
-use Rattle.well_typed_order.specs.Expressions.{expression-good}
-use Rattle.well_typed_order.specs.Good.{EnvIn, TextsIn, Silent, Good, good-on, good-both, good-sure, good-either, good-never, good-any}
-use Rattle.well_typed_order.specs.Good.{none-after, silent-on, silent-both, front, texts-front}
-use Rattle.well_typed_order.specs.Postfix.{TableIn}
-use Rattle.well_typed_order.specs.Known.{ValueIn, Into, assignable-in, value-in}
-use Rattle.well_typed_order.specs.Types.{and_first}
+use Rattle.well_typed_order.specs.Laws.Binary.{kept-first, kept-rest}
+use Rattle.well_typed_order.specs.Laws.Expressions.{expression-good}
+use Rattle.well_typed_order.specs.Laws.Good.{EnvIn, TextsIn, Silent, Good, good-on, good-both, good-sure, good-either, good-never, good-any}
+use Rattle.well_typed_order.specs.Laws.Good.{none-after, silent-on, silent-both, front, texts-front}
+use Rattle.well_typed_order.specs.Laws.Postfix.{TableIn}
+use Rattle.well_typed_order.specs.Laws.Known.{ValueIn, Into, assignable-in, value-in}
+use Rattle.well_typed_order.specs.Laws.Types.{and_first}
 
 module _ (s : Scope) where
   -- ---- a text alone

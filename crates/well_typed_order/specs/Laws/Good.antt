@@ -12,7 +12,7 @@ use Rattle.c_type_expr.specs.Environment.{Env, node_at, in_scopes, with_innermos
 use Rattle.c_type_expr.specs.Outcomes.{Outcome, Judged, behind, sure, pair, both, listed, each, continued, on, met, either}
 use Rattle.block_meaning.specs.ExpressionsInOrder.{Scope, Designates, Callable, file_of}
 use Rattle.block_meaning.specs.Locals.{text_of}
-use Rattle.well_typed_order.specs.Postfix.{TableIn}
+use Rattle.well_typed_order.specs.Laws.Postfix.{TableIn}
 
 -- ---- where a construct stands
 

@@ -43,15 +43,15 @@ use Rattle.c_type_expr.specs.Said.{constant_known, object_known, eof_value, mean
 use Rattle.block_meaning.specs.ExpressionsInOrder as order
 use Rattle.block_meaning.specs.ExpressionsInOrder.{Scope, HasValue, Designates, file_of}
 use Rattle.block_meaning.specs.Locals.{text_of}
-use Rattle.well_typed_order.specs.Binary.{Keeps, binary-in, int-integer}
-use Rattle.well_typed_order.specs.Good.{MeansIn, EnvIn, TextsIn, Silent, Good, silent-on, good-on, silent-both, good-both, good-sure}
-use Rattle.well_typed_order.specs.Good.{good-none, good-more, silent-either, good-any}
-use Rattle.well_typed_order.specs.Known.{KnownIn, ValueIn, known_by, int-plain, value-in}
-use Rattle.well_typed_order.specs.Postfix.{index-in, member-in, arrow-in, call-in}
-use Rattle.well_typed_order.specs.Silent.{binary-silent, unary-silent, assign-silent, step-silent, cond-silent, index-silent}
-use Rattle.well_typed_order.specs.Silent.{member-silent}
-use Rattle.well_typed_order.specs.Silent.{arrow-silent, name-silent, pointer-silent, array-silent, tag-silent, whole-silent}
-use Rattle.well_typed_order.specs.Unary.{lvalue-in, unary-in, cast-in, sizeof-in, sizeof-name-in, assign-in, step-in, cond-in}
+use Rattle.well_typed_order.specs.Laws.Binary.{Keeps, binary-in, int-integer}
+use Rattle.well_typed_order.specs.Laws.Good.{MeansIn, EnvIn, TextsIn, Silent, Good, silent-on, good-on, silent-both, good-both, good-sure}
+use Rattle.well_typed_order.specs.Laws.Good.{good-none, good-more, silent-either, good-any}
+use Rattle.well_typed_order.specs.Laws.Known.{KnownIn, ValueIn, known_by, int-plain, value-in}
+use Rattle.well_typed_order.specs.Laws.Postfix.{index-in, member-in, arrow-in, call-in}
+use Rattle.well_typed_order.specs.Laws.Silent.{binary-silent, unary-silent, assign-silent, step-silent, cond-silent, index-silent}
+use Rattle.well_typed_order.specs.Laws.Silent.{member-silent}
+use Rattle.well_typed_order.specs.Laws.Silent.{arrow-silent, name-silent, pointer-silent, array-silent, tag-silent, whole-silent}
+use Rattle.well_typed_order.specs.Laws.Unary.{lvalue-in, unary-in, cast-in, sizeof-in, sizeof-name-in, assign-in, step-in, cond-in}
 
 abbrev TypeSaid : Type 0
 TypeSaid = Span → Judged Written

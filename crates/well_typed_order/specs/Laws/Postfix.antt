@@ -32,10 +32,10 @@ use Rattle.c_type_expr.specs.Postfix.{call_known}
 use Rattle.block_meaning.specs.ExpressionsInOrder as order
 use Rattle.block_meaning.specs.ExpressionsInOrder.{Scope, HasValue, Designates, HasMember, Arguments, Callable}
 use Rattle.block_meaning.specs.Linkage.{structs_of}
-use Rattle.well_typed_order.specs.Binary.{Keeps, kept-first, kept-rest, sort-integer, sort-target}
-use Rattle.well_typed_order.specs.Known.{KnownIn, ValueIn, known_by, assignable-in}
-use Rattle.well_typed_order.specs.Types.{and_first, and_second}
-use Rattle.well_typed_order.specs.Unary.{lvalue-in, complete-object}
+use Rattle.well_typed_order.specs.Laws.Binary.{Keeps, kept-first, kept-rest, sort-integer, sort-target}
+use Rattle.well_typed_order.specs.Laws.Known.{KnownIn, ValueIn, known_by, assignable-in}
+use Rattle.well_typed_order.specs.Laws.Types.{and_first, and_second}
+use Rattle.well_typed_order.specs.Laws.Unary.{lvalue-in, complete-object}
 
 -- the structs that are declared so far are those of the file, and their members are objects
 pub record TableIn (env : Env) (s : Scope) : Type 0 where
