@@ -28,8 +28,8 @@ use Rattle.a64_laws.specs.Laws.Effects.Open.{IsReadable, IsOpen}
 use Rattle.a64_laws.specs.Laws.Effects.Stores.{store_outside, tagged_outside}
 use Rattle.a64_laws.specs.Laws.Extending.{passed_over}
 use Rattle.a64_laws.specs.Laws.Fields.{GoesOn, next-keeps, puts_register-keeps, puts_registers-keeps, puts_sp-keeps}
-use Rattle.a64_laws.specs.Laws.Fields.{puts_flags-keeps, puts_bytes-keeps, puts_tags-keeps, puts_pc-keeps, puts_link-keeps, with_tags-keeps}
-use Rattle.a64_laws.specs.Laws.Fields.{with_outside-keeps, draws_choice-keeps, puts_register-value}
+use Rattle.a64_laws.specs.Laws.Fields.{puts_flags-keeps, puts_bytes-keeps, puts_tags-keeps, puts_pc-keeps, puts_link-keeps}
+use Rattle.a64_laws.specs.Laws.Fields.{with_tags-keeps, with_outside-keeps, draws_choice-keeps, puts_register-value}
 use Rattle.a64_laws.specs.Laws.Fields.{puts_registers-first, puts_registers-second}
 use Rattle.a64_laws.specs.Laws.Fields.{puts_sp-value, puts_flags-value, puts_bytes-value, puts_tags-value, puts_pc-value, puts_link-value}
 use Rattle.a64_laws.specs.Laws.Fields.{puts_link-link, with_tags-value, with_outside-value}

@@ -1,26 +1,58 @@
--- Examples: what holds of two steps in turn, whatever the instructions are, and of a list that puts a register.
-use Rattle.std.specs.Prelude.{◌≡◌, ℕ, ◌^◌, ◌<◌, true, false, [], ◌∷◌, ◌++◌, refl}
-use Rattle.std.proofs.Common.{subst}
+-- Examples: a state to begin with, what holds of two steps in turn, whatever the instructions are, and of a list that puts a register.
+use Rattle.std.specs.Prelude.{◌≡◌, ℕ, ◌^◌, ◌<◌, Bool, true, false, List, [], ◌∷◌, ◌++◌, length, All, refl}
+use Rattle.std.proofs.Common.{arith, subst}
+use Rattle.mt_base.specs.Memory.{Extent, Span}
+use Rattle.a64_alu.specs.declared.flags.Flags.{Flags}
 use Rattle.a64_code.specs.declared.instr.Instr.TheVariants.{Movz}
 use Rattle.a64_code.specs.declared.instr.Reg.{Reg}
-use Rattle.a64_code.specs.State.{State}
+use Rattle.a64_code.specs.Outside.{outside_of}
+use Rattle.a64_code.specs.State.{State, operand}
 use Rattle.a64_code.specs.Step.{step}
 use Rattle.a64_code.specs.Stepped.{Stepped, Leads}
 use Rattle.a64_code.specs.Laws.Reach.{Reach, register}
 use Rattle.a64_laws.specs.Laws.Effects.Carried.{Carries}
-use Rattle.a64_laws.specs.Laws.Effects.InRange.{IsInRange}
+use Rattle.a64_laws.specs.Laws.Effects.InRange.{IsInRange, AnswersFit-bytes, choices-lt, operand-lt}
 use Rattle.a64_laws.specs.Laws.Effects.Leaves.{Keeps, OnLeads}
 use Rattle.a64_laws.specs.Laws.Effects.Reaches.{IsNarrower, AllWithin-append, Carries-keeps}
 use Rattle.a64_laws.specs.Laws.Effects.StepRange.{step-range}
 use Rattle.a64_laws.specs.Laws.Effects.Unfailing.{unfailed, DoesSame, step-unfailed}
 
--- registers and tags stay in their ranges
+-- a state to begin with: registers, bytes and tags are 0, and some choices and an input are given
+abbrev start : List Extent → Span → Flags → List ℕ → List ℕ → State
+start regions guard flags choices input = record {
+  register = λ _. 0;
+  sp = 2 ^ 47;
+  pc = 2 ^ 22;
+  flags = flags;
+  byte = λ _. 0;
+  tag = λ _. 0;
+  regions = regions;
+  guard = guard;
+  choices = choices;
+  drawn = 0;
+  outside = outside_of input;
+}
+
+start_in_range : (regions : List Extent) (guard : Span) (flags : Flags) (choices input : List ℕ) → 0 < length choices →
+    All (λ choice. choice < 16) choices → All (λ byte. byte < 2 ^ 8) input → IsInRange (start regions guard flags choices input)
+start_in_range regions guard flags choices input some tags bytes = record {
+  registers = λ n. omega arith;
+  sp = omega arith;
+  pc = omega arith;
+  bytes = λ at. omega arith;
+  tags = λ granule. omega arith;
+  drawn = some;
+  choices = choices-lt choices tags;
+  answers = AnswersFit-bytes input bytes;
+}
+
+-- registers, as any field of an instruction reads them, and tags stay in their ranges
 record InRanges (s : State) : Type 0 where
-  register : (n : ℕ) → s.register n < 2 ^ 64
+  operand : (takes_sp : Bool) (r : Reg) → operand takes_sp s r < 2 ^ 64
   tag : (granule : ℕ) → s.tag granule < 16
 
 two_in_range : (s t u : State) → IsInRange s → step s ≡ Leads t → step t ≡ Leads u → InRanges u
-two_in_range s t u range one two = record { register = behind.registers; tag = behind.tags }
+two_in_range s t u range one two = record { operand = λ takes_sp r. operand-lt takes_sp u r behind; tag = behind.tags }
   where
     between : IsInRange t
     between = subst (λ (done : Stepped). OnLeads done IsInRange) one (step-range s range)

@@ -6,7 +6,7 @@ use Rattle.mt_base.specs.Extension.{sign_extend}
 use Rattle.mt_base.specs.Granules.{granule_of}
 use Rattle.mt_base.specs.Laws.Memory.{store_tag_same}
 use Rattle.mt_base.specs.Laws.SlotTags.{slot_tag_apart}
-use Rattle.mt_base.specs.Memory.{store}
+use Rattle.mt_base.specs.Memory.{is_between, store}
 use Rattle.mt_base.specs.Pointers.{tag_of, with_tag, address_of}
 use Rattle.mt_base.specs.Tags.{next_tag, zero_excluded, base, slot_tag}
 use Rattle.a64_code.specs.declared.end.MachineEnd.TheVariants.{TagFault}
@@ -22,6 +22,7 @@ use Rattle.a64_laws.specs.Forms.{puts_register, puts_sp, puts_bytes, with_tags, 
 use Rattle.a64_laws.specs.Frames.{HasRoom}
 use Rattle.a64_laws.specs.Runs.{Runs, RunsInto}
 use Rattle.a64_laws.specs.Laws.Effects.Open.{IsOpen}
+use Rattle.a64_laws.specs.Laws.Effects.Stores.{tagged_inside}
 use Rattle.a64_laws.specs.Laws.Loads.{load_caught}
 use Rattle.a64_laws.specs.Laws.Numbers.{store-byte}
 use Rattle.a64_laws.specs.Laws.OpenMemory.{IsOpen-part, IsOpen-kept}
@@ -130,16 +131,16 @@ caught at choice s slots small pc = (
     own : u.tag (granule_of (at + 16)) ≡ slot_tag choice 2
     own = store_tag_same t.tag (at + 16) (tag_of (s.register 11)) (granule_of (at + 16)) refl ∙ slots.second.has_tag
 
--- one slot of both granules: both get its tag, and zeros
+-- by STZ2G both granules get one tag, and zeros
 both_cleared : (at choice : ℕ) (s : State) → Slots at choice s →
-    (t : State) × (effect (Stz2g 0 x10 x10) s ≡ Leads t) × (t.byte (at + 20) ≡ 0) × (t.tag (granule_of (at + 16)) ≡ slot_tag choice 1)
+    (t : State) × (effect (Stz2g 0 x10 x10) s ≡ Leads t) × (t.byte (at + 20) ≡ 0)
+    × ((granule : ℕ) → is_between (granule_of at) 2 granule ≡ true → t.tag granule ≡ slot_tag choice 1)
 unfolding puts_bytes with_tags
 both_cleared at choice s slots = (
   _,
   two_granules_cleared 0 at x10 x10 s place slots.aligned slots.memory,
   store-byte 32 s.byte at 0 20 (omega arith),
-  store_tag_same (tagged 1 s.tag at (tag_of (s.register 10))) (at + 16) (tag_of (s.register 10)) (granule_of (at + 16)) refl
-      ∙ slots.first.has_tag,
+  λ granule inside. tagged_inside 2 s.tag at (tag_of (s.register 10)) granule inside ∙ slots.first.has_tag,
 )
   where
     place : address_of ((s.register 10 + 16 * sign_extend 9 64 0) % 2 ^ 64) ≡ at
