@@ -22,7 +22,8 @@ use Rattle.c_types.specs.Recalled.{fits, told_of}
 use Rattle.c_types.specs.Redeclarations.{Kind, AnObject, AFunction, Declared, same_types, same_signature, same_kind, equal, agree}
 use Rattle.c_types.specs.Redeclarations.{may_stand, agrees_with_library}
 use Rattle.c_types.specs.Files.{FileNames}
-use Rattle.c_types.proofs.SameLaws.{type_is, signature_is}
+use Rattle.c_type_base.specs.Laws.SameLaws.{one-type}
+use Rattle.c_types.proofs.SameLaws.{signature_is}
 
 abbrev Name : Type 0
 Name = List ℕ
@@ -69,7 +70,7 @@ kind_step e (AnObject None) (AFunction (Some s)) = refl
 kind_step e (AnObject (Some t)) (AnObject None) = refl
 kind_step e (AnObject (Some t)) (AnObject (Some s)) =
     and_front (same_type t s) (no e.functions) (fits_type e.mixed same_type (Some t) e.object)
-    ∙ ap (λ b. no e.functions && b) (type_step same_type type_is e.mixed e.object t s)
+    ∙ ap (λ b. no e.functions && b) (type_step same_type one-type e.mixed e.object t s)
 kind_step e (AnObject (Some t)) (AFunction None) = refl
 kind_step e (AnObject (Some t)) (AFunction (Some s)) = refl
 kind_step e (AFunction None) (AnObject None) = refl

@@ -19,7 +19,7 @@ use Rattle.c_type_base.specs.declared.statement.TStmt.TheVariants as tstmt
 use Rattle.c_type_base.specs.declared.typed.StructInfo.{StructInfo}
 use Rattle.c_type_base.specs.declared.typed.LocalInfo.{LocalInfo}
 use Rattle.c_type_base.specs.declared.known.Known.{Known}
-use Rattle.c_type_base.specs.Sizes.{size, is_complete, largest, IsObject}
+use Rattle.c_type_base.specs.Sizes.{size, is_complete, largest, IsObject, AreObjects}
 use Rattle.c_type_base.specs.Types.{is_scalar}
 use Rattle.c_type_expr.specs.Faults.{rule, broken}
 use Rattle.c_type_expr.specs.Environment.{Env, opened}
@@ -50,10 +50,6 @@ pub every_append : {A : Type 0} (P : A → Type 0) (xs ys : List A) → Every P 
 every_append P [] ys first next k y is = next k y is
 every_append P (x ∷ xs) ys first next zero y is = first zero y is
 every_append P (x ∷ xs) ys first next (suc k) y is = every_append P xs ys (λ j z there. first (suc j) z there) next k y is
-
--- each of some locals has a type that an object may have
-abbrev pub AreObjects : List StructInfo → List LocalInfo → Type 0
-AreObjects structs locals = (k : ℕ) (l : LocalInfo) → slice_get locals k ≡ Some l → IsObject structs l.ty
 
 abbrev pub object_in : List StructInfo → LocalInfo → Type 0
 object_in structs l = IsObject structs l.ty

@@ -10,7 +10,7 @@ use Rattle.c_type_base.specs.declared.ty.Ty.TheOpen.{Ty-F}
 use Rattle.c_type_base.specs.declared.ty.Ty.TheFolds.{fold_out-Ty}
 use Rattle.c_type_base.specs.declared.typed.StructInfo.{StructInfo}
 use Rattle.c_type_base.specs.declared.known.Written.{Written}
-use Rattle.c_type_base.specs.Sizes.{int_bytes, size, size_step, is_complete, largest, IsObject}
+use Rattle.c_type_base.specs.Sizes.{int_bytes, size, size_step, is_complete, largest, IsObject, AreObjects}
 use Rattle.c_type_base.specs.Types.{TyLayer, is_there, int_of_level, target_of_level, is_scalar}
 use Rattle.c_type_expr.specs.Faults.{rule, broken}
 use Rattle.c_type_expr.specs.Environment.{opened}
@@ -21,7 +21,7 @@ use Rattle.c_types.specs.Functions.{adjusted, counted, parameter_rules, adjusted
 use Rattle.c_types.specs.Functions.{parameters}
 use Rattle.c_types.specs.Laws.PromiseLaws.{first-kept, rest-kept}
 use Rattle.c_types.specs.Laws.QuietLaws.{written_quiet}
-use Rattle.c_types.specs.Laws.DeclaredObjects.{AreObjects, object_in, Declares, AllDeclare, none, some, every_none, every_one}
+use Rattle.c_types.specs.Laws.DeclaredObjects.{object_in, Declares, AllDeclare, none, some, every_none, every_one}
 use Rattle.c_types.specs.Laws.DeclaredObjects.{joined_objects, quiet_declares, each_declares}
 
 int_small : (t : IntType) → int_bytes t ≤ largest

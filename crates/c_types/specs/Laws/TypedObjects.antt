@@ -19,7 +19,7 @@ use Rattle.c_type_base.specs.declared.typed.Typed.{Typed}
 use Rattle.c_type_base.specs.declared.typed.StructInfo.{StructInfo}
 use Rattle.c_type_base.specs.declared.typed.LocalInfo.{LocalInfo}
 use Rattle.c_type_base.specs.declared.typed.TFunction.{TFunction}
-use Rattle.c_type_base.specs.Sizes.{has_members, largest, IsObject}
+use Rattle.c_type_base.specs.Sizes.{has_members, largest, IsObject, AreObjects, HaveObjects, HaveBytes}
 use Rattle.c_type_base.specs.Layout.{struct_size}
 use Rattle.c_type_base.specs.Types.{is_there}
 use Rattle.c_type_base.specs.Laws.GrowthLaws.{Extends, complete-kept}
@@ -38,13 +38,9 @@ use Rattle.c_types.specs.Units.{parts_judged}
 use Rattle.c_types.specs.WellTyped.{WellTyped}
 use Rattle.c_types.specs.Laws.TableLaws.{ready-laid_out, none_ready, get-appended, get-set_other}
 use Rattle.c_types.specs.Laws.PromiseLaws.{Good, front, back, first-kept, open-struct, members-complete, tag-good, part-good}
-use Rattle.c_types.specs.Laws.ByteLaws.{HaveBytes, none_have, tag_has, body_has}
-use Rattle.c_types.specs.Laws.DeclaredObjects.{Every, every_none, every_one, every_append, AreObjects, object_in, body_declares}
+use Rattle.c_types.specs.Laws.ByteLaws.{none_have, tag_has, body_has}
+use Rattle.c_types.specs.Laws.DeclaredObjects.{Every, every_none, every_one, every_append, object_in, body_declares}
 use Rattle.c_types.specs.Laws.ParameterObjects.{parameters_declare}
-
--- so it is for the locals of each function
-abbrev HaveObjects : List StructInfo → List TFunction → Type 0
-HaveObjects structs functions = (k : ℕ) (f : TFunction) → slice_get functions k ≡ Some f → AreObjects structs f.locals
 
 abbrev objects_in : List StructInfo → TFunction → Type 0
 objects_in structs f = AreObjects structs f.locals

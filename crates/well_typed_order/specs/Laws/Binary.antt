@@ -32,7 +32,7 @@ use Rattle.block_meaning.specs.ExpressionsInOrder as order
 use Rattle.block_meaning.specs.ExpressionsInOrder.{Scope, HasValue, BinaryTypes, Arithmetic, Shift, Comparison, Logical, group_of}
 use Rattle.block_meaning.specs.ExpressionsInOrder.{int_type}
 use Rattle.well_typed_order.specs.Laws.Known.{KnownIn, ValueIn, known_by, int-plain, pointer-plain, converted-in}
-use Rattle.well_typed_order.specs.Laws.Types.{one-type}
+use Rattle.c_type_base.specs.Laws.SameLaws.{one-type}
 
 -- a construct without faults is in order, where it is known
 abbrev pub Keeps : Scope → Outcome Known → Type 0

@@ -16,7 +16,7 @@ use Rattle.c_type_base.specs.Types.{struct_of_level}
 use Rattle.c_type_base.specs.Types.{is_void, is_void_level, is_integer, is_pointer, is_array, is_struct}
 use Rattle.block_meaning.specs.ExpressionsInOrder as order
 use Rattle.block_meaning.specs.ExpressionsInOrder.{Scope, HasValue, Designates, Converts}
-use Rattle.well_typed_order.specs.Laws.Types.{one-type, same-itself}
+use Rattle.c_type_base.specs.Laws.SameLaws.{one-type, same-itself}
 
 -- an array or a struct that is no lvalue is a struct that was assigned, or a member of one
 pub record KnownIn (s : Scope) (k : Known) : Type 0 where
