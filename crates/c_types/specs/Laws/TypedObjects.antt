@@ -1,6 +1,6 @@
 -- What a program that keeps its rules promises of its functions: each parameter and local has a type that an object may have, by the
 -- table of all structs. And each of its structs that has members has bytes.
-use Rattle.std.proofs.Common.{◌≡◌, refl, sym, subst, ℕ, ◌≤◌, Bool, true, false, List, [], ◌∷◌, ◌++◌, map, slice_get, slice_set, suc}
+use Rattle.std.proofs.Common.{◌≡◌, refl, sym, subst, ℕ, ◌≤◌, Bool, true, false, not, List, [], ◌∷◌, ◌++◌, map, slice_get, slice_set, suc}
 use Rattle.std.proofs.Common.{length, Option, Some, None}
 use Rattle.std.specs.Prelude.{leb, IsTrue, if◌then◌else◌}
 use Rattle.std.specs.List.{find}
@@ -26,7 +26,6 @@ use Rattle.c_type_base.specs.Laws.GrowthLaws.{Extends, complete-kept}
 use Rattle.c_type_expr.specs.Environment.{Env, tag_number}
 use Rattle.c_type_expr.specs.Faults.{rule, broken}
 use Rattle.c_type_expr.specs.Outcomes.{Outcome}
-use Rattle.c_type_stmt.specs.Declarations.{no}
 use Rattle.c_type_stmt.specs.Statements.{statement}
 use Rattle.c_types.specs.Files.{FileNames, file_names}
 use Rattle.c_types.specs.Functions.{result_type}
@@ -84,7 +83,7 @@ body_keeps j d (Some n) ds good keeps = λ is.
     let before : j.faults ++ o.faults ≡ [] = front (j.faults ++ o.faults) (broken d.span rules) is in
     let first : j.faults ≡ [] = front j.faults o.faults before in
     let fits = rule 17 (leb (struct_size j.env.structs (map ty_in ms)) largest) ∷ [] in
-    let bare = open-struct (slice_get j.env.structs n) (first-kept d.span 10 (no (has_body (slice_get j.env.structs n))) fits own) in
+    let bare = open-struct (slice_get j.env.structs n) (first-kept d.span 10 (not (has_body (slice_get j.env.structs n))) fits own) in
     let new = struct_with j.env.structs d.name ms in
     record {
       bytes = body_has j.env.structs n d.name ms (ready-laid_out j.env.structs (good first))
