@@ -1,39 +1,33 @@
 -- An object at file scope is walked part by part.
 use Rattle.std.proofs.Common.{◌≡◌, refl, sym, ◌∙◌, ap, subst, ℕ, ◌+◌, ◌<◌, Bool, true, false, not, List, [], ◌∷◌, ◌++◌, length, take}
-use Rattle.std.proofs.Common.{get_or, Option, Some, None, append-nil}
-use Rattle.std.specs.Prelude.{leb, if◌then◌else◌}
+use Rattle.std.proofs.Common.{get_or, Option, Some, None}
+use Rattle.std.specs.Prelude.{leb}
 use Rattle.std.specs.Str.{bytes_eq}
 use Rattle.std.proofs.lemmas.List.{take_more}
 use Rattle.c_ast.specs.declared.declaration.Decl.{Decl}
-use Rattle.c_ast.specs.declared.declaration.Init.{Init}
 use Rattle.c_ast.specs.declared.declaration.Storage.{Storage}
 use Rattle.c_ast.specs.declared.declaration.Storage.TheVariants as storage
 use Rattle.c_ast.specs.declared.token.Span.{Span}
 use Rattle.c_type_base.specs.declared.ty.Ty.{Ty}
-use Rattle.c_type_base.specs.declared.typed.GlobalInfo.{GlobalInfo}
-use Rattle.c_type_base.specs.declared.typed.StructInfo.{StructInfo}
 use Rattle.c_type_base.specs.Sizes.{is_complete, size, largest}
 use Rattle.c_type_expr.specs.declared.fault.Fault.{Fault}
 use Rattle.c_type_expr.specs.declared.scopes.Meaning.TheVariants as means
 use Rattle.c_type_expr.specs.declared.walk.Walk.{Walk}
 use Rattle.c_type_expr.specs.Environment.{binds}
 use Rattle.c_type_expr.specs.Faults.{Rule, rule, broken}
-use Rattle.c_type_expr.specs.Least.{first_with}
-use Rattle.c_type_expr.specs.Outcomes.{option_map}
 use Rattle.c_type_expr.specs.Scoping.{with_binding}
-use Rattle.c_type_expr.specs.Walked.{env_of, blamed}
+use Rattle.c_type_expr.specs.Walked.{blamed}
 use Rattle.c_type_expr.specs.Laws.WalkedLaws.{first_with-append}
 use Rattle.c_type_stmt.specs.declared.fitted.Fitted.{Fitted}
 use Rattle.c_type_stmt.specs.Declarations.{init_of, declared_type, object_rules, initialised}
-use Rattle.c_type_stmt.specs.Initials.{InitSaid, initialiser}
+use Rattle.c_type_stmt.specs.Initials.{InitSaid}
 use Rattle.c_types.specs.declared.file_walk.FileWalk.{FileWalk}
-use Rattle.c_types.specs.declared.redeclared.Redeclared.{Redeclared}
 use Rattle.c_types.specs.Files.{FileNames, object_place, is_extern}
 use Rattle.c_types.specs.Functions.{main_name}
 use Rattle.c_types.specs.Recalled.{Recalls}
 use Rattle.c_types.specs.Redeclarations.{Declared, may_stand}
 use Rattle.c_types.specs.Standing.{Stands, FileStands, Passed}
-use Rattle.c_types.specs.Units.{Judgement, with_outcome, with_faults, with_names, extern_rules, misfits, pieces_in, global_of}
+use Rattle.c_types.specs.Units.{Judgement, with_outcome, with_faults, with_names, extern_rules, pieces_in, global_of}
 use Rattle.c_types.specs.Units.{object_declared, object_judged, objects_judged}
 use Rattle.c_types.specs.Laws.StandingLaws.{stands_faults, stands_names}
 

@@ -1,5 +1,5 @@
 -- Where the walk stands behind a tag, and behind the body of one.
-use Rattle.std.proofs.Common.{◌≡◌, refl, sym, ◌∙◌, ap, subst, ℕ, suc, ◌+◌, ◌<◌, ◌≤◌, Bool, true, false, not, cond, List, [], ◌∷◌, ◌++◌, map}
+use Rattle.std.proofs.Common.{◌≡◌, refl, sym, ◌∙◌, ap, subst, ℕ, suc, ◌+◌, ◌<◌, Bool, true, false, not, cond, List, [], ◌∷◌, ◌++◌, map}
 use Rattle.std.proofs.Common.{length, slice_get, slice_set, Option, Some, None, arith}
 use Rattle.std.specs.Prelude.{leb, min}
 use Rattle.std.specs.List.{position_from}
@@ -14,11 +14,11 @@ use Rattle.c_type_base.specs.Sizes.{largest}
 use Rattle.c_type_base.specs.Layout.{struct_size}
 use Rattle.c_type_expr.specs.declared.walk.Walk.{Walk}
 use Rattle.c_type_expr.specs.Environment.{Env, tag_number}
-use Rattle.c_type_expr.specs.Faults.{Rule, rule, broken}
+use Rattle.c_type_expr.specs.Faults.{rule, broken}
 use Rattle.c_type_expr.specs.Walked.{blamed, Walked}
 use Rattle.c_types.specs.Standing.{Stands}
 use Rattle.c_types.specs.Structs.{Member, ty_in, greatest, capped, members, struct_with, tag_alone, has_body, body_rules}
-use Rattle.c_types.specs.Units.{Judgement, with_outcome, with_faults, with_structs, with_tag, known_members, with_body}
+use Rattle.c_types.specs.Units.{Judgement, with_outcome, with_faults, with_tag, known_members, with_body}
 use Rattle.c_types.specs.Laws.StandingLaws.{stands_outcome, known_at, stands_faults, stands_structs}
 
 pub structs_at : (w : Walk) (j : Judgement) → Stands w j → w.structs ≡ j.env.structs

@@ -124,7 +124,7 @@ with_function_keeps j f result params (Some s) are keeps = λ is.
     let o = (statement s).body inside in
     let first : j.faults ≡ [] = front j.faults o.faults is in
     let locals = every_append (object_in j.env.structs) params.locals o.locals (are first)
-    (body_declares s inside (back j.faults o.faults is)) in
+    ((body_declares s inside).objects (back j.faults o.faults is)) in
     record {
       bytes = (keeps first).bytes;
       objects = every_append (objects_in j.env.structs) j.functions (function_of f result (params.locals ++ o.locals) o.known)
@@ -137,7 +137,7 @@ head_parameters : (names : FileNames) (j : Judgement) (f : Function) → (head_j
 head_parameters names j f is =
     let result = result_type f j.env in
     let params = parameters_in j f in
-    parameters_declare (is_there f.body) f.params _ (back (j.faults ++ result.faults) params.faults (front _ _ (front _ [] is)))
+    (parameters_declare (is_there f.body) f.params _).objects (back (j.faults ++ result.faults) params.faults (front _ _ (front _ [] is)))
 
 head_keeps : (names : FileNames) (j : Judgement) (f : Function) → Keeps j → Keeps (head_judged names j f)
 head_keeps names j f keeps = λ is. keeps (front j.faults _ (front _ _ (front _ _ (front _ [] is))))
