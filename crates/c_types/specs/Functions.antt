@@ -1,5 +1,6 @@
 -- Functions: parameters, heads and bodies (ISO C11 6.7.6.3, 6.9.1, 5.1.2.2.1).
-use Rattle.std.specs.Prelude.{ℕ, Bool, true, false, not, ◌&&◌, ◌||◌, leb, List, [], ◌∷◌, length, map, codes, Option, Some, None, if◌then◌else◌}
+use Rattle.std.specs.Prelude.{ℕ, Bool, true, false, not, ◌&&◌, ◌||◌, leb, List, [], ◌∷◌, length, map, codes, Option, Some, None}
+use Rattle.std.specs.Prelude.{if◌then◌else◌}
 use Rattle.std.specs.Str.{bytes_eq}
 use Rattle.c_ast.specs.declared.int_type.IntType.TheVariants as int
 use Rattle.c_ast.specs.declared.declaration.Decl.{Decl}

@@ -146,7 +146,8 @@ object_judged names c j d =
     let named = with_names typed (binds d.name (means.Object (object_place names d.name) t.known) ∷ []) in
     let i = initialised true t.known (init_of d) named.env in
     let this = object_declared c d t.known in
-    let rules = rule 10 (may_stand names j.declared this) ∷ rule 19 (not (bytes_eq d.name main_name)) ∷ object_rules j.env.structs t.known in
+    let rules = rule 10 (may_stand names j.declared this) ∷ rule 19 (not (bytes_eq d.name main_name)) ∷
+    object_rules j.env.structs t.known in
     let judged = with_faults (with_outcome named i) (extern_rules c (init_of d) ++ broken d.span rules) in
     record judged { declared = this ∷ j.declared; globals = j.globals ++ global_of c d t.known (pieces_in i.known) }
 

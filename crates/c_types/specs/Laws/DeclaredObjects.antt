@@ -1,5 +1,7 @@
--- What a body breaks are rules of the numbers 9 to 19. Where it breaks none, each local that it declares has a type that an object may have.
-use Rattle.std.proofs.Common.{◌≡◌, refl, sym, ap, subst, ℕ, zero, suc, Bool, true, false, List, [], ◌∷◌, ◌++◌, map, slice_get, Option, Some, None}
+-- What a body breaks are rules of the numbers 9 to 19. Where it breaks none, each local that it declares has a type that an object may
+-- have.
+use Rattle.std.proofs.Common.{◌≡◌, refl, sym, ap, subst, ℕ, zero, suc, Bool, true, false, List, [], ◌∷◌, ◌++◌, map}
+use Rattle.std.proofs.Common.{slice_get, Option, Some, None}
 use Rattle.std.specs.Prelude.{leb}
 use Rattle.std.specs.List.{list_all}
 use Rattle.std.proofs.lemmas.Bool.{leb-true}
@@ -172,7 +174,8 @@ effect_quiet e = on_quiet (judged_value e) (λ k. sure k.tree) (value_quiet e) (
 
 condition_quiet : (e : Expr) → Quiet (condition e)
 condition_quiet e =
-    on_quiet (judged_value e) (λ k. ruled k.tree.span (rule 12 (is_scalar k.tree.ty) ∷ []) k.tree) (value_quiet e) (λ k env. search (rules_quiet))
+    on_quiet (judged_value e) (λ k. ruled k.tree.span (rule 12 (is_scalar k.tree.ty) ∷ []) k.tree) (value_quiet e)
+    (λ k env. search (rules_quiet))
 
 returned_quiet : (span : Span) (t : Option Ty) (k : Option Known) → Quiet (returned span t k)
 returned_quiet span None k = λ env. at_once _ refl refl
@@ -214,7 +217,8 @@ stmt_level d here = subst StmtDeclares (sym (fold-roll-Stmt (Judged TItem) StmtS
 
 local_row : (ds : List Decl) → Declares (on (each (map local ds)) (λ ts. sure (titem.Local ts)))
 local_row ds =
-    on_declares (each (map local ds)) (λ ts. sure (titem.Local ts)) (each_declares (map local ds) (locals_declare ds)) (λ v env. at_once _ refl refl)
+    on_declares (each (map local ds)) (λ ts. sure (titem.Local ts)) (each_declares (map local ds) (locals_declare ds))
+    (λ v env. at_once _ refl refl)
 
 item_row : (y : Item-F ItemWith StmtWith) → Declares (item_judged (roll-Item (items_with y)))
 unfolding items_with given_trees
@@ -267,7 +271,8 @@ stmt_row (Stmt-F.Block is) = stmt_level (Stmt-F.Block (map (λ i. i.0) is)) (rec
 stmt_row (Stmt-F.Expr e) = stmt_level (Stmt-F.Expr e)
     (stated_declares (on (effect e) (λ t. sure (tstmt.Expr t)))
     (on_declares (effect e) (λ t. sure (tstmt.Expr t)) (quiet_declares (effect e) (effect_quiet e)) (λ v env. at_once _ refl refl)))
-stmt_row Stmt-F.Empty = stmt_level Stmt-F.Empty (stated_declares (sure tstmt.Empty) (quiet_declares (sure tstmt.Empty) (λ env. at_once _ refl refl)))
+stmt_row Stmt-F.Empty = stmt_level Stmt-F.Empty
+    (stated_declares (sure tstmt.Empty) (quiet_declares (sure tstmt.Empty) (λ env. at_once _ refl refl)))
 stmt_row (Stmt-F.If e s None) = stmt_level (Stmt-F.If e s.0 None)
     (stated_declares (if_row e (statement s.0).judged None) (if_declares e s (perhaps None) (else_declares None)))
 stmt_row (Stmt-F.If e s (Some o)) = stmt_level (Stmt-F.If e s.0 (Some o.0))
@@ -276,11 +281,13 @@ stmt_row (Stmt-F.If e s (Some o)) = stmt_level (Stmt-F.If e s.0 (Some o.0))
 stmt_row (Stmt-F.While e s) = stmt_level (Stmt-F.While e s.0)
     (stated_declares (on (both (condition e) (statement s.0).judged) (λ (c, t). sure (tstmt.While c t)))
     (on_declares (both (condition e) (statement s.0).judged) (λ (c, t). sure (tstmt.While c t))
-    (both_declare (condition e) (statement s.0).judged (quiet_declares (condition e) (condition_quiet e)) s.1.judged) (λ v env. at_once _ refl refl)))
+    (both_declare (condition e) (statement s.0).judged (quiet_declares (condition e) (condition_quiet e)) s.1.judged)
+    (λ v env. at_once _ refl refl)))
 stmt_row (Stmt-F.DoWhile s e) = stmt_level (Stmt-F.DoWhile s.0 e)
     (stated_declares (on (both (statement s.0).judged (condition e)) (λ (t, c). sure (tstmt.DoWhile t c)))
     (on_declares (both (statement s.0).judged (condition e)) (λ (t, c). sure (tstmt.DoWhile t c))
-    (both_declare (statement s.0).judged (condition e) s.1.judged (quiet_declares (condition e) (condition_quiet e))) (λ v env. at_once _ refl refl)))
+    (both_declare (statement s.0).judged (condition e) s.1.judged (quiet_declares (condition e) (condition_quiet e)))
+    (λ v env. at_once _ refl refl)))
 stmt_row (Stmt-F.For ds first c next s) = stmt_level (Stmt-F.For ds first c next s.0)
     (stated_declares (for_row ds first c next (statement s.0).judged) (for_declares ds first c next s))
 stmt_row (Stmt-F.Return e span) = stmt_level (Stmt-F.Return e span)

@@ -30,14 +30,16 @@ use Rattle.c_type_expr.specs.Faults.{rule, fault}
 use Rattle.c_type_expr.specs.Operators.{breaks}
 use Rattle.c_type_expr.specs.Said.{Said}
 use Rattle.c_type_expr.specs.Expressions.{expression, written}
-use Rattle.c_types.specs.Laws.QuietRows.{IsQuiet, Quiet, at_once, rules_quiet, rules_joined, both_quiet, AllQuiet, each_quiet, on_quiet, either_quiet, none, some}
+use Rattle.c_types.specs.Laws.QuietRows.{IsQuiet, Quiet, at_once, rules_quiet, rules_joined, both_quiet, AllQuiet, each_quiet, on_quiet}
+use Rattle.c_types.specs.Laws.QuietRows.{either_quiet, none, some}
 use Rattle.c_types.specs.Laws.QuietLaws.{expression_quiet, written_quiet}
 
 text_quiet : (span : Span) (e : Judged Known) (text : Option (List ℕ)) (char : Bool) (n : ℕ) → Quiet e →
     Quiet (array_by span e text char n)
 text_quiet span e (Some bytes) true n quiet = on_quiet e (spelled span n bytes) quiet (λ k env. search (rules_quiet))
 text_quiet span e _ _ n quiet =
-    either_quiet e (breaks 16 span) (λ k. asked span (rule 12 (is_value k) ∷ rule 16 false ∷ [])) quiet (λ env. at_once _ refl refl) (λ k env. search (rules_quiet))
+    either_quiet e (breaks 16 span) (λ k. asked span (rule 12 (is_value k) ∷ rule 16 false ∷ [])) quiet
+    (λ env. at_once _ refl refl) (λ k env. search (rules_quiet))
 
 for_quiet : (e : Said) (from_start : Bool) (t : Ty) (level : TyLayer) → Quiet e.judged → Quiet (expression_for e from_start t level)
 for_quiet e from_start t (Ty-F.Array element n) quiet = text_quiet e.span e.judged e.text (is_char_type element) n quiet
@@ -115,12 +117,14 @@ if_none false x y first other = other
 
 list_quiet : (span : Span) (is : List InitSaid) (from_start : Bool) (bytes : ℕ) (slot : Option (ℕ → Option Slot)) → AllInits is →
     Quiet (list_by span is from_start bytes slot)
-list_quiet span is from_start bytes None all = on_quiet (loose_all is) (λ x. breaks 16 span) (loose_quiet is all) (λ v env. at_once _ refl refl)
+list_quiet span is from_start bytes None all =
+    on_quiet (loose_all is) (λ x. breaks 16 span) (loose_quiet is all) (λ v env. at_once _ refl refl)
 list_quiet span is from_start bytes (Some slot) all =
     if_quiet (is_zero_list is && is_aggregate_slot (slot 0)) (zero_list span is bytes)
     (on (fit_all slot from_start 0 is) (λ fs. sure (in_braces span fs)))
     (zero_quiet span is bytes all)
-    (on_quiet (fit_all slot from_start 0 is) (λ fs. sure (in_braces span fs)) (fit_quiet slot from_start 0 is all) (λ v env. at_once _ refl refl))
+    (on_quiet (fit_all slot from_start 0 is) (λ fs. sure (in_braces span fs)) (fit_quiet slot from_start 0 is all)
+    (λ v env. at_once _ refl refl))
 
 list_for_quiet : (span : Span) (is : List InitSaid) (from_start : Bool) (t : Ty) → AllInits is → Quiet (list_for span is from_start t)
 list_for_quiet span is from_start t all env =
@@ -143,7 +147,8 @@ init_row : (y : Init-F InitWith) → InitQuiet (initialiser (roll-Init (inits_wi
 unfolding inits_with given_trees
 init_row (Init-F.One e) =
     subst InitQuiet (sym (said-one e)) (record {
-      loose = on_quiet (expression e).judged (λ k. ruled e.span (rule 12 (is_value k) ∷ []) tt) (expression_quiet e) (λ k env. search (rules_quiet));
+      loose = on_quiet (expression e).judged (λ k. ruled e.span (rule 12 (is_value k) ∷ []) tt) (expression_quiet e)
+          (λ k env. search (rules_quiet));
       fitted = λ from_start t. for_quiet (expression e) from_start t (out-Ty t) (expression_quiet e);
     })
 init_row (Init-F.List is span) =

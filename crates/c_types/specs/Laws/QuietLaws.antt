@@ -20,8 +20,8 @@ use Rattle.c_type_expr.specs.Postfix.{member_row, struct_pointed, function_in, m
 use Rattle.c_type_expr.specs.Laws.SaidLaws.{written-void, written-int, written-struct, written-pointer, written-array, written-open}
 use Rattle.c_type_expr.specs.Expressions.{in_parentheses, sizeof_row, sizeof_type, cast_row, unary_row, assign_row, step_row, conditional}
 use Rattle.c_type_expr.specs.Expressions.{cast_judged, index_of, arrow_of, node_step, expr_step, expression, written, judged_value}
-use Rattle.c_types.specs.Laws.QuietRows.{Quiet, at_once, rules_quiet, both_quiet, AllQuiet, each_quiet, on_quiet, binary_quiet, cond_quiet, unary_quiet}
-use Rattle.c_types.specs.Laws.QuietRows.{assign_quiet, step_quiet, index_quiet, member_quiet, arrow_quiet, name_quiet, call_by_quiet}
+use Rattle.c_types.specs.Laws.QuietRows.{Quiet, at_once, rules_quiet, both_quiet, AllQuiet, each_quiet, on_quiet, binary_quiet, cond_quiet}
+use Rattle.c_types.specs.Laws.QuietRows.{unary_quiet, assign_quiet, step_quiet, index_quiet, member_quiet, arrow_quiet, name_quiet, call_by_quiet}
 use Rattle.c_types.specs.Laws.QuietRows.{pointer_quiet, array_quiet, tag_quiet, whole_quiet, length_quiet, none, some}
 
 -- what is said of a node, which has no span
@@ -86,7 +86,8 @@ type_row (CType-F.Array t (Some e)) =
 
 arguments_quiet : (es : List ExprWith) → AllQuiet (map argument (map expression (map (λ e. e.0) es)))
 arguments_quiet [] = none
-arguments_quiet (e ∷ es) = some (on_quiet (expression e.0).judged (λ k. sure (value k)) e.1 (λ k env. at_once _ refl refl)) (arguments_quiet es)
+arguments_quiet (e ∷ es) =
+    some (on_quiet (expression e.0).judged (λ k. sure (value k)) e.1 (λ k env. at_once _ refl refl)) (arguments_quiet es)
 
 one_row : (e : ExprWith) (f : Span → Known → Judged Known) → ((span : Span) (k : Known) → Quiet (f span k)) →
     (span : Span) → Quiet (on (expression e.0).judged (f span))
@@ -125,7 +126,8 @@ unfolding nodes_with given_trees
 node_row (Node-F.Constant n t) = level (Node-F.Constant n t) (λ span env. at_once _ refl refl)
 node_row (Node-F.Text bytes) = level (Node-F.Text bytes) (λ span env. search (rules_quiet))
 node_row (Node-F.Variable name) = level (Node-F.Variable name) (λ span env. name_quiet span (meaning_of (in_scopes name env.scopes)) env)
-node_row (Node-F.Paren e) = level (Node-F.Paren e.0) (one_row e (λ span k. sure (in_parentheses span k)) (λ span k env. at_once _ refl refl))
+node_row (Node-F.Paren e) = level (Node-F.Paren e.0)
+    (one_row e (λ span k. sure (in_parentheses span k)) (λ span k env. at_once _ refl refl))
 node_row (Node-F.Unary o e) = level (Node-F.Unary o e.0) (one_row e (unary_row o) (unary_quiet o))
 node_row (Node-F.Binary o a b) = level (Node-F.Binary o a.0 b.0)
     (two_rows a b (λ span (x, y). binary_judged o span (value x) (value y))

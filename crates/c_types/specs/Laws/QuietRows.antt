@@ -295,4 +295,5 @@ whole_quiet span (Open t) = λ env. at_once _ refl refl
 
 pub length_quiet : (e : Said) → Quiet e.judged → Quiet (judged_length e)
 length_quiet e quiet =
-    either_quiet e.judged (asked e.span (rule 12 e.computes ∷ [])) (length_known e.span) quiet (λ env. search (rules_quiet)) (λ k env. search (rules_quiet))
+    either_quiet e.judged (asked e.span (rule 12 e.computes ∷ [])) (length_known e.span) quiet
+    (λ env. search (rules_quiet)) (λ k env. search (rules_quiet))
