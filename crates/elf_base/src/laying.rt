@@ -40,9 +40,9 @@ pub fn put_words(out: &mut Vec<u8>, place: u64, words: &[u32]) -> Result<(), All
     Ok(())
 }
 
-/// The four bytes of a number at the end.
+// The four bytes of a number at the end.
 #[tactic(auto, unfolding(crate::specs::Field::field_bytes))]
-pub fn push_u32(out: &mut Vec<u8>, value: u32) -> Result<(), AllocError>
+fn push_u32(out: &mut Vec<u8>, value: u32) -> Result<(), AllocError>
     ensures { OnOk result (out.new.items ≡ out.old.items ++ field_bytes (number 4 value)) }
 {
     out.extend_from_slice(&value.to_le_bytes())?;

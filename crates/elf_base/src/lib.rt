@@ -15,7 +15,7 @@ mod zeros;
 
 pub use dynamic::{DYN_BYTES, Dyn, read_dyn, write_dyn};
 pub use header::{EHDR_BYTES, Ehdr, IDENTIFICATION, read_ehdr, write_ehdr};
-pub use laying::{pad_to, push_u32, push_u64, put_bytes, put_words};
+pub use laying::{pad_to, push_u64, put_bytes, put_words};
 pub use place::{Short, u8_at, u16_at, u32_at, u64_at};
 pub use relocation::{RELA_BYTES, Rela, read_rela, write_rela};
 pub use section::{SHDR_BYTES, Shdr, read_shdr, write_shdr};

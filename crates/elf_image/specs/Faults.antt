@@ -14,8 +14,9 @@ use Rattle.elf_image.specs.declared.heads.Heads.{Heads}
 use Rattle.elf_image.specs.declared.refusal.ImageRefusal.{ImageRefusal}
 use Rattle.elf_image.specs.declared.refusal.ImageRefusal.TheVariants.{NotElf, NotThisMachine, Truncated, BadSegment, BadDynamic}
 use Rattle.elf_image.specs.Heads.{heads_at, entry_at, reloc_bytes_at, descriptor_bytes_at}
-use Rattle.elf_image.specs.Places.{round_page}
-use Rattle.elf_image.specs.Pieces.{header_with, load, dynamic_at, entry}
+use Rattle.elf_image.specs.Places.{symbols_place, relocs_place, round_page, memory_limit}
+use Rattle.elf_image.specs.Records.{header_with, read_only_with, code_with, writable_with, dynamic_at, table_entries, mode_entries}
+use Rattle.elf_image.specs.Records.{described_entries, last_entries, relative}
 
 -- ---- tests
 
@@ -24,6 +25,10 @@ unfoldable pub agrees : List ℕ → List ℕ → Bool
 agrees [] wanted = true
 agrees (b ∷ bytes) [] = true
 agrees (b ∷ bytes) (w ∷ wanted) = b == w && agrees bytes wanted
+
+-- the type of file and the machine of two headers are equal
+abbrev pub same_machine : Ehdr → Ehdr → Bool
+same_machine h g = h.kind == g.kind && h.machine == g.machine
 
 -- the fields of two records are equal
 unfoldable pub same_header : Ehdr → Ehdr → Bool
@@ -40,10 +45,10 @@ same_segment p q =
 unfoldable pub same_entry : Dyn → Dyn → Bool
 same_entry d e = int_eq d.tag e.tag && d.value == e.value
 
--- so many Rela records from a place on have symbol 0 and the type R_AARCH64_RELATIVE
+-- so many Rela records from a place on are relative
 unfoldable pub are_relative : ℕ → ℕ → List ℕ → Bool
 are_relative zero at file = true
-are_relative (suc count) at file = number_at 8 (at + 8) file == 1027 && are_relative count (at + 24) file
+are_relative (suc count) at file = number_at 8 (at + 8) file == relative && are_relative count (at + 24) file
 
 -- the bytes that a program header names are there
 abbrev pub reaches : List ℕ → Phdr → Bool
@@ -54,23 +59,23 @@ reaches file p = nat_le (p.offset + p.filesz) (length file)
 -- the part that is only read begins the file; the symbol and the string table in it, and the gap behind them, are zero
 abbrev pub is_read_only : List ℕ → Heads → Bool
 is_read_only file h =
-    same_segment h.read_only (load 4 0 h.read_only.filesz h.read_only.filesz) && nat_le 0x140 h.read_only.filesz
-    && is_zero_between file 0x120 0x140
+    same_segment h.read_only (read_only_with h.read_only.filesz) && nat_le relocs_place h.read_only.filesz
+    && is_zero_between file symbols_place relocs_place
 
 -- the code has whole words and begins the next page; the gap before it is zero
 abbrev pub is_code : List ℕ → Heads → Bool
 is_code file h =
-    same_segment h.code (load 5 h.code.offset h.code.filesz h.code.filesz) && round_page h.read_only.filesz == h.code.offset
+    same_segment h.code (code_with h.code.offset h.code.filesz) && round_page h.read_only.filesz == h.code.offset
     && h.code.filesz % 4 == 0 && is_zero_between file h.read_only.filesz h.code.offset
 
 -- The writable part begins the next page, and the gap before it is zero. It has room for the 11 dynamic entries, its bytes in
 -- the file and the zero bytes are whole granules, and the image's memory, which it ends, is within 256 MiB.
 abbrev pub is_writable : List ℕ → Heads → Bool
 is_writable file h =
-    same_segment h.writable (load 6 h.writable.offset h.writable.filesz h.writable.memsz)
+    same_segment h.writable (writable_with h.writable.offset h.writable.filesz h.writable.memsz)
     && round_page (h.code.offset + h.code.filesz) == h.writable.offset
     && nat_le 176 h.writable.filesz && h.writable.filesz % 16 == 0 && nat_le h.writable.filesz h.writable.memsz
-    && h.writable.memsz % 16 == 0 && nat_le (h.writable.offset + h.writable.memsz) 268435456
+    && h.writable.memsz % 16 == 0 && nat_le (h.writable.offset + h.writable.memsz) memory_limit
     && is_zero_between file (h.code.offset + h.code.filesz) h.writable.offset
 
 -- the dynamic entries, of which there are 11 or 13, begin the writable part
@@ -85,12 +90,13 @@ is_dynamic h =
 abbrev pub is_reloc_size : Heads → ℕ → Bool
 is_reloc_size h relocs =
     relocs % 24 == 0
-    && (if h.dynamic.filesz == 208 then nat_le (0x140 + relocs) h.read_only.filesz else nat_le
-    (round16 (0x140 + relocs)) h.read_only.filesz)
+    && (if h.dynamic.filesz == 208 then nat_le (relocs_place + relocs) h.read_only.filesz else
+    nat_le (round16 (relocs_place + relocs)) h.read_only.filesz)
 
 -- some descriptors, behind which the read-only data begins within the first part
 abbrev pub is_descriptor_size : Heads → ℕ → ℕ → Bool
-is_descriptor_size h relocs descriptors = nat_le 1 descriptors && nat_le (round16 (0x140 + relocs + descriptors)) h.read_only.filesz
+is_descriptor_size h relocs descriptors =
+    nat_le 1 descriptors && nat_le (round16 (relocs_place + relocs + descriptors)) h.read_only.filesz
 
 -- ---- the conditions in order
 
@@ -106,7 +112,7 @@ abbrev pub opening : List ℕ → Heads → List (Condition ImageRefusal)
 opening file h =
     condition (agrees file identification) NotElf
     ∷ condition (nat_le 64 (length file)) (Truncated (length file))
-    ∷ condition (h.header.kind == 3 && h.header.machine == 183) NotThisMachine
+    ∷ condition (same_machine h.header (header_with h.header.entry)) NotThisMachine
     ∷ condition (nat_le (h.header.phoff + 224) (length file)) (Truncated (length file))
     ∷ []
 
@@ -130,44 +136,44 @@ segments file h =
     ∷ condition (nat_le (length file) (h.writable.offset + h.writable.filesz)) (BadSegment 4)
     ∷ []
 
--- the dynamic entry of a number has this tag and this value
-abbrev pub asks : List ℕ → Heads → ℕ → ℕ → ℕ → Condition ImageRefusal
-asks file h i tag value = condition (same_entry (entry_at file h i) (entry tag value)) (BadDynamic i)
+-- the dynamic entries from a number on are these
+abbrev pub asks : List ℕ → Heads → ℕ → List Dyn → List (Condition ImageRefusal)
+asks file h i [] = []
+asks file h i (d ∷ ds) = condition (same_entry (entry_at file h i) d) (BadDynamic i) ∷ asks file h (i + 1) ds
 
--- RELASZ, and then the relocations, of which one that is not RELATIVE counts to RELA
+-- the size that RELASZ says, and then the relocations, of which one that is not relative counts to RELA
 abbrev pub reloc_asks : List ℕ → Heads → List (Condition ImageRefusal)
 reloc_asks file h =
-    condition (same_entry (entry_at file h 5) (entry 8 (reloc_bytes_at file h)) && is_reloc_size h (reloc_bytes_at file h)) (BadDynamic 5)
-    ∷ condition (are_relative (reloc_bytes_at file h / 24) 0x140 file) (BadDynamic 4)
+    condition (is_reloc_size h (reloc_bytes_at file h)) (BadDynamic 5)
+    ∷ condition (are_relative (reloc_bytes_at file h / 24) relocs_place file) (BadDynamic 4)
     ∷ []
 
--- STRTAB, SYMTAB, STRSZ, SYMENT, RELA and RELASZ
+-- the entries up to RELASZ
 abbrev pub table_asks : List ℕ → Heads → List (Condition ImageRefusal)
-table_asks file h =
-    asks file h 0 5 0x138 ∷ asks file h 1 6 0x120 ∷ asks file h 2 10 1 ∷ asks file h 3 11 24 ∷ asks file h 4 7 0x140 ∷ reloc_asks file h
+table_asks file h = asks file h 0 (table_entries (reloc_bytes_at file h)) ++ reloc_asks file h
 
--- RELAENT, AARCH64_MEMTAG_MODE, MEMTAG_HEAP and MEMTAG_STACK
+-- those up to MEMTAG_STACK
 abbrev pub mode_asks : List ℕ → Heads → List (Condition ImageRefusal)
-mode_asks file h =
-    asks file h 6 9 24 ∷ asks file h 7 0x70000009 0 ∷ asks file h 8 0x7000000b 0 ∷ asks file h 9 0x7000000c 1 ∷ []
+mode_asks file h = asks file h 6 mode_entries
 
--- AARCH64_MEMTAG_GLOBALS and GLOBALSSZ, where there are 13 entries, and NULL
+-- the size that MEMTAG_GLOBALSSZ says
+abbrev pub size_asks : List ℕ → Heads → List (Condition ImageRefusal)
+size_asks file h = condition (is_descriptor_size h (reloc_bytes_at file h) (descriptor_bytes_at file h)) (BadDynamic 11) ∷ []
+
+-- those of the descriptors, where there are 13 entries, and the last one
 abbrev pub described_asks : List ℕ → Heads → List (Condition ImageRefusal)
 described_asks file h =
-    asks file h 10 0x7000000d (0x140 + reloc_bytes_at file h)
-    ∷ condition (same_entry (entry_at file h 11) (entry 0x7000000f (descriptor_bytes_at file h))
-    && is_descriptor_size h (reloc_bytes_at file h) (descriptor_bytes_at file h)) (BadDynamic 11)
-    ∷ asks file h 12 0 0
-    ∷ []
+    asks file h 10 (described_entries (relocs_place + reloc_bytes_at file h) (descriptor_bytes_at file h))
+    ++ (size_asks file h ++ asks file h 12 last_entries)
 
 abbrev pub last_asks : List ℕ → Heads → List (Condition ImageRefusal)
-last_asks file h = if h.dynamic.filesz == 208 then described_asks file h else asks file h 10 0 0 ∷ []
+last_asks file h = if h.dynamic.filesz == 208 then described_asks file h else asks file h 10 last_entries
 
 -- the gap between the descriptors and the read-only data, whose place the entries say
 abbrev pub gap_asks : List ℕ → Heads → List (Condition ImageRefusal)
 gap_asks file h =
-    condition (is_zero_between file (0x140 + reloc_bytes_at file h + descriptor_bytes_at file h)
-    (round16 (0x140 + reloc_bytes_at file h + descriptor_bytes_at file h))) (BadSegment 0)
+    condition (is_zero_between file (relocs_place + reloc_bytes_at file h + descriptor_bytes_at file h)
+    (round16 (relocs_place + reloc_bytes_at file h + descriptor_bytes_at file h))) (BadSegment 0)
     ∷ []
 
 -- all behind the headers

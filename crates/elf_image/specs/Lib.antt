@@ -1,8 +1,9 @@
--- Image, Places, Pieces and ImageFile say which bytes are the file of which image, Ranges which numbers it has,
+-- Image, Places, Records, Pieces and ImageFile say which bytes are the file of which image, Ranges which numbers it has,
 -- Heads, Faults and Refusal which first fault other bytes have, LoadedBytes and FileByte which bytes are loaded.
 -- MemtagFile and MemtagEntries say what an ELF file of any producer has of memory tagging.
 pub mod Image
 pub mod Places
+pub mod Records
 pub mod Pieces
 pub mod ImageFile
 pub mod Ranges

@@ -7,9 +7,19 @@ use Rattle.elf_image.specs.Image.{Image}
 abbrev pub round_page : ℕ → ℕ
 round_page x = (x + 4095) / 4096 * 4096
 
--- the descriptors stand behind the relocations, which begin at 0x140 and have 24 bytes each
+-- the symbol table, of one symbol; the string table, of one byte; and the relocations, whose place is the next multiple of 16
+abbrev pub symbols_place : ℕ
+symbols_place = 0x120
+
+abbrev pub strings_place : ℕ
+strings_place = 0x138
+
+abbrev pub relocs_place : ℕ
+relocs_place = 0x140
+
+-- the descriptors stand behind the relocations, which have 24 bytes each
 unfoldable pub descriptors_place : Image → ℕ
-descriptors_place p = 0x140 + 24 * length p.relocs
+descriptors_place p = relocs_place + 24 * length p.relocs
 
 unfoldable pub rodata_place : Image → ℕ
 rodata_place p = round16 (descriptors_place p + length p.descriptors)
@@ -46,8 +56,12 @@ file_end p = filled_place p + length p.filled
 unfoldable pub memory_end : Image → ℕ
 memory_end p = file_end p + p.zero_bytes
 
--- the parts of which there is a file: whole granules, and at most 256 MiB of memory
+-- an image has at most 256 MiB of memory
+abbrev pub memory_limit : ℕ
+memory_limit = 268435456
+
+-- the parts of which there is a file: whole granules, within the limit
 pub record IsValid (p : Image) : Type 0 where
   pub filled : length p.filled % 16 ≡ 0
   pub zero_bytes : p.zero_bytes % 16 ≡ 0
-  pub memory : memory_end p ≤ 268435456
+  pub memory : memory_end p ≤ memory_limit

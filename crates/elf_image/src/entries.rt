@@ -1,22 +1,21 @@
 // What is asked of the dynamic entries, and of what they say.
-ghost use Rattle.std.specs.Prelude.{◌≡◌, ◌+◌, ◌*◌, ◌/◌, ◌==◌, ◌≤◌, length, true, pos};
+ghost use Rattle.std.specs.Prelude.{◌≡◌, ◌+◌, ◌*◌, ◌/◌, ◌==◌, ◌≤◌, ◌++◌, length, true};
 ghost use Rattle.elf_base.specs.Conditions.{first_fault};
-ghost use Rattle.elf_image.specs.Faults.{are_relative, same_entry, is_reloc_size, is_descriptor_size, reloc_asks, table_asks, mode_asks};
-ghost use Rattle.elf_image.specs.Faults.{described_asks, last_asks, gap_asks};
-ghost use Rattle.elf_image.specs.Heads.{entry_at, reloc_bytes_at, descriptor_bytes_at};
-ghost use Rattle.elf_image.specs.Pieces.{entry};
+ghost use Rattle.elf_image.specs.Faults.{are_relative, same_entry, is_reloc_size, is_descriptor_size, asks, reloc_asks, table_asks};
+ghost use Rattle.elf_image.specs.Faults.{mode_asks, size_asks, described_asks, last_asks, gap_asks};
+ghost use Rattle.elf_image.specs.Heads.{reloc_bytes_at, descriptor_bytes_at};
+ghost use Rattle.elf_image.specs.Records.{last_entries};
 ghost use Rattle.elf_image.specs.Laws.Right.{rodata_at};
 ghost use Rattle.elf_image.specs.Laws.Within.{Lying};
 
 use crate::bytes::u64_at;
 use crate::heads::{Heads, entry_at};
+use crate::layout::RELOCS_PLACE;
+use crate::records::{RELATIVE, described_entries, last_entries, mode_entries, table_entries};
 use crate::refusal::ImageRefusal;
 use crate::same::same_entry;
 use elf_base::{Dyn, is_zero_between};
 use mt_base::round16;
-
-// The type R_AARCH64_RELATIVE, with symbol 0.
-const RELATIVE: u64 = 1027;
 
 // Whether so many relocations are relative.
 fn are_relative(bytes: &[u8], count: u64) -> bool
@@ -24,23 +23,27 @@ fn are_relative(bytes: &[u8], count: u64) -> bool
     ensures { result ≡ are_relative count 0x140 bytes.now }
 {
     for i in 0..count {
-        if u64_at(bytes, 0x140 + 24 * i + 8) != RELATIVE {
+        if u64_at(bytes, RELOCS_PLACE + 24 * i + 8) != RELATIVE {
             return false;
         }
     }
     true
 }
 
-// Whether the entry of a number has this tag and this value.
-fn asks(bytes: &[u8], heads: &Heads, i: u32, tag: u32, value: u64) -> bool
-    requires { heads.now.dynamic.offset + 16 * i + 16 ≤ length bytes.now }
-    ensures { result ≡ same_entry (entry_at bytes.now heads.now i) (entry tag value) }
+// The first fault of the entries from a number on, which are to be these.
+fn entries_fault(bytes: &[u8], heads: &Heads, first: u32, wanted: &[Dyn]) -> Option<ImageRefusal>
+    requires few { first + length wanted.now ≤ 13 }
+    requires there { heads.now.dynamic.offset + 16 * (first + length wanted.now) ≤ length bytes.now }
+    ensures { result ≡ first_fault (asks bytes.now heads.now first wanted.now) }
 {
-    let wanted = Dyn {
-        tag: i64::from(tag),
-        value,
-    };
-    same_entry(&entry_at(bytes, heads, i), &wanted)
+    let mut i = first;
+    for entry in wanted {
+        if !same_entry(&entry_at(bytes, heads, i), entry) {
+            return Some(ImageRefusal::BadDynamic { index: i });
+        }
+        i += 1;
+    }
+    None
 }
 
 fn is_reloc_size(heads: &Heads, relocs: u64) -> bool
@@ -50,7 +53,7 @@ fn is_reloc_size(heads: &Heads, relocs: u64) -> bool
     if relocs > heads.read_only.filesz {
         return false;
     }
-    let end = 0x140 + relocs;
+    let end = RELOCS_PLACE + relocs;
     let rodata = if heads.dynamic.filesz == 208 {
         end
     } else {
@@ -67,7 +70,7 @@ fn is_descriptor_size(heads: &Heads, relocs: u64, descriptors: u64) -> bool
     if descriptors > heads.read_only.filesz {
         return false;
     }
-    descriptors >= 1 && round16(0x140 + relocs + descriptors) <= heads.read_only.filesz
+    descriptors >= 1 && round16(RELOCS_PLACE + relocs + descriptors) <= heads.read_only.filesz
 }
 
 // How many bytes the relocations and the descriptors have.
@@ -100,31 +103,20 @@ pub(crate) fn table_fault(bytes: &[u8], heads: &Heads) -> Option<ImageRefusal>
     requires { Lying bytes.now heads.now }
     ensures { result ≡ first_fault (table_asks bytes.now heads.now) }
 {
-    if !asks(bytes, heads, 0, 5, 0x138) {
-        return Some(ImageRefusal::BadDynamic { index: 0 });
+    let relocs = sizes_of(bytes, heads).relocs;
+    match entries_fault(bytes, heads, 0, &table_entries(relocs)) {
+        Some(fault) => Some(fault),
+        None => reloc_fault(bytes, heads),
     }
-    if !asks(bytes, heads, 1, 6, 0x120) {
-        return Some(ImageRefusal::BadDynamic { index: 1 });
-    }
-    if !asks(bytes, heads, 2, 10, 1) {
-        return Some(ImageRefusal::BadDynamic { index: 2 });
-    }
-    if !asks(bytes, heads, 3, 11, 24) {
-        return Some(ImageRefusal::BadDynamic { index: 3 });
-    }
-    if !asks(bytes, heads, 4, 7, 0x140) {
-        return Some(ImageRefusal::BadDynamic { index: 4 });
-    }
-    reloc_fault(bytes, heads)
 }
 
-// The first fault of RELASZ and of the relocations.
+// The first fault of the size of the relocations, and of them.
 fn reloc_fault(bytes: &[u8], heads: &Heads) -> Option<ImageRefusal>
     requires { Lying bytes.now heads.now }
     ensures { result ≡ first_fault (reloc_asks bytes.now heads.now) }
 {
     let relocs = sizes_of(bytes, heads).relocs;
-    if !(asks(bytes, heads, 5, 8, relocs) && is_reloc_size(heads, relocs)) {
+    if !is_reloc_size(heads, relocs) {
         return Some(ImageRefusal::BadDynamic { index: 5 });
     }
     if !are_relative(bytes, relocs / 24) {
@@ -138,19 +130,7 @@ pub(crate) fn mode_fault(bytes: &[u8], heads: &Heads) -> Option<ImageRefusal>
     requires { Lying bytes.now heads.now }
     ensures { result ≡ first_fault (mode_asks bytes.now heads.now) }
 {
-    if !asks(bytes, heads, 6, 9, 24) {
-        return Some(ImageRefusal::BadDynamic { index: 6 });
-    }
-    if !asks(bytes, heads, 7, 0x7000_0009, 0) {
-        return Some(ImageRefusal::BadDynamic { index: 7 });
-    }
-    if !asks(bytes, heads, 8, 0x7000_000b, 0) {
-        return Some(ImageRefusal::BadDynamic { index: 8 });
-    }
-    if !asks(bytes, heads, 9, 0x7000_000c, 1) {
-        return Some(ImageRefusal::BadDynamic { index: 9 });
-    }
-    None
+    entries_fault(bytes, heads, 6, &mode_entries())
 }
 
 // The first fault of the last entries: those of the descriptors, where there are 13 entries, and NULL.
@@ -161,10 +141,8 @@ pub(crate) fn last_fault(bytes: &[u8], heads: &Heads) -> Option<ImageRefusal>
 {
     if heads.dynamic.filesz == 208 {
         described_fault(bytes, heads)
-    } else if asks(bytes, heads, 10, 0, 0) {
-        None
     } else {
-        Some(ImageRefusal::BadDynamic { index: 10 })
+        entries_fault(bytes, heads, 10, &last_entries())
     }
 }
 
@@ -175,18 +153,26 @@ fn described_fault(bytes: &[u8], heads: &Heads) -> Option<ImageRefusal>
     ensures { result ≡ first_fault (described_asks bytes.now heads.now) }
 {
     let sizes = sizes_of(bytes, heads);
-    if !asks(bytes, heads, 10, 0x7000_000d, 0x140 + sizes.relocs) {
-        return Some(ImageRefusal::BadDynamic { index: 10 });
+    let wanted = described_entries(RELOCS_PLACE + sizes.relocs, sizes.descriptors);
+    match entries_fault(bytes, heads, 10, &wanted) {
+        Some(fault) => Some(fault),
+        None => size_fault(bytes, heads),
     }
-    if !(asks(bytes, heads, 11, 0x7000_000f, sizes.descriptors)
-        && is_descriptor_size(heads, sizes.relocs, sizes.descriptors))
-    {
-        return Some(ImageRefusal::BadDynamic { index: 11 });
+}
+
+// The first fault of the size of the descriptors, and of NULL behind it.
+fn size_fault(bytes: &[u8], heads: &Heads) -> Option<ImageRefusal>
+    requires lying { Lying bytes.now heads.now }
+    requires many { heads.now.dynamic.filesz ≡ 208 }
+    requires relocs { 0x140 + reloc_bytes_at bytes.now heads.now ≤ heads.now.read_only.filesz }
+    ensures { result ≡ first_fault (size_asks bytes.now heads.now ++ asks bytes.now heads.now 12 last_entries) }
+{
+    let sizes = sizes_of(bytes, heads);
+    if is_descriptor_size(heads, sizes.relocs, sizes.descriptors) {
+        entries_fault(bytes, heads, 12, &last_entries())
+    } else {
+        Some(ImageRefusal::BadDynamic { index: 11 })
     }
-    if !asks(bytes, heads, 12, 0, 0) {
-        return Some(ImageRefusal::BadDynamic { index: 12 });
-    }
-    None
 }
 
 // The fault of the gap before the read-only data.
@@ -196,7 +182,7 @@ pub(crate) fn gap_fault(bytes: &[u8], heads: &Heads) -> Option<ImageRefusal>
     ensures { result ≡ first_fault (gap_asks bytes.now heads.now) }
 {
     let sizes = sizes_of(bytes, heads);
-    let start = 0x140 + sizes.relocs + sizes.descriptors;
+    let start = RELOCS_PLACE + sizes.relocs + sizes.descriptors;
     if is_zero_between(bytes, start, round16(start)) {
         None
     } else {

@@ -11,7 +11,7 @@ use crate::heads::{Heads, heads_of};
 use crate::refusal::ImageRefusal;
 use crate::same::same_header;
 use crate::segments::{ends_by, is_code, is_dynamic, is_read_only, is_writable};
-use crate::write::header_with;
+use crate::records::header_with;
 use elf_base::{IDENTIFICATION, Phdr, read_ehdr};
 
 // The headers of a file that has them, or its fault up to there.

@@ -29,7 +29,14 @@ impl ImageParts {
         requires { IsValid (image_of self.now) }
         ensures { result ≡ descriptors_place (image_of self.now) }
     {
-        RELOCS_PLACE + 24 * self.relocs.len() as u64
+        RELOCS_PLACE + self.reloc_bytes()
+    }
+
+    pub(crate) fn reloc_bytes(&self) -> u64
+        requires { IsValid (image_of self.now) }
+        ensures { result ≡ 24 * length self.now.relocs.items }
+    {
+        24 * self.relocs.len() as u64
     }
 
     #[tactic(auto, unfolding(crate::specs::Places::rodata_place))]

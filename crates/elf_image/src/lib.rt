@@ -10,6 +10,7 @@ mod memtag;
 mod parts;
 mod put;
 mod read;
+mod records;
 mod refusal;
 mod same;
 mod segments;

@@ -2,9 +2,10 @@ ghost use Rattle.std.specs.Prelude.{◌≡◌, ◌++◌, OnOk};
 ghost use Rattle.std.specs.List.{flat_map};
 ghost use Rattle.elf_base.specs.Layout.{piece};
 ghost use Rattle.elf_base.specs.Laying.{put};
-ghost use Rattle.elf_image.specs.Pieces.{reloc_bytes, dyn_bytes};
+ghost use Rattle.elf_image.specs.Pieces.{reloc_bytes, dyn_bytes, entries_bytes};
 
 use crate::parts::RelativeReloc;
+use crate::records::RELATIVE;
 use elf_base::{Dyn, pad_to, push_u64, write_dyn};
 use std::alloc::AllocError;
 
@@ -24,9 +25,6 @@ pub(crate) fn put_relocs(
     Ok(())
 }
 
-// The type R_AARCH64_RELATIVE.
-const RELATIVE: u64 = 1027;
-
 fn put_reloc(out: &mut Vec<u8>, reloc: &RelativeReloc) -> Result<(), AllocError>
     ensures { OnOk result (out.new.items ≡ out.old.items ++ reloc_bytes reloc.now) }
 {
@@ -36,13 +34,22 @@ fn put_reloc(out: &mut Vec<u8>, reloc: &RelativeReloc) -> Result<(), AllocError>
     Ok(())
 }
 
-// A dynamic entry at the end.
+// Dynamic entries at the end.
+pub(crate) fn push_entries(out: &mut Vec<u8>, entries: &[Dyn]) -> Result<(), AllocError>
+    ensures { OnOk result (out.new.items ≡ out.old.items ++ entries_bytes entries.now) }
+{
+    for entry in entries {
+        push_entry(out, entry)?;
+    }
+    Ok(())
+}
+
 #[tactic(auto, unfolding(crate::specs::Pieces::dyn_bytes))]
-pub(crate) fn push_entry(out: &mut Vec<u8>, tag: i64, value: u64) -> Result<(), AllocError>
-    ensures { OnOk result (out.new.items ≡ out.old.items ++ dyn_bytes (record { tag = tag; value = value })) }
+fn push_entry(out: &mut Vec<u8>, entry: &Dyn) -> Result<(), AllocError>
+    ensures { OnOk result (out.new.items ≡ out.old.items ++ dyn_bytes entry.now) }
 {
     let mut bytes = [0; 16];
-    write_dyn(&Dyn { tag, value }, &mut bytes);
+    write_dyn(entry, &mut bytes);
     out.extend_from_slice(&bytes)?;
     Ok(())
 }

@@ -5,8 +5,9 @@ ghost use Rattle.elf_image.specs.Laws.Within.{Reaching};
 ghost use Rattle.elf_image.specs.Places.{round_page};
 
 use crate::heads::Heads;
+use crate::layout::{RELOCS_PLACE, SYMBOLS_PLACE};
+use crate::records::{code_with, dynamic_at, read_only_with, writable_with};
 use crate::same::same_segment;
-use crate::write::{dynamic_segment, load};
 use elf_base::is_zero_between;
 
 // The most bytes of memory that an image may take: 256 MiB.
@@ -31,9 +32,9 @@ pub(crate) fn is_read_only(bytes: &[u8], heads: &Heads) -> bool
     ensures { result ≡ is_read_only bytes.now heads.now }
 {
     let part = &heads.read_only;
-    same_segment(part, &load(4, 0, part.filesz, part.filesz))
-        && 0x140 <= part.filesz
-        && is_zero_between(bytes, 0x120, 0x140)
+    same_segment(part, &read_only_with(part.filesz))
+        && RELOCS_PLACE <= part.filesz
+        && is_zero_between(bytes, SYMBOLS_PLACE, RELOCS_PLACE)
 }
 
 pub(crate) fn is_code(bytes: &[u8], heads: &Heads) -> bool
@@ -41,7 +42,7 @@ pub(crate) fn is_code(bytes: &[u8], heads: &Heads) -> bool
     ensures { result ≡ is_code bytes.now heads.now }
 {
     let part = &heads.code;
-    same_segment(part, &load(5, part.offset, part.filesz, part.filesz))
+    same_segment(part, &code_with(part.offset, part.filesz))
         && begins_next_page(heads.read_only.filesz, part.offset)
         && part.filesz % 4 == 0
         && is_zero_between(bytes, heads.read_only.filesz, part.offset)
@@ -53,7 +54,7 @@ pub(crate) fn is_writable(bytes: &[u8], heads: &Heads) -> bool
 {
     let part = &heads.writable;
     let code_end = heads.code.offset + heads.code.filesz;
-    same_segment(part, &load(6, part.offset, part.filesz, part.memsz))
+    same_segment(part, &writable_with(part.offset, part.filesz, part.memsz))
         && begins_next_page(code_end, part.offset)
         && 176 <= part.filesz
         && part.filesz % 16 == 0
@@ -67,7 +68,7 @@ pub(crate) fn is_dynamic(heads: &Heads) -> bool
     ensures { result ≡ is_dynamic heads.now }
 {
     let part = &heads.dynamic;
-    same_segment(part, &dynamic_segment(heads.writable.offset, part.filesz))
+    same_segment(part, &dynamic_at(heads.writable.offset, part.filesz))
         && (part.filesz == 176 || part.filesz == 208)
         && part.filesz <= heads.writable.filesz
 }

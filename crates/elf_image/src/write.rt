@@ -6,14 +6,15 @@ ghost use Rattle.elf_image.specs.ImageFile.{ImageFile};
 ghost use Rattle.elf_base.specs.Laying.{put, put_all};
 ghost use Rattle.elf_base.specs.Layout.{piece};
 ghost use Rattle.elf_image.specs.LoadedBytes.{read_only_bytes, code_bytes, writable_bytes};
-ghost use Rattle.elf_image.specs.Pieces.{header_with, load, dynamic_at, entries_bytes, header_pieces, table_pieces, table_entries};
-ghost use Rattle.elf_image.specs.Pieces.{descriptor_entries};
+ghost use Rattle.elf_image.specs.Pieces.{entries_bytes, header_pieces, table_pieces, descriptor_entries};
 ghost use Rattle.elf_image.specs.Places.{IsValid, descriptors_place};
 
-use crate::layout::{RELOCS_PLACE, STRINGS_PLACE, SYMBOLS_PLACE};
+use crate::layout::{RELOCS_PLACE, SYMBOLS_PLACE};
 use crate::parts::ImageParts;
-use crate::put::{push_entry, put_relocs};
-use elf_base::{Ehdr, IDENTIFICATION, Phdr, pad_to, put_bytes, put_words, write_ehdr, write_phdr};
+use crate::put::{push_entries, put_relocs};
+use crate::records::{code_with, described_entries, dynamic_at, header_with, last_entries, mode_entries, read_only_with};
+use crate::records::{table_entries, writable_with};
+use elf_base::{Phdr, pad_to, put_bytes, put_words, write_ehdr, write_phdr};
 use std::alloc::{AllocError, Global};
 
 /// The one file of the parts, which are valid: `filled` and the zero bytes are whole granules of 16 bytes, and
@@ -56,9 +57,10 @@ pub fn push_writable(out: &mut Vec<u8>, parts: &ImageParts) -> Result<(), AllocE
     requires { IsValid (image_of parts.now) }
     ensures { OnOk result (out.new.items ≡ out.old.items ++ writable_bytes (image_of parts.now)) }
 {
-    push_tables(out, parts)?;
+    push_entries(out, &table_entries(parts.reloc_bytes()))?;
+    push_entries(out, &mode_entries())?;
     push_descriptors(out, parts)?;
-    push_entry(out, 0, 0)?;
+    push_entries(out, &last_entries())?;
     put_bytes(out, 0, parts.filled.as_slice())?;
     Ok(())
 }
@@ -73,69 +75,15 @@ fn put_headers(out: &mut Vec<u8>, parts: &ImageParts) -> Result<(), AllocError>
     write_ehdr(&header_with(parts.entry), &mut bytes);
     put_bytes(out, 0, &bytes)?;
     let read_only = parts.rodata_end();
-    put_segment(out, 64, &load(4, 0, read_only, read_only))?;
+    put_segment(out, 64, &read_only_with(read_only))?;
     let code = parts.code_bytes();
-    put_segment(out, 120, &load(5, parts.code_place(), code, code))?;
+    put_segment(out, 120, &code_with(parts.code_place(), code))?;
     let dynamic = parts.dynamic_place();
     let filesz = parts.file_end() - dynamic;
     let memsz = parts.memory_end() - dynamic;
-    put_segment(out, 176, &load(6, dynamic, filesz, memsz))?;
-    put_segment(out, 232, &dynamic_segment(dynamic, parts.dynamic_bytes()))?;
+    put_segment(out, 176, &writable_with(dynamic, filesz, memsz))?;
+    put_segment(out, 232, &dynamic_at(dynamic, parts.dynamic_bytes()))?;
     Ok(())
-}
-
-// The file's header, with its entry.
-pub(crate) fn header_with(entry: u64) -> Ehdr
-    ensures { result ≡ header_with entry }
-{
-    Ehdr {
-        ident: IDENTIFICATION,
-        kind: 3,
-        machine: 183,
-        version: 1,
-        entry,
-        phoff: 64,
-        shoff: 0,
-        flags: 0,
-        ehsize: 64,
-        phentsize: 56,
-        phnum: 4,
-        shentsize: 0,
-        shnum: 0,
-        shstrndx: 0,
-    }
-}
-
-// A part that is loaded at its place.
-pub(crate) fn load(flags: u32, place: u64, filesz: u64, memsz: u64) -> Phdr
-    ensures { result ≡ load flags place filesz memsz }
-{
-    Phdr {
-        kind: 1,
-        flags,
-        offset: place,
-        vaddr: place,
-        paddr: place,
-        filesz,
-        memsz,
-        align: 4096,
-    }
-}
-
-// The part that the dynamic entries are.
-pub(crate) fn dynamic_segment(place: u64, bytes: u64) -> Phdr
-    ensures { result ≡ dynamic_at place bytes }
-{
-    Phdr {
-        kind: 2,
-        flags: 6,
-        offset: place,
-        vaddr: place,
-        paddr: place,
-        filesz: bytes,
-        memsz: bytes,
-        align: 8,
-    }
 }
 
 fn put_segment(out: &mut Vec<u8>, place: u64, segment: &Phdr) -> Result<(), AllocError>
@@ -160,25 +108,6 @@ fn put_tables(out: &mut Vec<u8>, parts: &ImageParts) -> Result<(), AllocError>
     Ok(())
 }
 
-// The entries that name the tables, and those that ask for tags.
-fn push_tables(out: &mut Vec<u8>, parts: &ImageParts) -> Result<(), AllocError>
-    requires { IsValid (image_of parts.now) }
-    ensures { OnOk result (out.new.items
-        ≡ out.old.items ++ entries_bytes (table_entries (image_of parts.now))) }
-{
-    push_entry(out, 5, STRINGS_PLACE)?;
-    push_entry(out, 6, SYMBOLS_PLACE)?;
-    push_entry(out, 10, 1)?;
-    push_entry(out, 11, 24)?;
-    push_entry(out, 7, RELOCS_PLACE)?;
-    push_entry(out, 8, parts.descriptors_place() - RELOCS_PLACE)?;
-    push_entry(out, 9, 24)?;
-    push_entry(out, 0x7000_0009, 0)?;
-    push_entry(out, 0x7000_000b, 0)?;
-    push_entry(out, 0x7000_000c, 1)?;
-    Ok(())
-}
-
 // The entries that say where the descriptors are, where there are any.
 #[tactic(auto, unfolding(crate::specs::Pieces::entries_bytes))]
 fn push_descriptors(out: &mut Vec<u8>, parts: &ImageParts) -> Result<(), AllocError>
@@ -188,10 +117,9 @@ fn push_descriptors(out: &mut Vec<u8>, parts: &ImageParts) -> Result<(), AllocEr
 {
     match parts.descriptors.as_slice() {
         [] => Ok(()),
-        descriptors => {
-            push_entry(out, 0x7000_000d, parts.descriptors_place())?;
-            push_entry(out, 0x7000_000f, descriptors.len() as u64)?;
-            Ok(())
-        }
+        descriptors => push_entries(
+            out,
+            &described_entries(parts.descriptors_place(), descriptors.len() as u64),
+        ),
     }
 }

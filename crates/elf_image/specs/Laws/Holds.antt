@@ -6,7 +6,6 @@ use Rattle.mt_base.specs.Granules.{round16}
 use Rattle.elf_base.specs.declared.header.Ehdr.{Ehdr}
 use Rattle.elf_base.specs.declared.segment.Phdr.{Phdr}
 use Rattle.elf_base.specs.declared.dynamic.Dyn.{Dyn}
-use Rattle.elf_base.specs.Standing.{dyn_at}
 use Rattle.elf_base.specs.Conditions.{Condition}
 use Rattle.elf_base.specs.Records.{identification}
 use Rattle.elf_base.specs.Laws.Tests.{both_hold}
@@ -14,11 +13,11 @@ use Rattle.elf_base.specs.Laws.Conditions.{EachHolds, holds_append}
 use Rattle.elf_image.specs.declared.heads.Heads.{Heads}
 use Rattle.elf_image.specs.Heads.{heads_at, entry_at, reloc_bytes_at, descriptor_bytes_at}
 use Rattle.elf_image.specs.Places.{round_page}
-use Rattle.elf_image.specs.Pieces.{header_with, load, dynamic_at, entry}
-use Rattle.elf_image.specs.Faults.{agrees, same_header, same_segment, same_entry, is_reloc_size, is_descriptor_size, opening, contents}
-use Rattle.elf_image.specs.Faults.{segments, table_asks, mode_asks, last_asks, gap_asks, conditions}
+use Rattle.elf_image.specs.Records.{header_with, load, dynamic_at, table_entries, mode_entries}
+use Rattle.elf_image.specs.Faults.{agrees, same_header, same_segment, same_entry, is_reloc_size, opening, contents, segments, asks}
+use Rattle.elf_image.specs.Faults.{reloc_asks, table_asks, mode_asks, last_asks, gap_asks, conditions}
 use Rattle.elf_image.specs.Laws.Tests.{header_same, segment_same, entry_same}
-use Rattle.elf_image.specs.Laws.Items.{AreEntries}
+use Rattle.elf_image.specs.Laws.Items.{AreEntries, entries_front, entries_back}
 use Rattle.elf_image.specs.Laws.Right.{Right, RightHeads, RightSizes, RightEntries, described, plain, rodata_at, tables_of, described_of}
 use Rattle.elf_image.specs.Laws.Right.{plain_of}
 use Rattle.elf_image.specs.declared.refusal.ImageRefusal.{ImageRefusal}
@@ -137,47 +136,28 @@ segments_hold file h r =
       ),
     )
 
-module _ (file : List ℕ) (h : Heads) where
-  as_asked : (i : ℕ) (d : Dyn) → dyn_at (h.dynamic.offset + 16 * i) file ≡ d → same_entry (entry_at file h i) d ≡ true
-  as_asked i d is = same_entry_as (entry_at file h i) d is
+-- entries that stand there are as asked
+as_asked : (file : List ℕ) (h : Heads) (i : ℕ) (ds : List Dyn) → AreEntries file h.dynamic.offset i ds → EachHolds (asks file h i ds)
+as_asked file h i [] are = tt
+as_asked file h i (d ∷ ds) are = (same_entry_as (entry_at file h i) d are.0, as_asked file h (i + 1) ds are.1)
 
-  tables_hold : (ds : List Dyn) → AreEntries file h.dynamic.offset 0 (tables_of (reloc_bytes_at file h) ++ ds)
-      → is_reloc_size h (reloc_bytes_at file h) ≡ true
-      → Right file h → EachHolds (table_asks file h)
-  tables_hold ds are size r = (
-    as_asked 0 (entry 5 0x138) are.0,
-    (
-      as_asked 1 (entry 6 0x120) are.1.0,
-      (
-        as_asked 2 (entry 10 1) are.1.1.0,
-        (
-          as_asked 3 (entry 11 24) are.1.1.1.0,
-          (
-            as_asked 4 (entry 7 0x140) are.1.1.1.1.0,
-            (
-              both_hold (same_entry (entry_at file h 5) (entry 8 (reloc_bytes_at file h))) (is_reloc_size h (reloc_bytes_at file h))
-                  (as_asked 5 (entry 8 (reloc_bytes_at file h)) are.1.1.1.1.1.0) size,
-              (r.tables.relative, tt),
-            ),
-          ),
-        ),
-      ),
-    ),
-  )
+module _ (file : List ℕ) (h : Heads) (ds : List Dyn)
+    (are : AreEntries file h.dynamic.offset 0 (tables_of (reloc_bytes_at file h) ++ ds)) where
+  tables_hold : is_reloc_size h (reloc_bytes_at file h) ≡ true → Right file h → EachHolds (table_asks file h)
+  tables_hold size r =
+      let tables = table_entries (reloc_bytes_at file h) in
+      holds_append (asks file h 0 tables) (reloc_asks file h)
+      (as_asked file h 0 tables (entries_front tables (mode_entries ++ ds) h.dynamic.offset 0 file are))
+      (size, (r.tables.relative, tt))
 
-  modes_hold : (ds : List Dyn) → AreEntries file h.dynamic.offset 0 (tables_of (reloc_bytes_at file h) ++ ds) → EachHolds (mode_asks file h)
-  modes_hold ds are =
-      let rest = are.1.1.1.1.1.1 in (
-        as_asked 6 (entry 9 24) rest.0,
-        (
-          as_asked 7 (entry 0x70000009 0) rest.1.0,
-          (as_asked 8 (entry 0x7000000b 0) rest.1.1.0, (as_asked 9 (entry 0x7000000c 1) rest.1.1.1.0, tt)),
-        ),
-      )
+  behind_relocs : AreEntries file h.dynamic.offset 6 (mode_entries ++ ds)
+  behind_relocs = entries_back (table_entries (reloc_bytes_at file h)) (mode_entries ++ ds) h.dynamic.offset 0 file are
 
-  behind_tables : (ds : List Dyn) → AreEntries file h.dynamic.offset 0 (tables_of (reloc_bytes_at file h) ++ ds)
-      → AreEntries file h.dynamic.offset 10 ds
-  behind_tables ds are = are.1.1.1.1.1.1.1.1.1.1
+  modes_hold : EachHolds (mode_asks file h)
+  modes_hold = as_asked file h 6 mode_entries (entries_front mode_entries ds h.dynamic.offset 6 file behind_relocs)
+
+  behind_tables : EachHolds (asks file h 10 ds)
+  behind_tables = as_asked file h 10 ds (entries_back mode_entries ds h.dynamic.offset 6 file behind_relocs)
 
 -- the entries, and the sizes that they say
 record EntriesHold (file : List ℕ) (h : Heads) : Type 0 where
@@ -187,7 +167,8 @@ record EntriesHold (file : List ℕ) (h : Heads) : Type 0 where
 
 entries_hold : (file : List ℕ) (h : Heads) → Right file h → RightEntries file h → EntriesHold file h
 entries_hold file h r (described size some are) =
-    let rest = behind_tables file h (described_of (reloc_bytes_at file h) (descriptor_bytes_at file h)) are in
+    let ds = described_of (reloc_bytes_at file h) (descriptor_bytes_at file h) in
+    let rest = behind_tables file h ds are in
     let with = eq-eqb h.dynamic.filesz 208 size in
     let fits = both_hold (reloc_bytes_at file h % 24 == 0) _ (eq-eqb (reloc_bytes_at file h % 24) 0 r.tables.relocs)
     (choose_that (h.dynamic.filesz == 208) (nat_le (0x140 + reloc_bytes_at file h) h.read_only.filesz)
@@ -196,17 +177,9 @@ entries_hold file h r (described size some are) =
     let described_size = both_hold (nat_le 1 (descriptor_bytes_at file h)) (nat_le (rodata_at file h) h.read_only.filesz)
     (le-leb 1 (descriptor_bytes_at file h) some) (le-leb (rodata_at file h) h.read_only.filesz r.tables.rodata_within) in
     record {
-      tables = tables_hold file h (described_of (reloc_bytes_at file h) (descriptor_bytes_at file h)) are fits r;
-      modes = modes_hold file h (described_of (reloc_bytes_at file h) (descriptor_bytes_at file h)) are;
-      last = choose_those (h.dynamic.filesz == 208) _ _ with (
-        as_asked file h 10 (entry 0x7000000d (0x140 + reloc_bytes_at file h)) rest.0,
-        (
-          both_hold (same_entry (entry_at file h 11) (entry 0x7000000f (descriptor_bytes_at file h)))
-              (is_descriptor_size h (reloc_bytes_at file h) (descriptor_bytes_at file h))
-              (as_asked file h 11 (entry 0x7000000f (descriptor_bytes_at file h)) rest.1.0) described_size,
-          (as_asked file h 12 (entry 0 0) rest.1.1.0, tt),
-        ),
-      );
+      tables = tables_hold file h ds are fits r;
+      modes = modes_hold file h ds are;
+      last = choose_those (h.dynamic.filesz == 208) _ _ with (rest.0, (rest.1.0, (described_size, rest.1.1)));
     }
 entries_hold file h r (plain size none are) =
     let rest = behind_tables file h plain_of are in
@@ -219,7 +192,7 @@ entries_hold file h r (plain size none are) =
     record {
       tables = tables_hold file h plain_of are fits r;
       modes = modes_hold file h plain_of are;
-      last = choose_others (h.dynamic.filesz == 208) _ _ without (as_asked file h 10 (entry 0 0) rest.0, tt);
+      last = choose_others (h.dynamic.filesz == 208) _ _ without rest;
     }
 
 -- each condition holds

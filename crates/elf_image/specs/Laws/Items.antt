@@ -1,6 +1,6 @@
 -- The words, relocations and dynamic entries that stand in a file.
 use Rattle.std.proofs.Common.{◌≡◌, ℕ, zero, suc, ◌+◌, ◌*◌, ◌^◌, ◌≤◌, ◌<◌, List, [], ◌∷◌, ◌++◌, length, take, drop, refl, sym, ap, ◌∙◌}
-use Rattle.std.proofs.Common.{arith, drop-drop, drop_at, take_at}
+use Rattle.std.proofs.Common.{subst, arith, drop-drop, drop_at, take_at}
 use Rattle.std.specs.Prelude.{true, ◌==◌}
 use Rattle.std.specs.List.{flat_map, AllByRecursion}
 use Rattle.std.specs.Int.{w64, cast_signed}
@@ -129,6 +129,25 @@ relocs_relative (r ∷ rs) at file rest fit here =
 abbrev pub AreEntries : List ℕ → ℕ → ℕ → List Dyn → Type 0
 AreEntries file at i [] = Unit {0}
 AreEntries file at i (d ∷ ds) = (dyn_at (at + 16 * i) file ≡ d) × AreEntries file at (i + 1) ds
+
+-- entries, and others behind them
+pub entries_append : (ds es : List Dyn) (at i : ℕ) (file : List ℕ) → AreEntries file at i ds → AreEntries file at (i + length ds) es
+    → AreEntries file at i (ds ++ es)
+entries_append [] es at i file front back = subst (λ (k : ℕ). AreEntries file at k es) (omega arith) back
+entries_append (d ∷ ds) es at i file front back =
+    let next : i + length (d ∷ ds) ≡ i + 1 + length ds = omega arith in
+    (front.0, entries_append ds es at (i + 1) file front.1 (subst (λ (k : ℕ). AreEntries file at k es) next back))
+
+pub entries_front : (ds es : List Dyn) (at i : ℕ) (file : List ℕ) → AreEntries file at i (ds ++ es) → AreEntries file at i ds
+entries_front [] es at i file are = tt
+entries_front (d ∷ ds) es at i file are = (are.0, entries_front ds es at (i + 1) file are.1)
+
+pub entries_back : (ds es : List Dyn) (at i : ℕ) (file : List ℕ) → AreEntries file at i (ds ++ es)
+    → AreEntries file at (i + length ds) es
+entries_back [] es at i file are = subst (λ (k : ℕ). AreEntries file at k es) (omega arith) are
+entries_back (d ∷ ds) es at i file are =
+    let next : i + 1 + length ds ≡ i + length (d ∷ ds) = omega arith in
+    subst (λ (k : ℕ). AreEntries file at k es) next (entries_back ds es at (i + 1) file are.1)
 
 dyn_taken : (at : ℕ) (file : List ℕ) → IsBytes file → at + 16 ≤ length file → dyn_bytes (dyn_at at file) ≡ take 16 (drop at file)
 unfolding dyn_bytes

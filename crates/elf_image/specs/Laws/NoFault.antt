@@ -26,7 +26,8 @@ use Rattle.elf_image.specs.Ranges.{IsFileOf}
 use Rattle.elf_image.specs.Heads.{heads_of, heads_at, entry_at, reloc_bytes_at, descriptor_bytes_at}
 use Rattle.elf_image.specs.Places.{IsValid, round_page, dynamic_count, descriptors_place, rodata_place, rodata_end, code_place, code_end}
 use Rattle.elf_image.specs.Places.{dynamic_place, dynamic_end, filled_place, file_end, memory_end}
-use Rattle.elf_image.specs.Pieces.{header, header_with, load, dynamic_at, read_only_part, code_part, writable_part, dynamic_part, entry}
+use Rattle.elf_image.specs.Records.{header_with, load, dynamic_at}
+use Rattle.elf_image.specs.Pieces.{header, read_only_part, code_part, writable_part, dynamic_part}
 use Rattle.elf_image.specs.Pieces.{entries_bytes, dynamic_entries, reloc_bytes, header_pieces, table_pieces, loaded_pieces, pieces}
 use Rattle.elf_image.specs.Faults.{agrees, are_relative, conditions, fault_of, no_fault}
 use Rattle.elf_image.specs.Laws.Entries.{length-dynamic_entries}

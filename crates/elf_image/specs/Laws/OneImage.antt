@@ -17,7 +17,8 @@ use Rattle.elf_image.specs.declared.parts.RelativeReloc.{RelativeReloc}
 use Rattle.elf_image.specs.Image.{Image}
 use Rattle.elf_image.specs.Places.{IsValid, dynamic_count, descriptors_place, rodata_place, rodata_end, code_place, dynamic_place}
 use Rattle.elf_image.specs.Places.{dynamic_end, filled_place, file_end, memory_end}
-use Rattle.elf_image.specs.Pieces.{header, read_only_part, code_part, writable_part, dynamic_part, reloc_bytes, load, dynamic_at, entry}
+use Rattle.elf_image.specs.Pieces.{header, read_only_part, code_part, writable_part, dynamic_part, reloc_bytes}
+use Rattle.elf_image.specs.Records.{load, dynamic_at, entry}
 use Rattle.elf_image.specs.Pieces.{descriptor_entries, dyn_bytes, entries_bytes, dynamic_entries}
 use Rattle.elf_image.specs.Ranges.{RelocFits, IsFileOf}
 use Rattle.elf_image.specs.Laws.Order.{InOrder, in_order, Within, within}

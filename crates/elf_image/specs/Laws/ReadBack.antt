@@ -23,8 +23,9 @@ use Rattle.elf_image.specs.Ranges.{IsFileOf}
 use Rattle.elf_image.specs.Heads.{heads_at, reloc_bytes_at, descriptor_bytes_at}
 use Rattle.elf_image.specs.Places.{IsValid, round_page, dynamic_count, descriptors_place, rodata_place, rodata_end, code_place, code_end}
 use Rattle.elf_image.specs.Places.{dynamic_place, dynamic_end, filled_place, file_end, memory_end}
-use Rattle.elf_image.specs.Pieces.{header, load, dynamic_at, read_only_part, code_part, writable_part, dynamic_part, entry}
-use Rattle.elf_image.specs.Pieces.{descriptor_entries, table_entries, dynamic_entries, entries_bytes, reloc_bytes, pieces}
+use Rattle.elf_image.specs.Records.{load, dynamic_at, described_entries, last_entries}
+use Rattle.elf_image.specs.Pieces.{header, read_only_part, code_part, writable_part, dynamic_part, descriptor_entries, dynamic_entries}
+use Rattle.elf_image.specs.Pieces.{entries_bytes, reloc_bytes, pieces}
 use Rattle.elf_image.specs.Faults.{fault_of, no_fault}
 use Rattle.elf_image.specs.Laws.Entries.{length-dynamic_entries}
 use Rattle.elf_image.specs.Laws.Items.{words_at, relocs_at, length-words_at, length-relocs_at, words_fit, relocs_fit, words_taken}
@@ -59,8 +60,7 @@ pub count_none : (ds : List ℕ) → length ds ≡ 0 → 16 * dynamic_count ds �
 count_none [] none = refl
 count_none (d ∷ ds) none = absurd (omega arith)
 
-pub entries_some : (place : ℕ) (ds : List ℕ) → 1 ≤ length ds
-    → descriptor_entries place ds ≡ (entry 0x7000000d place ∷ entry 0x7000000f (length ds) ∷ [])
+pub entries_some : (place : ℕ) (ds : List ℕ) → 1 ≤ length ds → descriptor_entries place ds ≡ described_entries place (length ds)
 entries_some place [] some = absurd (omega arith)
 entries_some place (d ∷ ds) some = refl
 
@@ -71,18 +71,14 @@ entries_none place (d ∷ ds) none = absurd (omega arith)
 pub all_some : (p : Image) (relocs descriptors : ℕ) → 24 * length p.relocs ≡ relocs → descriptors_place p ≡ 0x140 + relocs
     → length p.descriptors ≡ descriptors → 1 ≤ descriptors → dynamic_entries p ≡ tables_of relocs ++ described_of relocs descriptors
 all_some p relocs descriptors a b c some =
-    let ends : descriptor_entries (descriptors_place p) p.descriptors
-    ≡ (entry 0x7000000d (descriptors_place p) ∷ entry 0x7000000f (length p.descriptors) ∷ []) =
-    entries_some (descriptors_place p) p.descriptors (omega arith) in
-    let first : dynamic_entries p ≡ table_entries p ++
-    (entry 0x7000000d (descriptors_place p) ∷ entry 0x7000000f (length p.descriptors) ∷ entry 0 0 ∷ []) =
-    ap (λ (ds : List Dyn). table_entries p ++ ds ++ entry 0 0 ∷ []) ends in
-    first ∙ (λ i. tables_of (a i) ++ (entry 0x7000000d (b i) ∷ entry 0x7000000f (c i) ∷ entry 0 0 ∷ []))
+    ap (λ (ds : List Dyn). tables_of (24 * length p.relocs) ++ ds ++ last_entries)
+    (entries_some (descriptors_place p) p.descriptors (omega arith))
+    ∙ (λ i. tables_of (a i) ++ described_entries (b i) (c i) ++ last_entries)
 
 pub all_none : (p : Image) (relocs : ℕ) → 24 * length p.relocs ≡ relocs → length p.descriptors ≡ 0
     → dynamic_entries p ≡ tables_of relocs ++ plain_of
 all_none p relocs a none =
-    ap (λ (ds : List Dyn). table_entries p ++ ds ++ entry 0 0 ∷ []) (entries_none (descriptors_place p) p.descriptors none)
+    ap (λ (ds : List Dyn). tables_of (24 * length p.relocs) ++ ds ++ last_entries) (entries_none (descriptors_place p) p.descriptors none)
     ∙ (λ i. tables_of (a i) ++ plain_of)
 
 -- where everything lies, by the headers

@@ -14,12 +14,12 @@ use Rattle.elf_base.specs.Laws.Conditions.{EachHolds, each_holds, holds_front, h
 use Rattle.elf_image.specs.declared.heads.Heads.{Heads}
 use Rattle.elf_image.specs.Heads.{heads_at, entry_at, reloc_bytes_at, descriptor_bytes_at}
 use Rattle.elf_image.specs.Places.{round_page}
-use Rattle.elf_image.specs.Pieces.{header_with, load, dynamic_at, entry}
+use Rattle.elf_image.specs.Records.{header_with, load, dynamic_at, entry, table_entries, mode_entries, described_entries, last_entries}
 use Rattle.elf_image.specs.Faults.{are_relative, same_header, same_segment, same_entry, reaches, is_read_only, is_code, is_writable}
-use Rattle.elf_image.specs.Faults.{is_dynamic, is_reloc_size, is_descriptor_size, opening, contents, segments, asks, table_asks}
-use Rattle.elf_image.specs.Faults.{mode_asks, last_asks, gap_asks, conditions, fault_of, no_fault}
+use Rattle.elf_image.specs.Faults.{is_dynamic, is_reloc_size, is_descriptor_size, opening, contents, segments, asks, reloc_asks}
+use Rattle.elf_image.specs.Faults.{table_asks, mode_asks, last_asks, gap_asks, conditions, fault_of, no_fault}
 use Rattle.elf_image.specs.Laws.Tests.{header_is, segment_is, entry_is}
-use Rattle.elf_image.specs.Laws.Items.{AreEntries}
+use Rattle.elf_image.specs.Laws.Items.{AreEntries, entries_append}
 use Rattle.elf_image.specs.declared.refusal.ImageRefusal.{ImageRefusal}
 
 -- where the read-only data begins, by the sizes in the dynamic entries
@@ -28,15 +28,13 @@ rodata_at file h = round16 (0x140 + reloc_bytes_at file h + descriptor_bytes_at 
 
 -- the entries up to MEMTAG_STACK, and those after it, by the number of bytes of the descriptors
 abbrev pub tables_of : ℕ → List Dyn
-tables_of relocs =
-    entry 5 0x138 ∷ entry 6 0x120 ∷ entry 10 1 ∷ entry 11 24 ∷ entry 7 0x140 ∷ entry 8 relocs ∷ entry 9 24
-    ∷ entry 0x70000009 0 ∷ entry 0x7000000b 0 ∷ entry 0x7000000c 1 ∷ []
+tables_of relocs = table_entries relocs ++ mode_entries
 
 abbrev pub described_of : ℕ → ℕ → List Dyn
-described_of relocs descriptors = entry 0x7000000d (0x140 + relocs) ∷ entry 0x7000000f descriptors ∷ entry 0 0 ∷ []
+described_of relocs descriptors = described_entries (0x140 + relocs) descriptors ++ last_entries
 
 abbrev pub plain_of : List Dyn
-plain_of = entry 0 0 ∷ []
+plain_of = last_entries
 
 -- the headers, with the sizes that they say
 pub record RightHeads (file : List ℕ) (h : Heads) : Type 0 where
@@ -185,6 +183,11 @@ none_of : (b : Bool) (n : ℕ) → b ≡ false → (if b then n else 0) ≡ 0
 none_of true n h = absurd (false≢true (sym h))
 none_of false n h = refl
 
+-- entries that are as asked stand there
+asked : (file : List ℕ) (h : Heads) (i : ℕ) (ds : List Dyn) → EachHolds (asks file h i ds) → AreEntries file h.dynamic.offset i ds
+asked file h i [] all = tt
+asked file h i (d ∷ ds) all = (entry_is (entry_at file h i) d all.0, asked file h (i + 1) ds all.1)
+
 -- the entries, the sizes that they say, and the relocations
 pub record RightLast (file : List ℕ) (h : Heads) : Type 0 where
   pub tables : RightTables file h
@@ -192,64 +195,34 @@ pub record RightLast (file : List ℕ) (h : Heads) : Type 0 where
 
 module _ (file : List ℕ) (h : Heads) (t : EachHolds (table_asks file h)) (m : EachHolds (mode_asks file h))
     (l : EachHolds (last_asks file h)) where
-  is : (i : ℕ) (d : Dyn) → same_entry (entry_at file h i) d ≡ true → dyn_at (h.dynamic.offset + 16 * i) file ≡ d
-  is i d same = entry_is (entry_at file h i) d same
-
-  size : (same_entry (entry_at file h 5) (entry 8 (reloc_bytes_at file h)) ≡ true) × (is_reloc_size h (reloc_bytes_at file h) ≡ true)
-  size = both (same_entry (entry_at file h 5) (entry 8 (reloc_bytes_at file h))) (is_reloc_size h (reloc_bytes_at file h)) t.1.1.1.1.1.0
-
   size_fits : (reloc_bytes_at file h % 24 == 0) ≡ true
       × ((if h.dynamic.filesz == 208 then nat_le (0x140 + reloc_bytes_at file h) h.read_only.filesz else
       nat_le (round16 (0x140 + reloc_bytes_at file h)) h.read_only.filesz) ≡ true)
-  size_fits = both (reloc_bytes_at file h % 24 == 0) _ size.1
+  size_fits = both (reloc_bytes_at file h % 24 == 0) _ t.1.1.1.1.1.1.0
 
   -- the first ten entries and others
-  with_tables : (ds : List Dyn) → AreEntries file h.dynamic.offset 10 ds
+  with_tables : (ds : List Dyn) → EachHolds (asks file h 10 ds)
       → AreEntries file h.dynamic.offset 0 (tables_of (reloc_bytes_at file h) ++ ds)
-  with_tables ds rest = (
-    is 0 (entry 5 0x138) t.0,
-    (
-      is 1 (entry 6 0x120) t.1.0,
-      (
-        is 2 (entry 10 1) t.1.1.0,
-        (
-          is 3 (entry 11 24) t.1.1.1.0,
-          (
-            is 4 (entry 7 0x140) t.1.1.1.1.0,
-            (
-              is 5 (entry 8 (reloc_bytes_at file h)) size.0,
-              (
-                is 6 (entry 9 24) m.0,
-                (
-                  is 7 (entry 0x70000009 0) m.1.0,
-                  (is 8 (entry 0x7000000b 0) m.1.1.0, (is 9 (entry 0x7000000c 1) m.1.1.1.0, rest)),
-                ),
-              ),
-            ),
-          ),
-        ),
-      ),
-    ),
-  )
+  with_tables ds rest =
+      let tables = holds_front (asks file h 0 (table_entries (reloc_bytes_at file h))) (reloc_asks file h) t in
+      let relocs = reloc_bytes_at file h in
+      entries_append (table_entries relocs) (mode_entries ++ ds) h.dynamic.offset 0 file
+      (asked file h 0 (table_entries relocs) tables)
+      (entries_append mode_entries ds h.dynamic.offset 6 file (asked file h 6 mode_entries m) (asked file h 10 ds rest))
 
   with_descriptors : (h.dynamic.filesz == 208) ≡ true → RightLast file h
   with_descriptors with =
       let last = those (h.dynamic.filesz == 208) _ _ with l in
-      let described_size = both (same_entry (entry_at file h 11) (entry 0x7000000f (descriptor_bytes_at file h)))
-      (is_descriptor_size h (reloc_bytes_at file h) (descriptor_bytes_at file h)) last.1.0 in
-      let fits = both (nat_le 1 (descriptor_bytes_at file h)) _ described_size.1 in
+      let fits = both (nat_le 1 (descriptor_bytes_at file h)) _ last.1.1.0 in
       record {
         tables = record {
           relocs = eqb-true (reloc_bytes_at file h % 24) 0 size_fits.0;
           relocs_within = leb-true (0x140 + reloc_bytes_at file h) h.read_only.filesz (that (h.dynamic.filesz == 208) _ _ with size_fits.1);
           rodata_within = leb-true (rodata_at file h) h.read_only.filesz fits.1;
-          relative = t.1.1.1.1.1.1.0;
+          relative = t.1.1.1.1.1.1.1.0;
         };
         entries = described (eqb-true h.dynamic.filesz 208 with) (leb-true 1 (descriptor_bytes_at file h) fits.0)
-            (with_tables (described_of (reloc_bytes_at file h) (descriptor_bytes_at file h)) (
-              is 10 (entry 0x7000000d (0x140 + reloc_bytes_at file h)) last.0,
-              (is 11 (entry 0x7000000f (descriptor_bytes_at file h)) described_size.0, (is 12 (entry 0 0) last.1.1.0, tt)),
-            ));
+            (with_tables (described_of (reloc_bytes_at file h) (descriptor_bytes_at file h)) (last.0, (last.1.0, last.1.1.1)));
       }
 
   without_descriptors : (h.dynamic.filesz == 208) ≡ false → h.dynamic.filesz ≡ 176 → RightLast file h
@@ -264,9 +237,9 @@ module _ (file : List ℕ) (h : Heads) (t : EachHolds (table_asks file h)) (m : 
           relocs = eqb-true (reloc_bytes_at file h % 24) 0 size_fits.0;
           relocs_within = omega (arith, fits, round16-covers (0x140 + reloc_bytes_at file h));
           rodata_within = omega (arith, fits, place);
-          relative = t.1.1.1.1.1.1.0;
+          relative = t.1.1.1.1.1.1.1.0;
         };
-        entries = plain size none (with_tables plain_of (is 10 (entry 0 0) last.0, tt));
+        entries = plain size none (with_tables plain_of last);
       }
 
   pub right_last : EachHolds (segments file h) → RightLast file h

@@ -13,10 +13,10 @@ use Rattle.elf_base.specs.Laws.Conditions.{EachHolds, each_holds, fails_is, hold
 use Rattle.elf_image.specs.declared.heads.Heads.{Heads}
 use Rattle.elf_image.specs.declared.refusal.ImageRefusal.{ImageRefusal}
 use Rattle.elf_image.specs.declared.refusal.ImageRefusal.TheVariants.{NotElf}
-use Rattle.elf_image.specs.Heads.{heads_at, entry_at, reloc_bytes_at, descriptor_bytes_at}
+use Rattle.elf_image.specs.Heads.{heads_at, reloc_bytes_at, descriptor_bytes_at}
 use Rattle.elf_image.specs.Places.{round_page}
-use Rattle.elf_image.specs.Pieces.{load, dynamic_at, entry}
-use Rattle.elf_image.specs.Faults.{same_segment, same_entry, is_reloc_size, contents, segments, table_asks, mode_asks, last_asks}
+use Rattle.elf_image.specs.Records.{load, dynamic_at}
+use Rattle.elf_image.specs.Faults.{same_segment, contents, segments, table_asks, mode_asks, last_asks}
 use Rattle.elf_image.specs.Faults.{fault_of, no_fault, fault_is}
 use Rattle.elf_image.specs.Laws.Tests.{segment_is}
 use Rattle.elf_image.specs.Laws.Right.{Right, RightEntries, described, plain, right, right_sizes, right_last, rodata_at, that}
@@ -170,9 +170,7 @@ pub relocs_fit : (file : List ℕ) (h : Heads) → first_fault (table_asks file 
     → 0x140 + reloc_bytes_at file h ≤ h.read_only.filesz
 relocs_fit file h none =
     let t = each_holds (table_asks file h) none in
-    let size = both (same_entry (entry_at file h 5) (entry 8 (reloc_bytes_at file h)))
-    (is_reloc_size h (reloc_bytes_at file h)) t.1.1.1.1.1.0 in
-    let fits = both (reloc_bytes_at file h % 24 == 0) _ size.1 in
+    let fits = both (reloc_bytes_at file h % 24 == 0) _ t.1.1.1.1.1.1.0 in
     let covers = round16-covers (0x140 + reloc_bytes_at file h) in
     elim (cases_Bool (h.dynamic.filesz == 208)) [
       | inl with ↦ leb-true (0x140 + reloc_bytes_at file h) h.read_only.filesz (that (h.dynamic.filesz == 208) _ _ with fits.1)

@@ -3,11 +3,6 @@ use Rattle.elf_image.specs.Image.{image_of}
 use Rattle.elf_image.specs.Laws.Order.{Within, within}
 use Rattle.elf_image.proofs.parts.ImageParts.descriptors_place.Goals as goal
 
-pub overflow_mul-result : goal.overflow_mul-result
-overflow_mul-result c =
-    let w : Within (image_of c.args.self.now) = within (image_of c.args.self.now) c.requires in
-    omega arith
-
 pub overflow_add-result : goal.overflow_add-result
 overflow_add-result c =
     let w : Within (image_of c.args.self.now) = within (image_of c.args.self.now) c.requires in
