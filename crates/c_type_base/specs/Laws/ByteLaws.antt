@@ -1,5 +1,5 @@
 -- Where structs with members have bytes, each complete type has bytes.
-use Rattle.std.proofs.Common.{◌≡◌, refl, sym, ◌∙◌, subst, ℕ, zero, suc, ◌*◌, ◌≤◌, true, false, ◌&&◌, List, slice_get, Option}
+use Rattle.std.proofs.Common.{◌≡◌, refl, sym, ◌∙◌, subst, ℕ, zero, suc, ◌*◌, ◌≤◌, Bool, true, false, ◌&&◌, List, slice_get, Option}
 use Rattle.std.proofs.Common.{Some, None, arith, lit≤}
 use Rattle.std.specs.Prelude.{ltb}
 use Rattle.std.proofs.lemmas.Bool.{and_parts}
