@@ -10,6 +10,9 @@ use Rattle.mt_pipeline.specs.declared.ended.Why.{Why}
 use Rattle.mt_pipeline.specs.declared.ended.Why.TheVariants.{Done, Exited, Usage, Refused, NoFile, Link, BadImage, NoMemory}
 use Rattle.mt_pipeline.specs.declared.ended.Why.TheVariants.{WriteFault, OutputFault, ReadFault, InputFault, OutOfSteps}
 use Rattle.mt_pipeline.specs.declared.ended.Why.TheVariants.{TagFault, MemoryFault, AlignFault, StackFault, BadCode, Divide}
+use Rattle.mt_compile.specs.Refused.{number_of as compile_number}
+use Rattle.mt_pipeline.specs.declared.refusal.BuildRefusal.{BuildRefusal}
+use Rattle.mt_pipeline.specs.declared.refusal.BuildRefusal.TheVariants as build
 use Rattle.mt_pipeline.specs.declared.refusal.LinkRefusal.{LinkRefusal}
 use Rattle.mt_pipeline.specs.declared.refusal.LinkRefusal.TheVariants as link
 use Rattle.mt_pipeline.specs.declared.refusal.RunRefusal.{RunRefusal}
@@ -83,13 +86,18 @@ ComesBeforeRun NoMemory = Unit {0}
 ComesBeforeRun (ReadFault file) = Unit {0}
 ComesBeforeRun _ = ⊥
 
--- ---- the refusals of a link and of a run; want of memory, which is no refusal, has the number and the place 0
+-- ---- the refusals of a link, of a build and of a run; want of memory, which is no refusal, has the number and the place 0
 
 abbrev pub link_number : LinkRefusal → ℕ
 link_number (link.TooManyObjects count) = 41
 link_number (link.Duplicate name) = 39
 link_number link.NoMain = 40
 link_number link.NoMemory = 0
+
+abbrev pub build_number : BuildRefusal → ℕ
+build_number (build.Compile file refusal) = compile_number refusal
+build_number (build.Link refusal) = link_number refusal
+build_number build.NoMemory = 0
 
 abbrev pub run_number : RunRefusal → ℕ
 run_number (run.Image refusal) = image_number refusal

@@ -7,7 +7,7 @@ use mte_machine::MachineEnd;
 /// `WriteFault` among those that it writes.
 #[derive(Clone, Copy, Debug, PartialEq, Eq)]
 pub enum Why {
-    /// The file that was asked for is written.
+    /// What was asked for is done: the image is written, or the lines are put.
     Done,
     /// The program that was run ended itself.
     Exited,

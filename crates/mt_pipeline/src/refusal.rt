@@ -67,7 +67,19 @@ pub enum BuildRefusal {
 }
 
 impl BuildRefusal {
+    ghost use Rattle.mt_pipeline.specs.Status.{build_number};
     ghost use Rattle.mt_pipeline.specs.Unbuilt.{of_link, of_source};
+
+    /// The refusal's number, and 0 for want of memory.
+    pub fn number(&self) -> u8
+        ensures { result ≡ build_number self.now }
+    {
+        match self {
+            BuildRefusal::Compile { refusal, .. } => refusal.number(),
+            BuildRefusal::Link(refusal) => refusal.number(),
+            BuildRefusal::NoMemory => 0,
+        }
+    }
 
     /// The text of this number, from 0, is refused, with the byte that is told of it.
     pub(crate) fn of_source(file: usize, refused: Refused<CompileRefusal>) -> Refused<BuildRefusal>
