@@ -28,7 +28,8 @@ use Rattle.c_type_base.specs.declared.typed.Target.{Target}
 use Rattle.c_type_base.specs.declared.typed.Target.TheVariants as target
 use Rattle.c_type_base.specs.declared.typed.Typed.{Typed}
 use Rattle.c_type_base.specs.Known.{value}
-use Rattle.c_type_base.specs.Types.{is_void, struct_of}
+use Rattle.c_type_base.specs.Types.{is_void, int_of, struct_of}
+use Rattle.c_type_expr.specs.Faults.{rule}
 use Rattle.c_type_expr.specs.declared.scopes.Binding.{Binding}
 use Rattle.c_type_expr.specs.declared.scopes.Called.{Called}
 use Rattle.c_type_expr.specs.declared.scopes.Meaning.{Meaning}
@@ -42,12 +43,12 @@ use Rattle.c_type_expr.specs.Outcomes.{Judged, sure, both, each, on}
 use Rattle.c_type_expr.specs.Postfix.{member_row, call_row, call_known, all_values, not_called_row, not_called, function_in, call_by, meaning_by}
 use Rattle.c_type_expr.specs.Postfix.{argument}
 use Rattle.c_type_expr.specs.Said.{Said, NodeSaid, type_step, judged_length, length_known, pointer_to, array_of, whole}
-use Rattle.c_type_expr.specs.Said.{constant_known, fixed_at, tag_of, object_known, eof_value, meaning_of, name_row, variable, text_known, text}
+use Rattle.c_type_expr.specs.Said.{constant_known, fixed_at, is_length, length_in, tag_of, object_known, eof_value, meaning_of, name_row, variable, text_known, text}
 use Rattle.block_meaning.specs.ExpressionsInOrder as order
 use Rattle.block_meaning.specs.ExpressionsInOrder.{Scope, HasValue, Designates, file_of}
 use Rattle.block_meaning.specs.Locals.{text_of}
 use Rattle.well_typed_order.specs.Laws.Binary.{Keeps, never-kept, binary-in, int-integer}
-use Rattle.well_typed_order.specs.Laws.Good.{MeansIn, EnvIn, TextsIn, Silent, Good, silent-on, good-on, silent-both, good-both, good-sure}
+use Rattle.well_typed_order.specs.Laws.Good.{Inside, NoMore, MeansIn, EnvIn, TextsIn, Silent, Good, silent-on, good-on, silent-both, good-both, good-sure}
 use Rattle.well_typed_order.specs.Laws.Good.{get-within, good-none, good-more, good-either, good-never}
 use Rattle.well_typed_order.specs.Laws.Known.{There, TargetIn, AddressIn, FixedIn, KnownIn, ValueIn, known_by, int-plain, value-in}
 use Rattle.well_typed_order.specs.Laws.Postfix.{index-in, member-in, arrow-in, call-in}
@@ -72,7 +73,7 @@ module _ (s : Scope) where
 
   -- a row that keeps expressions in order
   keeps_good : (p : Judged Known) → Silent p → ((env : Env) → EnvIn env s → Keeps s (p env)) → Good s (KnownIn s) p
-  keeps_good p silent keeps = record { silent = silent; holds = λ env inside kept texts. keeps env inside kept }
+  keeps_good p silent keeps = record { silent = silent; holds = λ env inside kept texts. keeps env inside.here kept }
 
   -- ---- types
 
@@ -109,7 +110,8 @@ module _ (s : Scope) where
 
   length_good : (e : Said) → SaidGood e → Good s (λ (n : ℕ). Unit {0}) (judged_length e)
   length_good e good = good-either e.judged _ (length_known e.span) good (λ env. refl) (λ k env. refl)
-      (λ k known. record { silent = λ env. refl; holds = λ env inside kept texts. if-kept e.span _ _ kept tt })
+      (λ k known. record { silent = λ env. refl; holds = λ env inside kept texts. if-kept (λ (n : ℕ). Unit {0}) e.span
+      (rule 12 (is_length (int_of k.tree.ty) k.constant) ∷ []) (length_in k.constant) kept tt })
 
   array_good : (t : TypeSaid) (e : Said) → TypeGood t → SaidGood e → TypeGood (type_step (CType-F.Array t (Some e)))
   array_good t e good length span = good-on (both (judged_length e) (t span)) _
@@ -173,7 +175,7 @@ module _ (s : Scope) where
   variable_good : (name : List ℕ) (span : Span) → Good s (KnownIn s) (variable name span)
   variable_good name span = record {
     silent = λ env. name-silent span (meaning_of (in_scopes name env.scopes)) env;
-    holds = λ env inside kept texts. name_holds span (in_scopes name env.scopes) env (λ b is. inside.names name b is) kept;
+    holds = λ env inside kept texts. name_holds span (in_scopes name env.scopes) env (λ b is. inside.here.names name b is) kept;
   }
 
   -- ---- nodes with parts
@@ -307,13 +309,13 @@ module _ (s : Scope) where
   call_silent span f es good all (Some called) = silent-on (each (map argument es)) (call_row span called.callee called.signature)
       (arguments_good es all).silent (row_silent span called.callee called.signature)
 
-  call_holds : (span : Span) (f : Said) (es : List Said) → SaidGood f → AllByRecursion SaidGood es → (env : Env) → EnvIn env s →
+  call_holds : (span : Span) (f : Said) (es : List Said) → SaidGood f → AllByRecursion SaidGood es → (env : Env) → Inside NoMore env s →
       (o : Option Called) → function_in (meaning_by f.name env) ≡ o →
       let p = call_by span o f.judged (each (map argument es)) in
       (p env).faults ≡ [] → TextsIn s env.texts (p env).texts → There (p env).known (KnownIn s)
   call_holds span f es good all env inside None is kept texts = (not_called_good span f es good all).holds env inside kept texts
   call_holds span f es good all env inside (Some called) is kept texts =
-      (called_good span called es all (called_means f.name env inside called is)).holds env inside kept texts
+      (called_good span called es all (called_means f.name env inside.here called is)).holds env inside kept texts
 
   call_good : (f : Said) (es : List Said) → SaidGood f → AllByRecursion SaidGood es → NodeGood (node_step (Node-F.Call f es))
   call_good f es good all span = record {

@@ -5,6 +5,7 @@ use Rattle.std.specs.List.{AllByRecursion}
 use Rattle.c_type_base.specs.declared.expr.Callee.{Callee}
 use Rattle.c_type_base.specs.declared.expr.TNode.{out-TNode}
 use Rattle.c_type_base.specs.declared.ty.Ty.{Ty}
+use Rattle.c_type_base.specs.declared.typed.StructInfo.{StructInfo}
 use Rattle.c_type_base.specs.Types.{is_void, is_array, is_struct}
 use Rattle.c_type_expr.specs.declared.scopes.Binding.{Binding}
 use Rattle.c_type_expr.specs.declared.scopes.Place.{Place}
@@ -51,9 +52,35 @@ TextsIn s from texts = (k : ℕ) (bytes : List ℕ) → slice_get texts k ≡ So
 abbrev pub Silent : {A : Type 0} → Judged A → Type 0
 Silent p = (env : Env) → (p env).names ≡ []
 
-pub record Good {A : Type 0} (s : Scope) (P : A → Type 0) (p : Judged A) : Type 0 where
+-- a construct stands there, and more holds of the structs that are declared so far
+pub record Inside (More : List StructInfo → Type 0) (env : Env) (s : Scope) : Type 0 where
+  pub here : EnvIn env s
+  pub more : More env.structs
+
+abbrev pub NoMore : List StructInfo → Type 0
+NoMore structs = Unit {0}
+
+-- where it breaks no rule, it is known, and has a property
+pub record GoodIf {A : Type 0} (More : List StructInfo → Type 0) (s : Scope) (P : A → Type 0) (p : Judged A) : Type 0 where
   pub silent : Silent p
-  pub holds : (env : Env) → EnvIn env s → (p env).faults ≡ [] → TextsIn s env.texts (p env).texts → There (p env).known P
+  pub holds : (env : Env) → Inside More env s → (p env).faults ≡ [] → TextsIn s env.texts (p env).texts → There (p env).known P
+
+abbrev pub Good : {A : Type 0} → Scope → (A → Type 0) → Judged A → Type 0
+Good = GoodIf NoMore
+
+pub good-if : {A : Type 0} {M : List StructInfo → Type 0} {s : Scope} {P : A → Type 0} (p : Judged A) → Good s P p → GoodIf M s P p
+good-if p good = record {
+  silent = good.silent;
+  holds = λ env inside. good.holds env (record { here = inside.here; more = tt });
+}
+
+-- where less holds
+pub good-from : {A : Type 0} (M N : List StructInfo → Type 0) {s : Scope} {P : A → Type 0} (p : Judged A) →
+    ((env : Env) → EnvIn env s → N env.structs → M env.structs) → GoodIf M s P p → GoodIf N s P p
+good-from M N p less good = record {
+  silent = good.silent;
+  holds = λ env inside. good.holds env (record { here = inside.here; more = less env inside.here inside.more });
+}
 
 -- ---- lists
 
@@ -102,11 +129,15 @@ scopes_same name names scopes b silent is =
     by_scopes [] is = absurd cc
     by_scopes (scope ∷ scopes) is = is
 
-pub env-behind : {A : Type 0} (s : Scope) (env : Env) (o : Outcome A) → o.names ≡ [] → EnvIn env s → EnvIn (behind o env) s
-env-behind s env o silent inside = record {
-  table = record { extends = inside.table.extends; objects = inside.table.objects };
+env_behind : {A : Type 0} (s : Scope) (env : Env) (o : Outcome A) → o.names ≡ [] → EnvIn env s → EnvIn (behind o env) s
+env_behind s env o silent inside = record {
+  table = record { extends = inside.table.extends; objects = inside.table.objects; complete = inside.table.complete };
   names = λ name b is. inside.names name b (scopes_same name o.names env.scopes b silent is);
 }
+
+pub env-behind : {A : Type 0} {M : List StructInfo → Type 0} (s : Scope) (env : Env) (o : Outcome A) → o.names ≡ [] →
+    Inside M env s → Inside M (behind o env) s
+env-behind s env o silent inside = record { here = env_behind s env o silent inside.here; more = inside.more }
 
 -- ---- one after another
 
@@ -124,8 +155,8 @@ on_silent a f env silent each (Some v) = none-after (f v (behind a env)).names a
 pub silent-on : {A B : Type 0} (p : Judged A) (f : A → Judged B) → Silent p → ((v : A) → Silent (f v)) → Silent (on p f)
 silent-on p f first each env = on_silent (p env) f env (first env) each (p env).known
 
-on_holds : {A B : Type 0} (s : Scope) (P : A → Type 0) (Q : B → Type 0) (a : Outcome A) (f : A → Judged B) (env : Env) → EnvIn env s →
-    a.names ≡ [] → (a.faults ≡ [] → TextsIn s env.texts a.texts → There a.known P) → ((v : A) → P v → Good s Q (f v)) → (o : Option A) →
+on_holds : {A B : Type 0} {M : List StructInfo → Type 0} (s : Scope) (P : A → Type 0) (Q : B → Type 0) (a : Outcome A) (f : A → Judged B) (env : Env) → Inside M env s →
+    a.names ≡ [] → (a.faults ≡ [] → TextsIn s env.texts a.texts → There a.known P) → ((v : A) → P v → GoodIf M s Q (f v)) → (o : Option A) →
     a.known ≡ o → (continued a o f env).faults ≡ [] → TextsIn s env.texts (continued a o f env).texts → There (continued a o f env).known Q
 on_holds s P Q a f env inside silent first each None is kept texts = absurd (never P a.known is (first kept texts))
 on_holds s P Q a f env inside silent first each (Some v) is kept texts =
@@ -134,8 +165,8 @@ on_holds s P Q a f env inside silent first each (Some v) is kept texts =
     (each v holds).holds (behind a env) (env-behind s env a silent inside) (back a.faults b.faults kept)
     (texts_back s env.texts a.texts b.texts texts)
 
-pub good-on : {A B : Type 0} {s : Scope} {P : A → Type 0} {Q : B → Type 0} (p : Judged A) (f : A → Judged B) → Good s P p →
-    ((v : A) → Silent (f v)) → ((v : A) → P v → Good s Q (f v)) → Good s Q (on p f)
+pub good-on : {A B : Type 0} {M : List StructInfo → Type 0} {s : Scope} {P : A → Type 0} {Q : B → Type 0} (p : Judged A) (f : A → Judged B) → GoodIf M s P p →
+    ((v : A) → Silent (f v)) → ((v : A) → P v → GoodIf M s Q (f v)) → GoodIf M s Q (on p f)
 good-on {s = s} {P = P} {Q = Q} p f first silent each = record {
   silent = silent-on p f first.silent silent;
   holds = λ env inside kept texts. on_holds s P Q (p env) f env inside (first.silent env) (first.holds env inside) each (p env).known refl
@@ -154,8 +185,8 @@ pair_holds P Q (Some a) (Some b) first second = (first, second)
 abbrev pub Pair : {A B : Type 0} → (A → Type 0) → (B → Type 0) → A × B → Type 0
 Pair P Q x = P x.0 × Q x.1
 
-pub good-both : {A B : Type 0} {s : Scope} {P : A → Type 0} {Q : B → Type 0} (p : Judged A) (q : Judged B) → Good s P p → Good s Q q →
-    Good s (Pair P Q) (both p q)
+pub good-both : {A B : Type 0} {M : List StructInfo → Type 0} {s : Scope} {P : A → Type 0} {Q : B → Type 0} (p : Judged A) (q : Judged B) → GoodIf M s P p → GoodIf M s Q q →
+    GoodIf M s (Pair P Q) (both p q)
 good-both {s = s} {P = P} {Q = Q} p q first second = record {
   silent = silent-both p q first.silent second.silent;
   holds = λ env inside kept texts.
@@ -172,14 +203,14 @@ listed_holds P None b first second = first
 listed_holds P (Some a) None first second = second
 listed_holds P (Some a) (Some b) first second = (first, second)
 
-pub good-sure : {A : Type 0} {s : Scope} {P : A → Type 0} (a : A) → P a → Good s P (sure a)
+pub good-sure : {A : Type 0} {M : List StructInfo → Type 0} {s : Scope} {P : A → Type 0} (a : A) → P a → GoodIf M s P (sure a)
 good-sure a holds = record { silent = λ env. refl; holds = λ env inside kept texts. holds }
 
-pub good-none : {A : Type 0} {s : Scope} {P : A → Type 0} → Good s (AllByRecursion P) (each [])
+pub good-none : {A : Type 0} {M : List StructInfo → Type 0} {s : Scope} {P : A → Type 0} → GoodIf M s (AllByRecursion P) (each [])
 good-none = record { silent = λ env. refl; holds = λ env inside kept texts. tt }
 
-pub good-more : {A : Type 0} {s : Scope} {P : A → Type 0} (p : Judged A) (ps : List (Judged A)) → Good s P p →
-    Good s (AllByRecursion P) (each ps) → Good s (AllByRecursion P) (each (p ∷ ps))
+pub good-more : {A : Type 0} {M : List StructInfo → Type 0} {s : Scope} {P : A → Type 0} (p : Judged A) (ps : List (Judged A)) → GoodIf M s P p →
+    GoodIf M s (AllByRecursion P) (each ps) → GoodIf M s (AllByRecursion P) (each (p ∷ ps))
 good-more {s = s} {P = P} p ps first rest = record {
   silent = λ env. none-after (each ps (behind (p env) env)).names (p env).names (rest.silent (behind (p env) env)) (first.silent env);
   holds = λ env inside kept texts.
@@ -204,15 +235,15 @@ there_any P None holds = holds
 there_any P (Some a) holds = tt
 
 -- where nothing is asked of what is known
-pub good-any : {A : Type 0} {s : Scope} {P : A → Type 0} (p : Judged A) → Good s P p → Good s (λ (a : A). Unit {0}) p
+pub good-any : {A : Type 0} {M : List StructInfo → Type 0} {s : Scope} {P : A → Type 0} (p : Judged A) → GoodIf M s P p → GoodIf M s (λ (a : A). Unit {0}) p
 good-any {P = P} p good = record {
   silent = good.silent;
   holds = λ env inside kept texts. there_any P (p env).known (good.holds env inside kept texts);
 }
 
-either_holds : {A B : Type 0} (s : Scope) (P : A → Type 0) (Q : B → Type 0) (a : Outcome A) (q : Judged B) (f : A → Judged B) (env : Env) →
-    EnvIn env s → a.names ≡ [] → (a.faults ≡ [] → TextsIn s env.texts a.texts → There a.known P) →
-    ((v : A) → P v → Good s Q (f v)) → (o : Option A) → a.known ≡ o → (met a o q f env).faults ≡ [] →
+either_holds : {A B : Type 0} {M : List StructInfo → Type 0} (s : Scope) (P : A → Type 0) (Q : B → Type 0) (a : Outcome A) (q : Judged B) (f : A → Judged B) (env : Env) →
+    Inside M env s → a.names ≡ [] → (a.faults ≡ [] → TextsIn s env.texts a.texts → There a.known P) →
+    ((v : A) → P v → GoodIf M s Q (f v)) → (o : Option A) → a.known ≡ o → (met a o q f env).faults ≡ [] →
     TextsIn s env.texts (met a o q f env).texts → There (met a o q f env).known Q
 either_holds s P Q a q f env inside silent first each None is kept texts =
     let b = q (behind a env) in
@@ -223,8 +254,8 @@ either_holds s P Q a q f env inside silent first each (Some v) is kept texts =
     (each v holds).holds (behind a env) (env-behind s env a silent inside) (back a.faults b.faults kept)
     (texts_back s env.texts a.texts b.texts texts)
 
-pub good-either : {A B : Type 0} {s : Scope} {P : A → Type 0} {Q : B → Type 0} (p : Judged A) (q : Judged B) (f : A → Judged B) →
-    Good s P p → Silent q → ((v : A) → Silent (f v)) → ((v : A) → P v → Good s Q (f v)) → Good s Q (either p q f)
+pub good-either : {A B : Type 0} {M : List StructInfo → Type 0} {s : Scope} {P : A → Type 0} {Q : B → Type 0} (p : Judged A) (q : Judged B) (f : A → Judged B) →
+    GoodIf M s P p → Silent q → ((v : A) → Silent (f v)) → ((v : A) → P v → GoodIf M s Q (f v)) → GoodIf M s Q (either p q f)
 good-either {s = s} {P = P} {Q = Q} p q f first other silent each = record {
   silent = silent-either p q f first.silent other silent;
   holds = λ env inside kept texts. either_holds s P Q (p env) q f env inside (first.silent env) (first.holds env inside) each
@@ -232,8 +263,8 @@ good-either {s = s} {P = P} {Q = Q} p q f first other silent each = record {
 }
 
 -- what breaks a rule has each property where it breaks none
-pub good-never : {A : Type 0} {s : Scope} {P : A → Type 0} (p : Judged A) → Silent p → ((env : Env) → (p env).faults ≡ [] → ⊥) →
-    Good s P p
+pub good-never : {A : Type 0} {M : List StructInfo → Type 0} {s : Scope} {P : A → Type 0} (p : Judged A) → Silent p → ((env : Env) → (p env).faults ≡ [] → ⊥) →
+    GoodIf M s P p
 good-never {P = P} p silent breaks = record {
   silent = silent;
   holds = λ env inside kept texts. absurd (breaks env kept);

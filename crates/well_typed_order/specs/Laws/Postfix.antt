@@ -45,6 +45,8 @@ pub record TableIn (env : Env) (s : Scope) : Type 0 where
   pub extends : Extends env.structs (structs_of s.program.units s.unit)
   pub objects : (number k : ℕ) (m : MemberInfo) → slice_get (members_of (slice_get (structs_of s.program.units s.unit) number)) k ≡ Some m →
       is_void m.ty ≡ false
+  pub complete : (number k : ℕ) (m : MemberInfo) → slice_get (members_of (slice_get env.structs number)) k ≡ Some m →
+      is_complete env.structs m.ty ≡ true
 
 -- ---- elements
 

@@ -1,7 +1,7 @@
 -- Unary operators, casts, assignments, steps and choices keep expressions in order.
 use Rattle.std.proofs.Common.{◌⊎◌, inl, inr, ◌≡◌, refl, sym, ◌∙◌, ap, subst, ℕ, Bool, true, false, ◌&&◌, ◌||◌, List, [], ◌∷◌, Option}
 use Rattle.std.proofs.Common.{Some, None}
-use Rattle.std.specs.Prelude.{if◌then◌else◌}
+use Rattle.std.specs.Prelude.{if◌then◌else◌, ◌%◌, ◌^◌}
 use Rattle.c_ast.specs.declared.token.Span.{Span}
 use Rattle.c_ast.specs.declared.int_type.IntType.TheVariants as int
 use Rattle.c_ast.specs.declared.operator.UnaryOperator.{UnaryOperator}
@@ -21,9 +21,9 @@ use Rattle.c_type_base.specs.declared.known.Constancy.{Constancy}
 use Rattle.c_type_base.specs.declared.known.Constancy.TheVariants.{Varies, Is}
 use Rattle.c_type_base.specs.declared.known.Known.{Known}
 use Rattle.c_type_base.specs.Conversions.{promoted, usual}
-use Rattle.c_type_base.specs.Known.{converted, is_null, value, assignable, is_changeable}
+use Rattle.c_type_base.specs.Known.{converted, is_null, is_value, value, assignable, is_changeable}
 use Rattle.c_type_base.specs.Laws.SizeLaws.{complete-void}
-use Rattle.c_type_base.specs.Sizes.{is_complete}
+use Rattle.c_type_base.specs.Sizes.{size, is_complete}
 use Rattle.c_type_base.specs.Types.{TyLayer, same_type, is_there, int_of, int_of_level, element_of_level, struct_of_level}
 use Rattle.c_type_base.specs.Types.{is_void, is_void_level, is_integer, is_pointer, is_array, is_struct, is_scalar}
 use Rattle.c_type_base.specs.declared.ty.Ty.{roll-Ty, roll-out-Ty}
@@ -209,16 +209,22 @@ each_kept span [] kept = refl
 each_kept span (r ∷ rules) kept = rule_kept span r.number r.kept rules (each_kept span rules) kept
 
 -- where its rules are kept
-pub if-kept : {A : Type 0} {P : A → Type 0} (span : Span) (rules : List Rule) (k : A) → broken span rules ≡ [] → P k →
+pub if-kept : {A : Type 0} (P : A → Type 0) (span : Span) (rules : List Rule) (k : A) → broken span rules ≡ [] → P k →
     There (if all_kept rules then Some k else None) P
-if-kept {A = A} {P = P} span rules k kept holds =
+if-kept P span rules k kept holds =
     subst (λ b. There (if b then Some k else None) P) (sym (each_kept span rules kept)) holds
 
 pub sizeof-in : (s : Scope) (span : Span) (e : Known) (env : Env) → Keeps s (sizeof_row span e env)
-sizeof-in s span e env kept = if-kept span _ _ kept (size_in span e _)
+sizeof-in s span e env kept =
+    let bytes = size env.structs e.tree.ty % 2 ^ 64 in
+    if-kept (KnownIn s) span (rule 12 (is_value e) ∷ rule 15 (is_complete env.structs e.tree.ty) ∷ [])
+    (size_known span (node.SizeofExpr e.tree) bytes) kept (size_in span e bytes)
 
 pub sizeof-name-in : (s : Scope) (span : Span) (t : Ty) (env : Env) → Keeps s (sizeof_type span t env)
-sizeof-name-in s span t env kept = if-kept span _ _ kept (size_name_in span t _)
+sizeof-name-in s span t env kept =
+    let bytes = size env.structs t % 2 ^ 64 in
+    if-kept (KnownIn s) span (rule 15 (is_complete env.structs t) ∷ []) (size_known span (node.SizeofName t) bytes) kept
+    (size_name_in span t bytes)
 
 -- ---- assignments
 
