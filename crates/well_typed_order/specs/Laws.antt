@@ -8,3 +8,4 @@ pub mod Good
 pub mod Silent
 pub mod Expressions
 pub mod Initials
+pub mod Parts

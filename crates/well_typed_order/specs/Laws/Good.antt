@@ -95,15 +95,15 @@ back (x ∷ xs) b is = absurd cc
 pub none-after : {A : Type 0} (a b : List A) → a ≡ [] → b ≡ [] → a ++ b ≡ []
 none-after a b is its = ap (λ a. a ++ b) is ∙ its
 
-get_front : {A : Type 0} (a b : List A) (k : ℕ) (x : A) → slice_get a k ≡ Some x → slice_get (a ++ b) k ≡ Some x
-get_front [] b k x is = absurd cc
-get_front (y ∷ a) b zero x is = is
-get_front (y ∷ a) b (suc k) x is = get_front a b k x is
+pub get-front : {A : Type 0} (a b : List A) (k : ℕ) (x : A) → slice_get a k ≡ Some x → slice_get (a ++ b) k ≡ Some x
+get-front [] b k x is = absurd cc
+get-front (y ∷ a) b zero x is = is
+get-front (y ∷ a) b (suc k) x is = get-front a b k x is
 
-get_back : {A : Type 0} (a b : List A) (k n : ℕ) → n ≡ length a + k → slice_get (a ++ b) n ≡ slice_get b k
-get_back [] b k n is = let same : n ≡ k = omega (arith, is) in ap (slice_get b) same
-get_back (y ∷ a) b k zero is = absurd (omega (arith, is))
-get_back (y ∷ a) b k (suc n) is = get_back a b k n (omega (arith, is))
+pub get-back : {A : Type 0} (a b : List A) (k n : ℕ) → n ≡ length a + k → slice_get (a ++ b) n ≡ slice_get b k
+get-back [] b k n is = let same : n ≡ k = omega (arith, is) in ap (slice_get b) same
+get-back (y ∷ a) b k zero is = absurd (omega (arith, is))
+get-back (y ∷ a) b k (suc n) is = get-back a b k n (omega (arith, is))
 
 pub get-within : {A : Type 0} (xs : List A) (k : ℕ) (x : A) → slice_get xs k ≡ Some x → k < length xs
 get-within [] k x is = absurd cc
@@ -111,12 +111,12 @@ get-within (y ∷ xs) zero x is = omega arith
 get-within (y ∷ xs) (suc k) x is = let less = get-within xs k x is in omega (arith, less)
 
 pub texts-front : (s : Scope) (from : ℕ) (a b : List (List ℕ)) → TextsIn s from (a ++ b) → TextsIn s from a
-texts-front s from a b all k bytes is = all k bytes (get_front a b k bytes is)
+texts-front s from a b all k bytes is = all k bytes (get-front a b k bytes is)
 
-texts_back : (s : Scope) (from : ℕ) (a b : List (List ℕ)) → TextsIn s from (a ++ b) → TextsIn s (from + length a) b
-texts_back s from a b all k bytes is =
+pub texts-back : (s : Scope) (from : ℕ) (a b : List (List ℕ)) → TextsIn s from (a ++ b) → TextsIn s (from + length a) b
+texts-back s from a b all k bytes is =
     let same : from + (length a + k) ≡ from + length a + k = omega arith in
-    subst (λ n. text_of (file_of s) n ≡ Some bytes) same (all (length a + k) bytes (get_back a b k (length a + k) refl ∙ is))
+    subst (λ n. text_of (file_of s) n ≡ Some bytes) same (all (length a + k) bytes (get-back a b k (length a + k) refl ∙ is))
 
 -- ---- behind a construct that adds no name
 
@@ -141,11 +141,11 @@ env-behind s env o silent inside = record { here = env_behind s env o silent ins
 
 -- ---- one after another
 
-some_is : {A : Type 0} (P : A → Type 0) (o : Option A) (v : A) → o ≡ Some v → There o P → P v
-some_is P o v is holds = subst (λ o. There o P) is holds
+pub some-is : {A : Type 0} (P : A → Type 0) (o : Option A) (v : A) → o ≡ Some v → There o P → P v
+some-is P o v is holds = subst (λ o. There o P) is holds
 
-never : {A : Type 0} (P : A → Type 0) (o : Option A) → o ≡ None → There o P → ⊥
-never P o is holds = subst (λ o. There o P) is holds
+pub none-is : {A : Type 0} (P : A → Type 0) (o : Option A) → o ≡ None → There o P → ⊥
+none-is P o is holds = subst (λ o. There o P) is holds
 
 on_silent : {A B : Type 0} (a : Outcome A) (f : A → Judged B) (env : Env) → a.names ≡ [] → ((v : A) → Silent (f v)) → (o : Option A) →
     (continued a o f env).names ≡ []
@@ -158,12 +158,12 @@ silent-on p f first each env = on_silent (p env) f env (first env) each (p env).
 on_holds : {A B : Type 0} {M : List StructInfo → Type 0} (s : Scope) (P : A → Type 0) (Q : B → Type 0) (a : Outcome A) (f : A → Judged B) (env : Env) → Inside M env s →
     a.names ≡ [] → (a.faults ≡ [] → TextsIn s env.texts a.texts → There a.known P) → ((v : A) → P v → GoodIf M s Q (f v)) → (o : Option A) →
     a.known ≡ o → (continued a o f env).faults ≡ [] → TextsIn s env.texts (continued a o f env).texts → There (continued a o f env).known Q
-on_holds s P Q a f env inside silent first each None is kept texts = absurd (never P a.known is (first kept texts))
+on_holds s P Q a f env inside silent first each None is kept texts = absurd (none-is P a.known is (first kept texts))
 on_holds s P Q a f env inside silent first each (Some v) is kept texts =
     let b = f v (behind a env) in
-    let holds = some_is P a.known v is (first (front a.faults b.faults kept) (texts-front s env.texts a.texts b.texts texts)) in
+    let holds = some-is P a.known v is (first (front a.faults b.faults kept) (texts-front s env.texts a.texts b.texts texts)) in
     (each v holds).holds (behind a env) (env-behind s env a silent inside) (back a.faults b.faults kept)
-    (texts_back s env.texts a.texts b.texts texts)
+    (texts-back s env.texts a.texts b.texts texts)
 
 pub good-on : {A B : Type 0} {M : List StructInfo → Type 0} {s : Scope} {P : A → Type 0} {Q : B → Type 0} (p : Judged A) (f : A → Judged B) → GoodIf M s P p →
     ((v : A) → Silent (f v)) → ((v : A) → P v → GoodIf M s Q (f v)) → GoodIf M s Q (on p f)
@@ -176,11 +176,11 @@ good-on {s = s} {P = P} {Q = Q} p f first silent each = record {
 pub silent-both : {A B : Type 0} (p : Judged A) (q : Judged B) → Silent p → Silent q → Silent (both p q)
 silent-both p q first second env = none-after (q (behind (p env) env)).names (p env).names (second (behind (p env) env)) (first env)
 
-pair_holds : {A B : Type 0} (P : A → Type 0) (Q : B → Type 0) (a : Option A) (b : Option B) → There a P → There b Q →
+pub pair-holds : {A B : Type 0} (P : A → Type 0) (Q : B → Type 0) (a : Option A) (b : Option B) → There a P → There b Q →
     There (pair a b) (λ x. P x.0 × Q x.1)
-pair_holds P Q None b first second = first
-pair_holds P Q (Some a) None first second = second
-pair_holds P Q (Some a) (Some b) first second = (first, second)
+pair-holds P Q None b first second = first
+pair-holds P Q (Some a) None first second = second
+pair-holds P Q (Some a) (Some b) first second = (first, second)
 
 abbrev pub Pair : {A B : Type 0} → (A → Type 0) → (B → Type 0) → A × B → Type 0
 Pair P Q x = P x.0 × Q x.1
@@ -192,16 +192,16 @@ good-both {s = s} {P = P} {Q = Q} p q first second = record {
   holds = λ env inside kept texts.
       let a = p env in
       let b = q (behind a env) in
-      pair_holds P Q a.known b.known (first.holds env inside (front a.faults b.faults kept) (texts-front s env.texts a.texts b.texts texts))
+      pair-holds P Q a.known b.known (first.holds env inside (front a.faults b.faults kept) (texts-front s env.texts a.texts b.texts texts))
       (second.holds (behind a env) (env-behind s env a (first.silent env) inside) (back a.faults b.faults kept)
-      (texts_back s env.texts a.texts b.texts texts));
+      (texts-back s env.texts a.texts b.texts texts));
 }
 
-listed_holds : {A : Type 0} (P : A → Type 0) (a : Option A) (b : Option (List A)) → There a P → There b (AllByRecursion P) →
+pub listed-holds : {A : Type 0} (P : A → Type 0) (a : Option A) (b : Option (List A)) → There a P → There b (AllByRecursion P) →
     There (listed a b) (AllByRecursion P)
-listed_holds P None b first second = first
-listed_holds P (Some a) None first second = second
-listed_holds P (Some a) (Some b) first second = (first, second)
+listed-holds P None b first second = first
+listed-holds P (Some a) None first second = second
+listed-holds P (Some a) (Some b) first second = (first, second)
 
 pub good-sure : {A : Type 0} {M : List StructInfo → Type 0} {s : Scope} {P : A → Type 0} (a : A) → P a → GoodIf M s P (sure a)
 good-sure a holds = record { silent = λ env. refl; holds = λ env inside kept texts. holds }
@@ -216,9 +216,9 @@ good-more {s = s} {P = P} p ps first rest = record {
   holds = λ env inside kept texts.
       let a = p env in
       let b = each ps (behind a env) in
-      listed_holds P a.known b.known (first.holds env inside (front a.faults b.faults kept) (texts-front s env.texts a.texts b.texts texts))
+      listed-holds P a.known b.known (first.holds env inside (front a.faults b.faults kept) (texts-front s env.texts a.texts b.texts texts))
       (rest.holds (behind a env) (env-behind s env a (first.silent env) inside) (back a.faults b.faults kept)
-      (texts_back s env.texts a.texts b.texts texts));
+      (texts-back s env.texts a.texts b.texts texts));
 }
 
 met_silent : {A B : Type 0} (a : Outcome A) (q : Judged B) (f : A → Judged B) (env : Env) → a.names ≡ [] → Silent q →
@@ -247,12 +247,12 @@ either_holds : {A B : Type 0} {M : List StructInfo → Type 0} (s : Scope) (P : 
     TextsIn s env.texts (met a o q f env).texts → There (met a o q f env).known Q
 either_holds s P Q a q f env inside silent first each None is kept texts =
     let b = q (behind a env) in
-    absurd (never P a.known is (first (front a.faults b.faults kept) (texts-front s env.texts a.texts b.texts texts)))
+    absurd (none-is P a.known is (first (front a.faults b.faults kept) (texts-front s env.texts a.texts b.texts texts)))
 either_holds s P Q a q f env inside silent first each (Some v) is kept texts =
     let b = f v (behind a env) in
-    let holds = some_is P a.known v is (first (front a.faults b.faults kept) (texts-front s env.texts a.texts b.texts texts)) in
+    let holds = some-is P a.known v is (first (front a.faults b.faults kept) (texts-front s env.texts a.texts b.texts texts)) in
     (each v holds).holds (behind a env) (env-behind s env a silent inside) (back a.faults b.faults kept)
-    (texts_back s env.texts a.texts b.texts texts)
+    (texts-back s env.texts a.texts b.texts texts)
 
 pub good-either : {A B : Type 0} {M : List StructInfo → Type 0} {s : Scope} {P : A → Type 0} {Q : B → Type 0} (p : Judged A) (q : Judged B) (f : A → Judged B) →
     GoodIf M s P p → Silent q → ((v : A) → Silent (f v)) → ((v : A) → P v → GoodIf M s Q (f v)) → GoodIf M s Q (either p q f)
