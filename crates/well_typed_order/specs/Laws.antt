@@ -9,3 +9,5 @@ pub mod Silent
 pub mod Expressions
 pub mod Initials
 pub mod Parts
+pub mod Scopes
+pub mod Locals

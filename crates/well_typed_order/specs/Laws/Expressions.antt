@@ -14,7 +14,7 @@ use Rattle.c_ast.specs.declared.operator.BinaryOperator.{BinaryOperator}
 use Rattle.c_ast.specs.declared.operator.AssignOperator.{AssignOperator}
 use Rattle.c_ast.specs.declared.expr.CType.{CType, roll-CType, map-CType}
 use Rattle.c_ast.specs.declared.expr.CType.TheOpen.{CType-F, Node-F, Expr-F}
-use Rattle.c_ast.specs.declared.expr.CType.TheFolds.{fold-Node, fold-roll-CType, fold-roll-Node, fold_out-Expr, ind-Expr}
+use Rattle.c_ast.specs.declared.expr.CType.TheFolds.{fold-Node, fold-roll-CType, fold-roll-Node, fold_out-Expr, ind-CType, ind-Expr}
 use Rattle.c_ast.specs.declared.expr.Expr.{Expr, roll-Expr, map-Expr}
 use Rattle.c_ast.specs.declared.expr.Node.{Node, roll-Node, map-Node}
 use Rattle.c_type_base.specs.Laws.Opened.{given_types, given_typed}
@@ -409,4 +409,10 @@ module _ (s : Scope) where
   pub expression-good : (e : Expr) → Good s (KnownIn s) (expression e).judged
   unfolding types_with nodes_with exprs_with
   expression-good = ind-Expr (λ t. TypeGood (written t)) (λ n. NodeGood (said_node n)) (λ e. SaidGood (expression e)) types_good nodes_good
+      exprs_good
+
+  -- and a type that is written is known
+  pub written-good : (t : CType) (span : Span) → Good s (λ (w : Written). Unit {0}) (written t span)
+  unfolding types_with nodes_with exprs_with
+  written-good = ind-CType (λ t. TypeGood (written t)) (λ n. NodeGood (said_node n)) (λ e. SaidGood (expression e)) types_good nodes_good
       exprs_good

@@ -204,15 +204,15 @@ rule_kept : (span : Span) (n : ℕ) (b : Bool) (rules : List Rule) → (broken s
 rule_kept span n true rules rest kept = rest kept
 rule_kept span n false rules rest kept = absurd cc
 
-each_kept : (span : Span) (rules : List Rule) → broken span rules ≡ [] → all_kept rules ≡ true
-each_kept span [] kept = refl
-each_kept span (r ∷ rules) kept = rule_kept span r.number r.kept rules (each_kept span rules) kept
+pub each-kept : (span : Span) (rules : List Rule) → broken span rules ≡ [] → all_kept rules ≡ true
+each-kept span [] kept = refl
+each-kept span (r ∷ rules) kept = rule_kept span r.number r.kept rules (each-kept span rules) kept
 
 -- where its rules are kept
 pub if-kept : {A : Type 0} (P : A → Type 0) (span : Span) (rules : List Rule) (k : A) → broken span rules ≡ [] → P k →
     There (if all_kept rules then Some k else None) P
 if-kept P span rules k kept holds =
-    subst (λ b. There (if b then Some k else None) P) (sym (each_kept span rules kept)) holds
+    subst (λ b. There (if b then Some k else None) P) (sym (each-kept span rules kept)) holds
 
 pub sizeof-in : (s : Scope) (span : Span) (e : Known) (env : Env) → Keeps s (sizeof_row span e env)
 sizeof-in s span e env kept =
