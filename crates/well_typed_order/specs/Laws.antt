@@ -11,3 +11,6 @@ pub mod Initials
 pub mod Parts
 pub mod Scopes
 pub mod Locals
+pub mod Declared
+pub mod StatementRows
+pub mod Statements

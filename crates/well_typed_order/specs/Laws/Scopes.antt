@@ -1,12 +1,15 @@
 -- Scopes with more or fewer locals: names that mean what is there still do where the locals among them are in scope.
-use Rattle.std.proofs.Common.{◌≡◌, refl, sym, ap, subst, ℕ, zero, suc, ◌+◌, ◌<◌, arith, List, [], ◌∷◌, ◌++◌, length, slice_get, Option, Some, None}
+use Rattle.std.proofs.Common.{◌≡◌, refl, sym, ap, subst, ℕ, zero, suc, ◌+◌, ◌<◌, arith, List, [], ◌∷◌, ◌++◌, length, slice_get, Option, Some, None, true}
 use Rattle.std.specs.List.{Contains, slice_index_or}
 use Rattle.c_type_base.specs.Laws.Opened.{given_typed}
 use Rattle.c_type_base.specs.declared.ty.Ty.{Ty}
 use Rattle.c_type_base.specs.declared.expr.Callee.{Callee}
 use Rattle.c_type_base.specs.declared.expr.TNode.{out-TNode}
 use Rattle.c_type_base.specs.declared.expr.TNode.TheOpen.{TNode-F}
+use Rattle.c_type_base.specs.declared.ty.Ty.TheVariants as ty
+use Rattle.c_type_base.specs.declared.statement.TStmt.TheVariants as tstmt
 use Rattle.c_type_base.specs.declared.typed.LocalInfo.{LocalInfo}
+use Rattle.c_type_base.specs.declared.typed.TFunction.{TFunction}
 use Rattle.c_type_expr.specs.declared.scopes.Meaning.{Meaning}
 use Rattle.c_type_expr.specs.declared.scopes.Meaning.TheVariants as means
 use Rattle.c_type_expr.specs.declared.scopes.Place.{Place}
@@ -15,8 +18,30 @@ use Rattle.c_type_expr.specs.Environment.{Env, node_at, opened}
 use Rattle.block_meaning.specs.ExpressionsInOrder as order
 use Rattle.block_meaning.specs.ExpressionsInOrder.{Scope, Designates, Callable}
 use Rattle.block_meaning.specs.ProgramsInOrder.{numbered}
+use Rattle.block_meaning.specs.Running.{Program}
 use Rattle.well_typed_order.specs.Laws.Good.{MeansIn, ObjectIn, FunctionIn, EnvIn}
 use Rattle.well_typed_order.specs.Laws.Parts.{Stands}
+
+-- ---- outside functions
+
+abbrev pub no_function : TFunction
+no_function = record {
+  name = [];
+  local = true;
+  params = 0;
+  result = ty.Void;
+  locals = [];
+  body = tstmt.Empty;
+  span = record { start = 0; end = 0 };
+}
+
+-- at file scope
+abbrev pub outside : Program → ℕ → Scope
+outside program unit = record { program = program; unit = unit; function = no_function; locals = [] }
+
+-- nowhere in a program
+abbrev pub nowhere : Scope
+nowhere = outside (record { units = []; frames = []; stack = 0 }) 0
 
 -- ---- lists that contain a number
 
