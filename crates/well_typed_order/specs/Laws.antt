@@ -14,3 +14,6 @@ pub mod Locals
 pub mod Declared
 pub mod StatementRows
 pub mod Statements
+pub mod Judged
+pub mod Objects
+pub mod Parameters

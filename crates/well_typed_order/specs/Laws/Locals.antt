@@ -98,11 +98,11 @@ module _ (s : Scope) where
     init = init_there t init fits;
   }
 
-  object_there : (t : Ty) (k : ℕ) (name : List ℕ) (span : Span) → Contains s.locals k →
+  pub object-there : (t : Ty) (k : ℕ) (name : List ℕ) (span : Span) → Contains s.locals k →
       slice_get s.function.locals k ≡ Some (record { name = name; ty = t; span = span }) → (structs : List StructInfo) →
       is_complete structs t ≡ true → ObjectIn s (place.Local k) t
   unfolding given_typed
-  object_there t k name span contains is structs complete =
+  object-there t k name span contains is structs complete =
       record { designates = order.local contains is; object = complete-object structs t complete; address = tt }
 
   module _ {G : Meaning → Type 0} (bounds : Bounds s G) where
@@ -122,7 +122,7 @@ module _ (s : Scope) where
           let zero_on : env.locals + 0 ≡ env.locals = omega arith in
           let there = subst (λ k. slice_get s.function.locals k ≡ Some info) zero_on ((first-adds b i split).locals 0 info refl) in
           let contains = bounds env.locals (Some t) info (first-names b i split).0 there in
-          let object = object_there t env.locals d.name d.span contains there env.structs complete in
+          let object = object-there t env.locals d.name d.span contains there env.structs complete in
           let next = stands-behind s env b (object, tt) stands in
           let fits = (initialised-good false d t).holds (behind b env) (record { here = next.here; more = complete })
           (second-kept b i split) (second-adds b i split).texts in

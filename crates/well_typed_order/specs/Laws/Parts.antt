@@ -91,19 +91,16 @@ found_names G name names [] b all old is =
     (subst (λ l. or_else (in_scope name l) None ≡ Some b) (sym (no_scope names)) is)
 found_names G name names (scope ∷ scopes) b all old is = found_first G name names scope (in_scopes name scopes) b all old is
 
+-- behind a part whose names mean what is there
+pub env-named : {A : Type 0} (s : Scope) (env : Env) (o : Outcome A) → Names (MeansIn s) o.names → EnvIn env s → EnvIn (behind o env) s
+env-named s env o all inside = record {
+  table = record { extends = inside.table.extends; objects = inside.table.objects; complete = inside.table.complete };
+  names = λ name b is. found_names (MeansIn s) name o.names env.scopes b all (inside.names name) is;
+}
+
 pub stands-behind : {A : Type 0} (s : Scope) (env : Env) (o : Outcome A) → Names (MeansIn s) o.names → Stands env s →
     Stands (behind o env) s
-stands-behind s env o all stands = record {
-  here = record {
-    table = record {
-      extends = stands.here.table.extends;
-      objects = stands.here.table.objects;
-      complete = stands.here.table.complete;
-    };
-    names = λ name b is. found_names (MeansIn s) name o.names env.scopes b all (stands.here.names name) is;
-  };
-  result = stands.result;
-}
+stands-behind s env o all stands = record { here = env-named s env o all stands.here; result = stands.result }
 
 -- ---- what a part adds
 
