@@ -17,3 +17,4 @@ pub mod Statements
 pub mod Judged
 pub mod Objects
 pub mod Parameters
+pub mod Heads

@@ -416,3 +416,7 @@ module _ (s : Scope) where
   unfolding types_with nodes_with exprs_with
   written-good = ind-CType (λ t. TypeGood (written t)) (λ n. NodeGood (said_node n)) (λ e. SaidGood (expression e)) types_good nodes_good
       exprs_good
+
+  -- one without open brackets
+  pub whole-good : (t : CType) (span : Span) → Good s (λ (t : Ty). Unit {0}) (on (written t span) (whole span))
+  whole-good t span = whole_good (written t) (written-good t) span

@@ -169,3 +169,53 @@ stands-within s ks env = stands-other s (ks ++ s.locals) (λ k l contains is. co
 
 pub stands-wide : (s : Scope) (env : Env) → Stands env s → Stands (opened env) (wide s)
 stands-wide s env = stands-other s (numbered 0 s.function.locals) (λ k l contains is. numbered-all s.function.locals k l is) env
+
+-- ---- inside a function
+
+module _ (program : Program) (unit : ℕ) (f : TFunction) (ks : List ℕ) where
+  abbrev inside : Scope
+  inside = record { program = program; unit = unit; function = f; locals = ks }
+
+  nothing_local : {t : Ty} {k : ℕ} → Designates (outside program unit) t (TNode-F.Local k) → ⊥
+  nothing_local (order.local {k} {l} (j, less, is) there) = absurd (omega (arith, less))
+
+  global_inside : {t : Ty} {k : ℕ} → Designates (outside program unit) t (TNode-F.Global k) → Designates inside t (TNode-F.Global k)
+  global_inside (order.global is) = order.global is
+
+  extern_inside : {t : Ty} {k : ℕ} → Designates (outside program unit) t (TNode-F.Extern k) → Designates inside t (TNode-F.Extern k)
+  extern_inside (order.extern_object is its defines) = order.extern_object is its defines
+
+  place_inside : (t : Ty) (p : Place) → Designates (outside program unit) t (out-TNode (node_at p)) →
+      Designates inside t (out-TNode (node_at p))
+  unfolding given_typed
+  place_inside t (place.Local k) is = absurd (nothing_local is)
+  place_inside t (place.Global k) is = global_inside is
+  place_inside t (place.Extern k) is = extern_inside is
+
+  callable_inside : (g : Callee) (ts : List Ty) (t : Ty) → Callable (outside program unit) g ts t → Callable inside g ts t
+  callable_inside g ts t (order.function is) = order.function is
+  callable_inside g ts t (order.extern is its defines) = order.extern is its defines
+  callable_inside g ts t order.putchar = order.putchar
+  callable_inside g ts t order.getchar = order.getchar
+
+  means_inside : (m : Meaning) → MeansIn (outside program unit) m → MeansIn inside m
+  means_inside (means.Object p None) is = is
+  means_inside (means.Object p (Some t)) is =
+      record { designates = place_inside t p is.designates; object = is.object; address = is.address }
+  means_inside (means.Function g None) is = is
+  means_inside (means.Function g (Some sig)) is =
+      record { callable = callable_inside g sig.params sig.result is.callable; plain = is.plain }
+  means_inside means.Eof is = is
+
+  -- what stands at file scope means the same there
+  pub env-inside : (env : Env) → EnvIn env (outside program unit) → EnvIn env inside
+  env-inside env here = record {
+    table = record { extends = here.table.extends; objects = here.table.objects; complete = here.table.complete };
+    names = λ name b is. means_inside b.means (here.names name b is);
+  }
+
+pub env-opened : (s : Scope) (env : Env) → EnvIn env s → EnvIn (opened env) s
+env-opened s env here = record {
+  table = record { extends = here.table.extends; objects = here.table.objects; complete = here.table.complete };
+  names = λ name b is. here.names name b is;
+}
