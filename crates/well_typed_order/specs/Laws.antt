@@ -18,3 +18,4 @@ pub mod Judged
 pub mod Objects
 pub mod Parameters
 pub mod Heads
+pub mod Bodies

@@ -80,15 +80,15 @@ found_first G name (x ∷ names) scope rest b all old is =
     by_name G x (in_scope name (names ++ scope)) b all.0 (bytes_eq x.name name) rest is
     (found_first G name names scope rest b all.1 old)
 
-no_scope : (names : List Binding) → names ++ [] ≡ names
-no_scope [] = refl
-no_scope (x ∷ names) = ap (λ l. x ∷ l) (no_scope names)
+pub no-scope : (names : List Binding) → names ++ [] ≡ names
+no-scope [] = refl
+no-scope (x ∷ names) = ap (λ l. x ∷ l) (no-scope names)
 
 found_names : (G : Meaning → Type 0) (name : List ℕ) (names : List Binding) (scopes : List (List Binding)) (b : Binding) → Names G names →
     ((b : Binding) → in_scopes name scopes ≡ Some b → G b.means) → in_scopes name (with_innermost names scopes) ≡ Some b → G b.means
 found_names G name names [] b all old is =
     found_first G name names [] None b all (λ b none. absurd cc)
-    (subst (λ l. or_else (in_scope name l) None ≡ Some b) (sym (no_scope names)) is)
+    (subst (λ l. or_else (in_scope name l) None ≡ Some b) (sym (no-scope names)) is)
 found_names G name names (scope ∷ scopes) b all old is = found_first G name names scope (in_scopes name scopes) b all old is
 
 -- behind a part whose names mean what is there

@@ -8,6 +8,7 @@ use Rattle.c_ast.specs.declared.token.Span.{Span}
 use Rattle.c_ast.specs.declared.expr.Expr.{Expr}
 use Rattle.c_ast.specs.declared.declaration.Decl.{Decl}
 use Rattle.c_ast.specs.declared.statement.Stmt.{Stmt, roll-Stmt, map-Stmt}
+use Rattle.c_ast.specs.declared.statement.Stmt.TheVariants as stmt
 use Rattle.c_ast.specs.declared.statement.Item.{Item, roll-Item, map-Item}
 use Rattle.c_ast.specs.declared.statement.Item.TheOpen.{Item-F, Stmt-F}
 use Rattle.c_ast.specs.declared.statement.Item.TheFolds.{ind-Item, ind-Stmt, fold-roll-Item, fold-roll-Stmt}
@@ -24,7 +25,7 @@ use Rattle.c_type_expr.specs.Environment.{Env, opened}
 use Rattle.c_type_expr.specs.Expressions.{judged_value}
 use Rattle.c_type_expr.specs.Outcomes.{Outcome, Judged, sure, both, each, perhaps, on, option_map}
 use Rattle.c_type_stmt.specs.Declarations.{local}
-use Rattle.c_type_stmt.specs.Laws.SaidLaws.{item_judged}
+use Rattle.c_type_stmt.specs.Laws.SaidLaws.{item_judged, said-block}
 use Rattle.c_type_stmt.specs.Statements.{StmtSaid, stated, scoped, effect, condition, block, return_row, if_row, for_row}
 use Rattle.c_type_stmt.specs.Statements.{judged_of, stmt_step, item_step, statement}
 use Rattle.block_meaning.specs.ExpressionsInOrder.{Scope, within, ValueInOrder, ConditionInOrder}
@@ -177,6 +178,30 @@ block-told s ps all =
 pub block-fine : (s : Scope) (ps : List (Judged TItem)) → AllByRecursion ItemFine ps → Part s (HeldIn s.locals) (Inner s) (block ps)
 block-fine s ps all = part-on (each ps) (λ ts. sure (tstmt.Block ts)) (items_part s ps all)
     (λ ts known. part-sure (tstmt.Block ts) (block_inner s ts (items_of s ts known)))
+
+-- a block of items in order
+pub record BlockIn (s : Scope) (t : TStmt) : Type 0 where
+  pub items : List TItem
+  pub is : out-TStmt t ≡ TStmt-F.Block items
+  pub in_order : Items s items
+
+block_in : (s : Scope) (ts : List TItem) → Items s ts → BlockIn s (tstmt.Block ts)
+unfolding given_typed
+block_in s ts items = record { items = ts; is = out-roll-TStmt (TStmt-F.Block ts); in_order = items }
+
+-- what holds of the body of a function
+pub record BodyFine (p : Judged TStmt) : Type 0 where
+  pub declares : Declares opens p
+  pub told : (s : Scope) → Part (wide s) Anything Any p
+  pub fine : (s : Scope) → Part s (HeldIn s.locals) (BlockIn s) p
+
+pub block-body : (ps : List (Judged TItem)) → AllByRecursion ItemFine ps → BodyFine (block ps)
+block-body ps all = record {
+  declares = block-declares ps all;
+  told = λ s. block-told s ps all;
+  fine = λ s. part-on (each ps) (λ ts. sure (tstmt.Block ts)) (items_part s ps all)
+      (λ ts known. part-sure (tstmt.Block ts) (block_in s ts (items_of s ts known)));
+}
 
 -- ---- statements
 
@@ -409,3 +434,11 @@ stmts_fine x y is = subst (λ x. StmtFine (statement (roll-Stmt x))) is (stmt_fi
 pub item-fine : (i : Item) → ItemFine (item_judged i)
 unfolding items_with stmts_with
 item-fine = ind-Item (λ i. ItemFine (item_judged i)) (λ s. StmtFine (statement s)) items_fine stmts_fine
+
+all_items : (is : List Item) → AllByRecursion ItemFine (map item_judged is)
+all_items [] = tt
+all_items (i ∷ is) = (item-fine i, all_items is)
+
+-- a block that breaks no rule is in order, as a body
+pub body-fine : (is : List Item) → BodyFine (statement (stmt.Block is)).body
+body-fine is = subst (λ (x : StmtSaid). BodyFine x.body) (sym (said-block is)) (block-body (map item_judged is) (all_items is))
