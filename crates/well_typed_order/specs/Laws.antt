@@ -19,3 +19,4 @@ pub mod Objects
 pub mod Parameters
 pub mod Heads
 pub mod Bodies
+pub mod Growth
