@@ -20,3 +20,5 @@ pub mod Parameters
 pub mod Heads
 pub mod Bodies
 pub mod Growth
+pub mod Walked
+pub mod Walk

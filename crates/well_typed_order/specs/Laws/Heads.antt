@@ -105,7 +105,7 @@ module _ (program : Program) (unit : ℕ) (names : FileNames) (j : Judgement) (f
 
   by_known : (r : Option Ty) (ts : Option (List Ty)) → (result_type f j.env).known ≡ r → (parameters_in j f).known ≡ ts →
       (head_by names j f r ts).faults ≡ [] → TextsIn s 0 (head_by names j f r ts).texts →
-      ((sig : Signature) → (is_void sig.result || is_scalar sig.result) ≡ true →
+      ((sig : Signature) → signature_of r ts ≡ Some sig → (is_void sig.result || is_scalar sig.result) ≡ true →
       MeansIn s (means.Function (function_callee names f.name) (Some sig))) → HeadFine s names j f r ts
   by_known None ts is its kept texts mean =
       let w = with_parameters j f in
@@ -139,7 +139,7 @@ module _ (program : Program) (unit : ℕ) (names : FileNames) (j : Judgement) (f
       let at_headed : At s headed = record { env = at_parameters.env; texts_are = at_parameters.texts_are } in
       let sig : Signature = record { result = r; params = ts } in
       let at_named = at-names s headed (binds f.name (means.Function (function_callee names f.name) (Some sig)) ∷ [])
-      (mean sig gives, tt) at_headed in
+      (mean sig refl gives, tt) at_headed in
       record {
         at = record { env = at_named.env; texts_are = at_named.texts_are };
         result = r;
@@ -155,7 +155,8 @@ module _ (program : Program) (unit : ℕ) (names : FileNames) (j : Judgement) (f
 
   -- where no rule is broken, and what its name means is there
   pub head-fine : (head_judged names j f).faults ≡ [] → TextsIn s 0 (head_judged names j f).texts →
-      ((sig : Signature) → (is_void sig.result || is_scalar sig.result) ≡ true →
+      ((sig : Signature) → signature_of (result_type f j.env).known (parameters_in j f).known ≡ Some sig →
+      (is_void sig.result || is_scalar sig.result) ≡ true →
       MeansIn s (means.Function (function_callee names f.name) (Some sig))) →
       HeadFine s names j f (result_type f j.env).known (parameters_in j f).known
   head-fine kept texts mean = by_known _ _ refl refl kept texts mean

@@ -73,7 +73,7 @@ module _ (s : Scope) (names : FileNames) (c : Storage) (j : Judgement) (d : Decl
 
   by_type : (o : Option Ty) → type_there.known ≡ o → (object_by names c j d o).faults ≡ [] →
       TextsIn s 0 (object_by names c j d o).texts →
-      ((t : Ty) → is_complete j.env.structs t ≡ true → MeansIn s (means.Object (object_place names d.name) (Some t))) →
+      ((t : Ty) → o ≡ Some t → is_complete j.env.structs t ≡ true → MeansIn s (means.Object (object_place names d.name) (Some t))) →
       ObjectFine s names c j d o
   by_type None is kept texts mean =
       let typed = with_outcome j type_there in
@@ -95,7 +95,7 @@ module _ (s : Scope) (names : FileNames) (c : Storage) (j : Judgement) (d : Decl
       let complete = kept-first d.span 15 (is_complete j.env.structs t) small
       (kept-rest d.span 19 no_main whole (kept-rest d.span 10 may (rule 19 no_main ∷ whole) own)) in
       let at_named : At s named = at-names s (with_outcome j type_there)
-      (binds d.name (means.Object (object_place names d.name) o) ∷ []) (mean t complete, tt) at_typed in
+      (binds d.name (means.Object (object_place names d.name) o) ∷ []) (mean t refl complete, tt) at_typed in
       let fits = at-good s named (initialised true o (init_of d)) (initialised-good s true d t) at_named complete
       (front read.faults _ kept) texts in
       let at_read = at-outcome s named i (no-names (MeansIn s) i.names (initialised-silent s true d o named.env)) at_named in
@@ -110,6 +110,7 @@ module _ (s : Scope) (names : FileNames) (c : Storage) (j : Judgement) (d : Decl
 
   -- where no rule is broken, and what its name means is there
   pub object-fine : (object_judged names c j d).faults ≡ [] → TextsIn s 0 (object_judged names c j d).texts →
-      ((t : Ty) → is_complete j.env.structs t ≡ true → MeansIn s (means.Object (object_place names d.name) (Some t))) →
+      ((t : Ty) → (declared_type d j.env).known ≡ Some t → is_complete j.env.structs t ≡ true →
+      MeansIn s (means.Object (object_place names d.name) (Some t))) →
       ObjectFine s names c j d (declared_type d j.env).known
   object-fine kept texts mean = by_type type_there.known refl kept texts mean

@@ -84,18 +84,18 @@ pub no-scope : (names : List Binding) → names ++ [] ≡ names
 no-scope [] = refl
 no-scope (x ∷ names) = ap (λ l. x ∷ l) (no-scope names)
 
-found_names : (G : Meaning → Type 0) (name : List ℕ) (names : List Binding) (scopes : List (List Binding)) (b : Binding) → Names G names →
+pub found-names : (G : Meaning → Type 0) (name : List ℕ) (names : List Binding) (scopes : List (List Binding)) (b : Binding) → Names G names →
     ((b : Binding) → in_scopes name scopes ≡ Some b → G b.means) → in_scopes name (with_innermost names scopes) ≡ Some b → G b.means
-found_names G name names [] b all old is =
+found-names G name names [] b all old is =
     found_first G name names [] None b all (λ b none. absurd cc)
     (subst (λ l. or_else (in_scope name l) None ≡ Some b) (sym (no-scope names)) is)
-found_names G name names (scope ∷ scopes) b all old is = found_first G name names scope (in_scopes name scopes) b all old is
+found-names G name names (scope ∷ scopes) b all old is = found_first G name names scope (in_scopes name scopes) b all old is
 
 -- behind a part whose names mean what is there
 pub env-named : {A : Type 0} (s : Scope) (env : Env) (o : Outcome A) → Names (MeansIn s) o.names → EnvIn env s → EnvIn (behind o env) s
 env-named s env o all inside = record {
   table = record { extends = inside.table.extends; objects = inside.table.objects; complete = inside.table.complete };
-  names = λ name b is. found_names (MeansIn s) name o.names env.scopes b all (inside.names name) is;
+  names = λ name b is. found-names (MeansIn s) name o.names env.scopes b all (inside.names name) is;
 }
 
 pub stands-behind : {A : Type 0} (s : Scope) (env : Env) (o : Outcome A) → Names (MeansIn s) o.names → Stands env s →
