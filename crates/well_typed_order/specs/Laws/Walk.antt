@@ -144,3 +144,104 @@ module _ (program : Program) (unit : ℕ) (names : FileNames) where
       by_storage false defines =
           let g : GlobalInfo = record { name = d.name; ty = u; local = is_static c; init = ps; span = d.span } in
           (g, in-back j (g ∷ []) g (zero, refl), refl)
+
+  left_more : (ds : List Declared) (e d : Declared) (globals more : List GlobalInfo) (functions other : List TFunction) →
+      (j after : Judgement) → after.globals ≡ j.globals ++ more → after.functions ≡ j.functions ++ other →
+      Left j d.kind d.name → Left after d.kind d.name
+  left_more ds e d globals more functions other j after gs fs left = by_kind d.kind left
+    where
+      by_kind : (k : Kind) → Left j k d.name → Left after k d.name
+      by_kind (AnObject t) (g, has, named) = (g, subst (λ gs. In gs g) (sym gs) (in-front j.globals more g has), named)
+      by_kind (AFunction sig) (f, has, named) = (f, subst (λ fs. In fs f) (sym fs) (in-front j.functions other f has), named)
+
+  all_empty : {A : Type 0} (xs : List A) → xs ≡ xs ++ []
+  all_empty [] = refl
+  all_empty (x ∷ xs) = ap (λ l. x ∷ l) (all_empty xs)
+
+  object_walked : (c : Storage) (j : Judgement) (d : Decl) → Sound here names (object_judged names c j d) → Walked program unit j →
+      Walked program unit (object_judged names c j d)
+  object_walked c j d sound walked =
+      let o = (declared_type d j.env).known in
+      let this = object_declared c d o in
+      let after = object_judged names c j d in
+      let fine = object-fine here names c j d walked.at sound.kept sound.texts
+      (λ t is complete. sound.tables.object this t (zero, refl) (ap AnObject is) (complete-object j.env.structs t complete)) in
+      let ps = pieces_in (object_begun names j d o).known in
+      record {
+        at = record { env = fine.at.env; texts_are = fine.at.texts_are };
+        ready = walked.ready;
+        kinds = kinds_more this j.declared (kind_of fine.ty o fine.known (complete-object j.env.structs fine.ty fine.complete))
+            walked.kinds;
+        globals = λ g has. either_global this j.declared j.globals (global_of c d o ps) (walked.globals)
+            (global_new c d o ps j.declared fine.pieces) g (in-split j.globals (global_of c d o ps) g has);
+        functions = λ f has. function_later this j.declared f (walked.functions f has);
+        left = object_left_all c d o ps fine.ty fine.known j after refl (sym (sym (all_empty j.functions))) walked.left;
+      }
+    where
+      either_global : (this : Declared) (ds : List Declared) (gs more : List GlobalInfo) →
+          ((g : GlobalInfo) → In gs g → GlobalFine here ds g) → ((g : GlobalInfo) → In more g → GlobalFine here (this ∷ ds) g) →
+          (g : GlobalInfo) → (In gs g) ⊎ (In more g) → GlobalFine here (this ∷ ds) g
+      either_global this ds gs more old new g (inl has) = global_later this ds g (old g has)
+      either_global this ds gs more old new g (inr has) = new g has
+
+      object_left_all : (c : Storage) (d : Decl) (o : Option Ty) (ps : List InitPiece) (t : Ty) → o ≡ Some t → (j after : Judgement) →
+          after.globals ≡ j.globals ++ global_of c d o ps → after.functions ≡ j.functions ++ [] →
+          ((e : Declared) → In j.declared e → e.defined ≡ true → Left j e.kind e.name) → (e : Declared) →
+          In (object_declared c d o ∷ j.declared) e → e.defined ≡ true → Left after e.kind e.name
+      object_left_all c d o ps t is j after gs fs old e (zero, same) defines =
+          let this = object_declared c d o in
+          let eq : this ≡ e = same_Some this e same in
+          subst (λ (e : Declared). e.defined ≡ true → Left after e.kind e.name) eq (λ defines.
+          subst (λ gs. (g : GlobalInfo) × In gs g × (g.name ≡ d.name)) (sym gs) (object_left j.globals c d t o ps is defines)) defines
+      object_left_all c d o ps t is j after gs fs old e (suc k, same) defines =
+          left_more j.declared e e j.globals (global_of c d o ps) j.functions [] j after gs fs (old e (k, same) defines)
+
+  objects_walked : (c : Storage) (j : Judgement) (ds : List Decl) → Sound here names (objects_judged names c j ds) →
+      Walked program unit j → Walked program unit (objects_judged names c j ds)
+  objects_walked c j [] sound walked = walked
+  objects_walked c j (d ∷ ds) sound walked =
+      let next = object_judged names c j d in
+      objects_walked c next ds sound
+      (object_walked c j d (sound-before here names next (objects_judged names c next ds) (grows-objects names c next ds) sound) walked)
+
+  -- ---- functions
+
+  kind_sig : (r : Ty) (ts : List Ty) (o : Option Ty) (os : Option (List Ty)) → o ≡ Some r → os ≡ Some ts →
+      (is_void r || is_scalar r) ≡ true → KindFine (AFunction (signature_of o os))
+  kind_sig r ts None os is its gives = absurd cc
+  kind_sig r ts (Some u) None is its gives = absurd cc
+  kind_sig r ts (Some u) (Some us) is its gives = subst (λ t. (is_void t || is_scalar t) ≡ true) (sym (same_Some u r is)) gives
+
+  sig_is : (r : Ty) (ts : List Ty) (o : Option Ty) (os : Option (List Ty)) → o ≡ Some r → os ≡ Some ts →
+      signature_of o os ≡ Some (record { result = r; params = ts })
+  sig_is r ts o os is its = ap (λ o. signature_of o os) is ∙ ap (λ os. signature_of (Some r) os) its
+
+  head_walked : (j : Judgement) (f : Function) → Sound here names (head_judged names j f) → Walked program unit j →
+      HeadFine here names j f (result_type f j.env).known (parameters_in j f).known
+  head_walked j f sound walked =
+      let this = function_declared f (signature_of (result_type f j.env).known (parameters_in j f).known) in
+      head-fine program unit names j f walked.at sound.kept sound.texts
+      (λ sig is gives. sound.tables.function this sig (zero, refl) (ap AFunction is) gives)
+
+  leb_zero : (n : ℕ) → leb n 0 ≡ true → n ≡ 0
+  leb_zero n is = let less : n ≤ 0 = leb-true n 0 is in omega (arith, less)
+
+  main_count : (f : Function) (r : Option Ty) → main_form f r ≡ true → bytes_eq f.name main_name ≡ true → length f.params ≡ 0
+  main_count f r form is = by_name (bytes_eq f.name main_name) is form
+    where
+      middle : (a b c : Bool) → (a && b && c) ≡ true → b ≡ true
+      middle true true c is = refl
+      middle true false c is = absurd cc
+      middle false b c is = absurd cc
+
+      by_name : (b : Bool) → b ≡ true →
+          (if b then is_int_in r && leb (length f.params) 0 && no (is_static f.storage) else true) ≡ true → length f.params ≡ 0
+      by_name true is form = leb_zero (length f.params)
+          (middle (is_int_in r) (leb (length f.params) 0) (no (is_static f.storage)) form)
+      by_name false is form = absurd cc
+
+  take_front : (n : ℕ) (xs ys : List LocalInfo) → length xs ≡ n → take n (xs ++ ys) ≡ xs
+  take_front zero [] ys is = refl
+  take_front zero (x ∷ xs) ys is = absurd (omega (arith, is))
+  take_front (suc n) [] ys is = absurd (omega (arith, is))
+  take_front (suc n) (x ∷ xs) ys is = ap (λ l. x ∷ l) (take_front n xs ys (omega (arith, is)))
