@@ -22,3 +22,4 @@ pub mod Bodies
 pub mod Growth
 pub mod Walked
 pub mod Walk
+pub mod Mentions
