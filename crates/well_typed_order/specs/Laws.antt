@@ -23,3 +23,4 @@ pub mod Growth
 pub mod Walked
 pub mod Walk
 pub mod Mentions
+pub mod Numbers
