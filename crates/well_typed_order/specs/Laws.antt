@@ -24,3 +24,4 @@ pub mod Walked
 pub mod Walk
 pub mod Mentions
 pub mod Numbers
+pub mod Names
