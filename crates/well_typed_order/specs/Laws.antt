@@ -25,3 +25,4 @@ pub mod Walk
 pub mod Mentions
 pub mod Numbers
 pub mod Names
+pub mod Lookups
