@@ -26,3 +26,5 @@ pub mod Mentions
 pub mod Numbers
 pub mod Names
 pub mod Lookups
+pub mod Files
+pub mod AsDeclared
