@@ -28,3 +28,4 @@ pub mod Names
 pub mod Lookups
 pub mod Files
 pub mod AsDeclared
+pub mod FileTables
