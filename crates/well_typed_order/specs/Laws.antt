@@ -29,3 +29,5 @@ pub mod Lookups
 pub mod Files
 pub mod AsDeclared
 pub mod FileTables
+pub mod Mains
+pub mod Programs
