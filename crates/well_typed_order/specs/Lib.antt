@@ -1,1 +1,4 @@
+pub mod Bodied
+pub mod Links
+pub mod WellTypedPrograms
 pub mod Laws

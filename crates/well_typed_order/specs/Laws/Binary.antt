@@ -1,6 +1,5 @@
 -- Binary operators keep expressions in order.
-use Rattle.std.proofs.Common.{◌≡◌, refl, sym, ◌∙◌, ap, subst, ℕ, Bool, true, false, ◌||◌, List, [], ◌∷◌, Option, Some}
-use Rattle.std.specs.Prelude.{IfSome}
+use Rattle.std.proofs.Common.{◌≡◌, refl, sym, ◌∙◌, ap, subst, ℕ, Bool, true, false, ◌||◌, List, [], ◌∷◌, Option, Some, None}
 use Rattle.c_ast.specs.declared.token.Span.{Span}
 use Rattle.c_ast.specs.declared.int_type.IntType.{IntType}
 use Rattle.c_ast.specs.declared.int_type.IntType.TheVariants as int
@@ -13,11 +12,13 @@ use Rattle.c_type_base.specs.declared.ty.Ty.TheOpen.{Ty-F}
 use Rattle.c_type_base.specs.declared.expr.TNode.TheVariants as node
 use Rattle.c_type_base.specs.declared.expr.TNode.TheOpen.{TNode-F}
 use Rattle.c_type_base.specs.declared.known.Constancy.{Constancy}
-use Rattle.c_type_base.specs.declared.known.Constancy.TheVariants.{Varies}
+use Rattle.c_type_base.specs.declared.known.Constancy.TheVariants.{Varies, DividesByZero, Is}
+use Rattle.c_type_base.specs.declared.known.Fixed.{Fixed}
 use Rattle.c_type_base.specs.declared.known.Known.{Known}
 use Rattle.c_type_base.specs.Arithmetic.{negated}
-use Rattle.c_type_base.specs.Constants.{forward}
+use Rattle.c_type_base.specs.Constants.{forward, moved}
 use Rattle.c_type_base.specs.Conversions.{promoted, usual}
+use Rattle.c_type_base.specs.Sizes.{size}
 use Rattle.c_type_base.specs.Types.{TyLayer, same_type, is_there, int_of_level, target_of_level, is_integer, is_pointer, is_scalar}
 use Rattle.c_type_base.specs.Types.{target_of}
 use Rattle.c_type_expr.specs.Environment.{Env}
@@ -31,12 +32,12 @@ use Rattle.c_type_expr.specs.Outcomes.{Outcome}
 use Rattle.block_meaning.specs.ExpressionsInOrder as order
 use Rattle.block_meaning.specs.ExpressionsInOrder.{Scope, HasValue, BinaryTypes, Arithmetic, Shift, Comparison, Logical, group_of}
 use Rattle.block_meaning.specs.ExpressionsInOrder.{int_type}
-use Rattle.well_typed_order.specs.Laws.Known.{KnownIn, ValueIn, known_by, int-plain, pointer-plain, converted-in}
+use Rattle.well_typed_order.specs.Laws.Known.{There, KnownIn, ValueIn, known_by, valued, FixedIn, int-plain, pointer-plain, converted-in}
 use Rattle.c_type_base.specs.Laws.SameLaws.{one-type}
 
--- a construct without faults is in order, where it is known
+-- a construct without faults is known, and in order
 abbrev pub Keeps : Scope → Outcome Known → Type 0
-Keeps s o = o.faults ≡ [] → IfSome o.known (KnownIn s)
+Keeps s o = o.faults ≡ [] → There o.known (KnownIn s)
 
 -- ---- rules
 
@@ -47,6 +48,11 @@ kept-first span n false rs is = absurd cc
 pub kept-rest : (span : Span) (n : ℕ) (b : Bool) (rs : List Rule) → broken span (rule n b ∷ rs) ≡ [] → broken span rs ≡ []
 kept-rest span n true rs is = is
 kept-rest span n false rs is = absurd cc
+
+-- no construct keeps a rule that is broken
+pub never-kept : (span : Span) (n m : ℕ) (b : Bool) → broken span (rule n b ∷ rule m false ∷ []) ≡ [] → ⊥
+never-kept span n m true is = absurd cc
+never-kept span n m false is = absurd cc
 
 -- ---- sorts
 
@@ -133,12 +139,20 @@ compares_in : {s : Scope} (o : BinaryOperator) (span : Span) (a b : Known) (c : 
 unfolding given_typed
 compares_in o span a b c has = known_by (compares o span a b c) refl has (int-plain int.Int) (λ n is. int-integer int.Int)
 
+-- an address that is moved is one of the same object
+pub moved-fixed : (s : Scope) (sign : ℕ → ℕ) (bytes : ℕ) (o : Option Fixed) (c : Constancy) → FixedIn s o →
+    FixedIn s (moved sign bytes o c)
+moved-fixed s sign bytes None c fixed = tt
+moved-fixed s sign bytes (Some f) Varies fixed = tt
+moved-fixed s sign bytes (Some f) DividesByZero fixed = tt
+moved-fixed s sign bytes (Some f) (Is n) fixed = fixed
+
 moved_in : {s : Scope} (o : BinaryOperator) (span : Span) (sign : ℕ → ℕ) (u : Ty) (p i a b : Known) (env : Env) →
-    is_pointer p.tree.ty ≡ true → HasValue s p.tree.ty (TNode-F.Binary o a.tree b.tree) →
+    FixedIn s p.fixed → is_pointer p.tree.ty ≡ true → HasValue s p.tree.ty (TNode-F.Binary o a.tree b.tree) →
     Keeps s (pointer_row span sign u p i (node.Binary o a.tree b.tree) env)
 unfolding given_typed
-moved_in o span sign u p i a b env is has kept =
-    known_by _ refl has (pointer-plain p.tree.ty is) (λ n c. absurd cc)
+moved_in {s = s} o span sign u p i a b env fixed is has kept =
+    valued _ refl (moved-fixed s sign (size env.structs u) p.fixed i.constant fixed) has (pointer-plain p.tree.ty is) (λ n c. absurd cc)
 
 sum_in : {s : Scope} (span : Span) (a b : Known) (env : Env) → ValueIn s a → ValueIn s b → (x y : Sort) → sort_of a ≡ x →
     sort_of b ≡ y → Keeps s (sum span a b x y env)
@@ -146,10 +160,10 @@ sum_in span a b env of_a of_b (Integer i) (Integer j) is its kept =
     integers_in binary.Add span (usual i j) (usual i j) a b of_a of_b (sort-integer a i is) (sort-integer b j its)
     (order.arithmetic refl (int-integer (usual i j)))
 sum_in span a b env of_a of_b (Points u) (Integer j) is its kept =
-    moved_in binary.Add span forward u a b a b env (sort-pointer a u is)
+    moved_in binary.Add span forward u a b a b env of_a.fixed (sort-pointer a u is)
     (order.operated of_a.has of_b.has (order.added (sort-pointer a u is) (sort-integer b j its))) kept
 sum_in span a b env of_a of_b (Integer i) (Points w) is its kept =
-    moved_in binary.Add span forward w b a a b env (sort-pointer b w its)
+    moved_in binary.Add span forward w b a a b env of_b.fixed (sort-pointer b w its)
     (order.operated of_a.has of_b.has (order.added_to (sort-integer a i is) (sort-pointer b w its))) kept
 sum_in span a b env of_a of_b _ _ is its kept = absurd cc
 
@@ -168,7 +182,7 @@ difference_in span a b env of_a of_b (Integer i) (Integer j) is its kept =
     integers_in binary.Subtract span (usual i j) (usual i j) a b of_a of_b (sort-integer a i is) (sort-integer b j its)
     (order.arithmetic refl (int-integer (usual i j)))
 difference_in span a b env of_a of_b (Points u) (Integer j) is its kept =
-    moved_in binary.Subtract span negated u a b a b env (sort-pointer a u is)
+    moved_in binary.Subtract span negated u a b a b env of_a.fixed (sort-pointer a u is)
     (order.operated of_a.has of_b.has (order.taken (sort-pointer a u is) (sort-integer b j its))) kept
 difference_in span a b env of_a of_b (Points u) (Points w) is its kept = distance_in span u w a b env of_a of_b is its kept
 difference_in span a b env of_a of_b _ _ is its kept = absurd cc

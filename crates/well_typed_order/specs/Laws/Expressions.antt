@@ -1,7 +1,6 @@
 -- An expression that keeps all rules is in order, where the names in scope mean what is there.
 use Rattle.std.proofs.Common.{◌≡◌, refl, sym, subst, ℕ, ◌+◌, arith, false, List, [], ◌∷◌, ◌++◌, length, map}
 use Rattle.std.proofs.Common.{Option, Some, None}
-use Rattle.std.specs.Prelude.{IfSome}
 use Rattle.std.specs.List.{AllByRecursion}
 use Rattle.std.proofs.lemmas.Option.{same_Some}
 use Rattle.c_ast.specs.Laws.Opened.{given_trees}
@@ -15,7 +14,7 @@ use Rattle.c_ast.specs.declared.operator.BinaryOperator.{BinaryOperator}
 use Rattle.c_ast.specs.declared.operator.AssignOperator.{AssignOperator}
 use Rattle.c_ast.specs.declared.expr.CType.{CType, roll-CType, map-CType}
 use Rattle.c_ast.specs.declared.expr.CType.TheOpen.{CType-F, Node-F, Expr-F}
-use Rattle.c_ast.specs.declared.expr.CType.TheFolds.{fold-Node, fold-roll-CType, fold-roll-Node, fold_out-Expr, ind-Expr}
+use Rattle.c_ast.specs.declared.expr.CType.TheFolds.{fold-Node, fold-roll-CType, fold-roll-Node, fold_out-Expr, ind-CType, ind-Expr}
 use Rattle.c_ast.specs.declared.expr.Expr.{Expr, roll-Expr, map-Expr}
 use Rattle.c_ast.specs.declared.expr.Node.{Node, roll-Node, map-Node}
 use Rattle.c_type_base.specs.Laws.Opened.{given_types, given_typed}
@@ -24,43 +23,48 @@ use Rattle.c_type_base.specs.declared.ty.Ty.TheVariants as ty
 use Rattle.c_type_base.specs.declared.expr.Callee.{Callee}
 use Rattle.c_type_base.specs.declared.known.Known.{Known}
 use Rattle.c_type_base.specs.declared.known.Written.{Written}
+use Rattle.c_type_base.specs.declared.known.Written.TheVariants.{Whole, Open}
+use Rattle.c_type_base.specs.declared.typed.Target.{Target}
+use Rattle.c_type_base.specs.declared.typed.Target.TheVariants as target
+use Rattle.c_type_base.specs.declared.typed.Typed.{Typed}
 use Rattle.c_type_base.specs.Known.{value}
-use Rattle.c_type_base.specs.Types.{is_void, struct_of}
+use Rattle.c_type_base.specs.Types.{is_void, int_of, struct_of}
+use Rattle.c_type_expr.specs.Faults.{rule}
 use Rattle.c_type_expr.specs.declared.scopes.Binding.{Binding}
 use Rattle.c_type_expr.specs.declared.scopes.Called.{Called}
 use Rattle.c_type_expr.specs.declared.scopes.Meaning.{Meaning}
 use Rattle.c_type_expr.specs.declared.scopes.Meaning.TheVariants as means
 use Rattle.c_type_expr.specs.declared.scopes.Signature.{Signature}
-use Rattle.c_type_expr.specs.Environment.{Env, in_scopes}
+use Rattle.c_type_expr.specs.Environment.{Env, target_at, in_scopes}
 use Rattle.c_type_expr.specs.Expressions.{unary_row, cast_row, assign_row, step_row, in_parentheses, sizeof_row, sizeof_type}
 use Rattle.c_type_expr.specs.Expressions.{index_of, arrow_of, node_step, expr_step, expression, written}
 use Rattle.c_type_expr.specs.Operators.{sort_of, binary_judged, cond_judged}
 use Rattle.c_type_expr.specs.Outcomes.{Judged, sure, both, each, on}
-use Rattle.c_type_expr.specs.Postfix.{member_row, call_row, call_known, not_called, function_in, call_by, meaning_by}
+use Rattle.c_type_expr.specs.Postfix.{member_row, call_row, call_known, all_values, not_called_row, not_called, function_in, call_by, meaning_by}
 use Rattle.c_type_expr.specs.Postfix.{argument}
 use Rattle.c_type_expr.specs.Said.{Said, NodeSaid, type_step, judged_length, length_known, pointer_to, array_of, whole}
-use Rattle.c_type_expr.specs.Said.{constant_known, object_known, eof_value, meaning_of, name_row, variable, text_known, text}
+use Rattle.c_type_expr.specs.Said.{constant_known, fixed_at, is_length, length_in, tag_of, object_known, eof_value, meaning_of, name_row, variable, text_known, text}
 use Rattle.block_meaning.specs.ExpressionsInOrder as order
 use Rattle.block_meaning.specs.ExpressionsInOrder.{Scope, HasValue, Designates, file_of}
 use Rattle.block_meaning.specs.Locals.{text_of}
-use Rattle.well_typed_order.specs.Laws.Binary.{Keeps, binary-in, int-integer}
-use Rattle.well_typed_order.specs.Laws.Good.{MeansIn, EnvIn, TextsIn, Silent, Good, silent-on, good-on, silent-both, good-both, good-sure}
-use Rattle.well_typed_order.specs.Laws.Good.{good-none, good-more, silent-either, good-any}
-use Rattle.well_typed_order.specs.Laws.Known.{KnownIn, ValueIn, known_by, int-plain, value-in}
+use Rattle.well_typed_order.specs.Laws.Binary.{Keeps, never-kept, binary-in, int-integer}
+use Rattle.well_typed_order.specs.Laws.Good.{Inside, NoMore, MeansIn, EnvIn, TextsIn, Silent, Good, silent-on, good-on, silent-both, good-both, good-sure}
+use Rattle.well_typed_order.specs.Laws.Good.{get-within, good-none, good-more, good-either, good-never}
+use Rattle.well_typed_order.specs.Laws.Known.{There, TargetIn, AddressIn, FixedIn, KnownIn, ValueIn, known_by, int-plain, value-in}
 use Rattle.well_typed_order.specs.Laws.Postfix.{index-in, member-in, arrow-in, call-in}
 use Rattle.well_typed_order.specs.Laws.Silent.{binary-silent, unary-silent, assign-silent, step-silent, cond-silent, index-silent}
 use Rattle.well_typed_order.specs.Laws.Silent.{member-silent}
 use Rattle.well_typed_order.specs.Laws.Silent.{arrow-silent, name-silent, pointer-silent, array-silent, tag-silent, whole-silent}
-use Rattle.well_typed_order.specs.Laws.Unary.{lvalue-in, unary-in, cast-in, sizeof-in, sizeof-name-in, assign-in, step-in, cond-in}
+use Rattle.well_typed_order.specs.Laws.Unary.{lvalue-in, if-kept, unary-in, cast-in, sizeof-in, sizeof-name-in, assign-in, step-in, cond-in}
 
 abbrev TypeSaid : Type 0
 TypeSaid = Span → Judged Written
 
--- a type that is written adds no name
-abbrev TypeGood : TypeSaid → Type 0
-TypeGood t = (span : Span) → Silent (t span)
-
 module _ (s : Scope) where
+  -- a type that is written adds no name, and is known
+  abbrev pub TypeGood : TypeSaid → Type 0
+  TypeGood t = (span : Span) → Good s (λ (w : Written). Unit {0}) (t span)
+
   abbrev NodeGood : NodeSaid → Type 0
   NodeGood n = (span : Span) → Good s (KnownIn s) (n.judged span)
 
@@ -69,28 +73,53 @@ module _ (s : Scope) where
 
   -- a row that keeps expressions in order
   keeps_good : (p : Judged Known) → Silent p → ((env : Env) → EnvIn env s → Keeps s (p env)) → Good s (KnownIn s) p
-  keeps_good p silent keeps = record { silent = silent; holds = λ env inside kept texts. keeps env inside kept }
+  keeps_good p silent keeps = record { silent = silent; holds = λ env inside kept texts. keeps env inside.here kept }
 
   -- ---- types
 
+  tag_holds : (span : Span) (next : ℕ) (o : Option ℕ) (env : Env) → (tag_of span next o env).faults ≡ [] →
+      There (tag_of span next o env).known (λ (w : Written). Unit {0})
+  tag_holds span next None env kept = tt
+  tag_holds span next (Some number) env kept = tt
+
   struct_good : (tag : List ℕ) → TypeGood (type_step (CType-F.Struct tag))
-  struct_good tag span env = tag-silent span _ _ env
+  struct_good tag span = record {
+    silent = λ env. tag-silent span _ _ env;
+    holds = λ env inside kept texts. tag_holds span _ _ env kept;
+  }
+
+  pointer_row : (span : Span) (w : Written) → Good s (λ (w : Written). Unit {0}) (pointer_to span w)
+  pointer_row span (Open t) = good-never (pointer_to span (Open t)) (pointer-silent span (Open t)) (λ env is. absurd cc)
+  pointer_row span (Whole t) =
+      record { silent = pointer-silent span (Whole t); holds = λ env inside kept texts. tt }
+
+  array_row : (span : Span) (n : Option ℕ) (w : Written) → Good s (λ (w : Written). Unit {0}) (array_of span n w)
+  array_row span n (Open t) = good-never (array_of span n (Open t)) (array-silent span n (Open t)) (λ env is. absurd cc)
+  array_row span None (Whole t) = record { silent = array-silent span None (Whole t); holds = λ env inside kept texts. tt }
+  array_row span (Some n) (Whole t) = record { silent = array-silent span (Some n) (Whole t); holds = λ env inside kept texts. tt }
+
+  whole_row : (span : Span) (w : Written) → Good s (λ (t : Ty). Unit {0}) (whole span w)
+  whole_row span (Whole t) = good-sure t tt
+  whole_row span (Open t) = good-never (whole span (Open t)) (whole-silent span (Open t)) (λ env is. absurd cc)
 
   pointer_good : (t : TypeSaid) → TypeGood t → TypeGood (type_step (CType-F.Pointer t))
-  pointer_good t good span = silent-on (t span) (pointer_to span) (good span) (pointer-silent span)
+  pointer_good t good span = good-on (t span) (pointer_to span) (good span) (pointer-silent span) (λ w known. pointer_row span w)
 
   open_good : (t : TypeSaid) → TypeGood t → TypeGood (type_step (CType-F.Array t None))
-  open_good t good span = silent-on (t span) (array_of span None) (good span) (array-silent span None)
+  open_good t good span = good-on (t span) (array_of span None) (good span) (array-silent span None) (λ w known. array_row span None w)
 
-  length_silent : (e : Said) → SaidGood e → Silent (judged_length e)
-  length_silent e good = silent-either e.judged _ (length_known e.span) good.silent (λ env. refl) (λ k env. refl)
+  length_good : (e : Said) → SaidGood e → Good s (λ (n : ℕ). Unit {0}) (judged_length e)
+  length_good e good = good-either e.judged _ (length_known e.span) good (λ env. refl) (λ k env. refl)
+      (λ k known. record { silent = λ env. refl; holds = λ env inside kept texts. if-kept (λ (n : ℕ). Unit {0}) e.span
+      (rule 12 (is_length (int_of k.tree.ty) k.constant) ∷ []) (length_in k.constant) kept tt })
 
   array_good : (t : TypeSaid) (e : Said) → TypeGood t → SaidGood e → TypeGood (type_step (CType-F.Array t (Some e)))
-  array_good t e good length span = silent-on (both (judged_length e) (t span)) _
-      (silent-both (judged_length e) (t span) (length_silent e length) (good span)) (λ v. array-silent span (Some v.0) v.1)
+  array_good t e good length span = good-on (both (judged_length e) (t span)) _
+      (good-both (judged_length e) (t span) (length_good e length) (good span)) (λ v. array-silent span (Some v.0) v.1)
+      (λ v known. array_row span (Some v.0) v.1)
 
-  whole_good : (t : TypeSaid) → TypeGood t → (span : Span) → Silent (on (t span) (whole span))
-  whole_good t good span = silent-on (t span) (whole span) (good span) (whole-silent span)
+  whole_good : (t : TypeSaid) → TypeGood t → (span : Span) → Good s (λ (t : Ty). Unit {0}) (on (t span) (whole span))
+  whole_good t good span = good-on (t span) (whole span) (good span) (whole-silent span) (λ w known. whole_row span w)
 
   -- ---- names, constants and texts
 
@@ -105,11 +134,16 @@ module _ (s : Scope) where
   unfolding given_types
   char_array_object n = refl
 
+  text_there : (o : Option Typed) (number : ℕ) (bytes : List ℕ) → text_of o number ≡ Some bytes → TargetIn o (target.Text number)
+  text_there None number bytes is = absurd cc
+  text_there (Some u) number bytes is = get-within u.texts number bytes is
+
   text_in : (span : Span) (bytes : List ℕ) (number : ℕ) → text_of (file_of s) number ≡ Some bytes →
       KnownIn s (text_known span (length bytes) number)
   unfolding given_typed
   text_in span bytes number is =
-      lvalue-in (text_known span (length bytes) number) refl refl (order.text is) (char_array_object (length bytes))
+      lvalue-in (text_known span (length bytes) number) refl refl (text_there (file_of s) number bytes is) (order.text is)
+      (char_array_object (length bytes))
 
   text_good : (bytes : List ℕ) (span : Span) → Good s (KnownIn s) (text bytes span)
   text_good bytes span = record {
@@ -119,8 +153,13 @@ module _ (s : Scope) where
         text_in span bytes env.texts (subst (λ n. text_of (file_of s) n ≡ Some bytes) same (texts 0 bytes refl));
   }
 
+  fixed_there : (o : Option Target) → AddressIn s o → FixedIn s (fixed_at o)
+  fixed_there None is = tt
+  fixed_there (Some t) is = is
+
   object_in : (span : Span) (place : _) (t : Ty) → MeansIn s (means.Object place (Some t)) → KnownIn s (object_known span place t)
-  object_in span place t is = lvalue-in (object_known span place t) refl refl is.0 is.1
+  object_in span place t is =
+      lvalue-in (object_known span place t) refl refl (fixed_there (target_at place) is.address) is.designates is.object
 
   name_holds : (span : Span) (o : Option Binding) (env : Env) → ((b : Binding) → o ≡ Some b → MeansIn s b.means) →
       Keeps s (name_row span (meaning_of o) env)
@@ -129,14 +168,14 @@ module _ (s : Scope) where
     where
       meaning_holds : (m : Meaning) → MeansIn s m → Keeps s (name_row span (Some m) env)
       meaning_holds (means.Object place (Some t)) is kept = object_in span place t is
-      meaning_holds (means.Object place None) is kept = tt
+      meaning_holds (means.Object place None) is kept = absurd is
       meaning_holds (means.Function callee signature) is kept = absurd cc
       meaning_holds means.Eof is kept = constant_in span eof_value int.Int
 
   variable_good : (name : List ℕ) (span : Span) → Good s (KnownIn s) (variable name span)
   variable_good name span = record {
     silent = λ env. name-silent span (meaning_of (in_scopes name env.scopes)) env;
-    holds = λ env inside kept texts. name_holds span (in_scopes name env.scopes) env (λ b is. inside.names name b is) kept;
+    holds = λ env inside kept texts. name_holds span (in_scopes name env.scopes) env (λ b is. inside.here.names name b is) kept;
   }
 
   -- ---- nodes with parts
@@ -148,6 +187,7 @@ module _ (s : Scope) where
     gives = λ is plain. order.paren (known.gives is plain);
     object = known.object;
     integer = known.integer;
+    fixed = known.fixed;
   }
 
   paren_good : (e : Said) → SaidGood e → NodeGood (node_step (Node-F.Paren e))
@@ -179,7 +219,7 @@ module _ (s : Scope) where
 
   cast_good : (t : TypeSaid) (e : Said) → TypeGood t → SaidGood e → NodeGood (node_step (Node-F.Cast t e))
   cast_good t e of_t of_e span = good-on (both (on (t span) (whole span)) e.judged) _
-      (good-both (on (t span) (whole span)) e.judged (good-any (on (t span) (whole span)) (whole_good t of_t span)) of_e) (λ v env. refl)
+      (good-both (on (t span) (whole span)) e.judged (whole_good t of_t span) of_e) (λ v env. refl)
       (λ v known. keeps_good (cast_row span v.0 (value v.1)) (λ env. refl) (λ env inside.
       cast-in span v.0 (value v.1) env (value-in v.1 known.1)))
 
@@ -189,7 +229,7 @@ module _ (s : Scope) where
 
   sizeof_name_good : (t : TypeSaid) → TypeGood t → NodeGood (node_step (Node-F.SizeofName t))
   sizeof_name_good t good span = good-on (on (t span) (whole span)) (sizeof_type span)
-      (good-any (on (t span) (whole span)) (whole_good t good span)) (λ t env. refl)
+      (whole_good t good span) (λ t env. refl)
       (λ t known. keeps_good (sizeof_type span t) (λ env. refl) (λ env inside. sizeof-name-in s span t env))
 
   index_good : (a i : Said) → SaidGood a → SaidGood i → NodeGood (node_step (Node-F.Index a i))
@@ -228,9 +268,9 @@ module _ (s : Scope) where
 
   row_good : (span : Span) (f : Callee) (sig : Option Signature) → MeansIn s (means.Function f sig) → (ks : List Known) →
       AllByRecursion (ValueIn s) ks → Good s (KnownIn s) (call_row span f sig ks)
-  row_good span f None is ks all = record { silent = λ env. refl; holds = λ env inside kept texts. tt }
+  row_good span f None is ks all = absurd is
   row_good span f (Some sig) is ks all =
-      keeps_good (call_known span f sig ks) (λ env. refl) (λ env inside. call-in span f sig ks env is.0 is.1 all)
+      keeps_good (call_known span f sig ks) (λ env. refl) (λ env inside. call-in span f sig ks env is.callable is.plain all)
 
   called_good : (span : Span) (called : Called) (es : List Said) → AllByRecursion SaidGood es →
       MeansIn s (means.Function called.callee called.signature) →
@@ -242,7 +282,7 @@ module _ (s : Scope) where
       Good s (KnownIn s) (not_called span f.judged (each (map argument es)))
   not_called_good span f es good all = good-on (both f.judged (each (map argument es))) _
       (good-both f.judged (each (map argument es)) good (arguments_good es all)) (λ v env. refl)
-      (λ v known. record { silent = λ env. refl; holds = λ env inside kept texts. tt })
+      (λ v known. good-never (not_called_row span v.0 v.1) (λ env. refl) (λ env kept. never-kept span 12 13 (all_values v.1) kept))
 
   function_means : (o : Option Binding) → ((b : Binding) → o ≡ Some b → MeansIn s b.means) → (called : Called) →
       function_in (meaning_of o) ≡ Some called → MeansIn s (means.Function called.callee called.signature)
@@ -269,13 +309,13 @@ module _ (s : Scope) where
   call_silent span f es good all (Some called) = silent-on (each (map argument es)) (call_row span called.callee called.signature)
       (arguments_good es all).silent (row_silent span called.callee called.signature)
 
-  call_holds : (span : Span) (f : Said) (es : List Said) → SaidGood f → AllByRecursion SaidGood es → (env : Env) → EnvIn env s →
+  call_holds : (span : Span) (f : Said) (es : List Said) → SaidGood f → AllByRecursion SaidGood es → (env : Env) → Inside NoMore env s →
       (o : Option Called) → function_in (meaning_by f.name env) ≡ o →
       let p = call_by span o f.judged (each (map argument es)) in
-      (p env).faults ≡ [] → TextsIn s env.texts (p env).texts → IfSome (p env).known (KnownIn s)
+      (p env).faults ≡ [] → TextsIn s env.texts (p env).texts → There (p env).known (KnownIn s)
   call_holds span f es good all env inside None is kept texts = (not_called_good span f es good all).holds env inside kept texts
   call_holds span f es good all env inside (Some called) is kept texts =
-      (called_good span called es all (called_means f.name env inside called is)).holds env inside kept texts
+      (called_good span called es all (called_means f.name env inside.here called is)).holds env inside kept texts
 
   call_good : (f : Said) (es : List Said) → SaidGood f → AllByRecursion SaidGood es → NodeGood (node_step (Node-F.Call f es))
   call_good f es good all span = record {
@@ -316,8 +356,8 @@ module _ (s : Scope) where
 
   type_good : (y : CType-F WithType WithNode WithExpr) → TypeGood (written (roll-CType (types_with y)))
   unfolding types_with
-  type_good CType-F.Void = type_is CType-F.Void (λ span env. refl)
-  type_good (CType-F.Int t) = type_is (CType-F.Int t) (λ span env. refl)
+  type_good CType-F.Void = type_is CType-F.Void (λ span. good-sure (Whole ty.Void) tt)
+  type_good (CType-F.Int t) = type_is (CType-F.Int t) (λ span. good-sure (Whole (ty.Int t)) tt)
   type_good (CType-F.Struct tag) = type_is (CType-F.Struct tag) (struct_good tag)
   type_good (CType-F.Pointer t) = type_is (CType-F.Pointer t.0) (pointer_good (written t.0) t.1)
   type_good (CType-F.Array t None) = type_is (CType-F.Array t.0 None) (open_good (written t.0) t.1)
@@ -370,3 +410,13 @@ module _ (s : Scope) where
   unfolding types_with nodes_with exprs_with
   expression-good = ind-Expr (λ t. TypeGood (written t)) (λ n. NodeGood (said_node n)) (λ e. SaidGood (expression e)) types_good nodes_good
       exprs_good
+
+  -- and a type that is written is known
+  pub written-good : (t : CType) (span : Span) → Good s (λ (w : Written). Unit {0}) (written t span)
+  unfolding types_with nodes_with exprs_with
+  written-good = ind-CType (λ t. TypeGood (written t)) (λ n. NodeGood (said_node n)) (λ e. SaidGood (expression e)) types_good nodes_good
+      exprs_good
+
+  -- one without open brackets
+  pub whole-good : (t : CType) (span : Span) → Good s (λ (t : Ty). Unit {0}) (on (written t span) (whole span))
+  whole-good t span = whole_good (written t) (written-good t) span

@@ -1,12 +1,13 @@
 -- Initialisers of locals that keep all rules are in order.
 use Rattle.std.proofs.Common.{◌≡◌, refl, sym, ◌∙◌, ap, subst, ℕ, suc, ◌+◌, arith, Bool, true, false, ◌&&◌, ◌||◌, List, [], ◌∷◌, ◌++◌}
 use Rattle.std.proofs.Common.{map, Option, Some, None, slice_get}
-use Rattle.std.specs.Prelude.{IfSome, if◌then◌else◌, ltb, ◌%◌, ◌^◌, ◌*◌}
+use Rattle.std.specs.Prelude.{if◌then◌else◌, flat_map, ltb, ◌%◌, ◌^◌, ◌*◌}
 use Rattle.std.specs.List.{AllByRecursion}
 use Rattle.std.proofs.lemmas.Option.{same_Some}
 use Rattle.c_ast.specs.Laws.Opened.{given_trees}
 use Rattle.c_ast.specs.Tree.{NodeLayer}
 use Rattle.c_ast.specs.declared.token.Span.{Span}
+use Rattle.c_ast.specs.declared.int_type.IntType.{IntType}
 use Rattle.c_ast.specs.declared.int_type.IntType.TheVariants as int
 use Rattle.c_ast.specs.declared.expr.CType.TheOpen.{Node-F}
 use Rattle.c_ast.specs.declared.expr.CType.TheFolds.{fold-Node, fold-roll-Node, fold_out-Expr}
@@ -16,7 +17,7 @@ use Rattle.c_ast.specs.declared.declaration.Init.TheOpen.{Init-F}
 use Rattle.c_ast.specs.declared.declaration.Init.TheFolds.{fold-roll-Init, ind-Init}
 use Rattle.c_ast.specs.declared.expr.Node.{Node, out-Node, roll-Node, roll-out-Node}
 use Rattle.c_type_base.specs.Laws.Opened.{given_types, given_typed}
-use Rattle.c_type_base.specs.Laws.SizeLaws.{complete-struct}
+use Rattle.c_type_base.specs.Laws.SizeLaws.{complete-struct, complete-int, complete-array}
 use Rattle.c_type_base.specs.Layout.{members_of, first_scalar}
 use Rattle.c_type_base.specs.Sizes.{size, is_complete, complete_struct}
 use Rattle.c_type_base.specs.declared.ty.Ty.{Ty, out-Ty, roll-Ty, roll-out-Ty}
@@ -27,7 +28,15 @@ use Rattle.c_type_base.specs.declared.expr.TNode.TheOpen.{TNode-F}
 use Rattle.c_type_base.specs.declared.statement.TInit.{TInit, out-TInit, out-roll-TInit}
 use Rattle.c_type_base.specs.declared.statement.TInit.TheVariants as tinit
 use Rattle.c_type_base.specs.declared.statement.TInit.TheOpen.{TInit-F}
+use Rattle.c_type_base.specs.declared.typed.InitPiece.{InitPiece}
+use Rattle.c_type_base.specs.declared.typed.InitValue.{InitValue}
+use Rattle.c_type_base.specs.declared.typed.InitValue.TheVariants as initial
 use Rattle.c_type_base.specs.declared.typed.MemberInfo.{MemberInfo}
+use Rattle.c_type_base.specs.declared.typed.StructInfo.{StructInfo}
+use Rattle.c_type_base.specs.declared.typed.Target.{Target}
+use Rattle.c_type_base.specs.declared.known.Constancy.{Constancy}
+use Rattle.c_type_base.specs.declared.known.Constancy.TheVariants.{Varies, DividesByZero, Is}
+use Rattle.c_type_base.specs.declared.known.Fixed.{Fixed}
 use Rattle.c_type_base.specs.declared.known.Known.{Known}
 use Rattle.c_type_base.specs.declared.known.Written.{Written}
 use Rattle.c_type_base.specs.Known.{value, assignable, is_value, is_null}
@@ -35,26 +44,28 @@ use Rattle.c_type_base.specs.Types.{TyLayer, is_there, element_of_level, struct_
 use Rattle.c_type_base.specs.Types.{is_integer, is_pointer, is_struct, is_array, same_type, element_of, struct_of}
 use Rattle.c_type_expr.specs.Environment.{Env}
 use Rattle.c_type_expr.specs.Expressions.{node_step, expr_step, expression}
-use Rattle.c_type_expr.specs.Faults.{rule}
+use Rattle.c_type_expr.specs.Faults.{rule, fault}
 use Rattle.c_type_expr.specs.Operators.{breaks}
-use Rattle.c_type_expr.specs.Outcomes.{Judged, listed, each, behind, sure, not_known, both, on, either, asked}
+use Rattle.c_type_expr.specs.Outcomes.{Judged, continued, ruled, listed, each, behind, sure, not_known, both, on, either, asked}
 use Rattle.c_type_expr.specs.Said.{Said, NodeSaid, type_step, text}
 use Rattle.c_type_stmt.specs.declared.fitted.Fitted.{Fitted}
 use Rattle.c_type_stmt.specs.declared.initial.Slot.{Slot}
 use Rattle.c_type_stmt.specs.Initials.{loose_all, moved_fitted, too_many, fit_all, tree_of, member_slot, in_braces, is_zero_list, zero_list}
 use Rattle.c_type_stmt.specs.Initials.{is_aggregate_slot, list_by, slots, init_step, initialiser}
+use Rattle.c_type_stmt.specs.Initials.{piece, moved_piece, number_piece, address_value, address_piece, pointer_piece, scalar_piece}
+use Rattle.c_type_stmt.specs.Initials.{byte_pieces, first_of, pieces_of}
 use Rattle.c_type_stmt.specs.Initials.{InitSaid, spelled, array_by, assigned, may_begin, may_fit, expression_for}
 use Rattle.block_meaning.specs.ExpressionsInOrder.{Scope, file_of}
 use Rattle.block_meaning.specs.Locals.{text_of}
 use Rattle.block_meaning.specs.StatementsInOrder as order
 use Rattle.block_meaning.specs.StatementsInOrder.{Initialises, Elements, Members}
-use Rattle.well_typed_order.specs.Laws.Binary.{kept-first, kept-rest}
+use Rattle.well_typed_order.specs.Laws.Binary.{never-kept, kept-first, kept-rest}
 use Rattle.well_typed_order.specs.Laws.Expressions.{expression-good}
-use Rattle.well_typed_order.specs.Laws.Good.{EnvIn, TextsIn, Silent, Good, good-on, good-both, good-sure, good-either, good-never, good-any}
-use Rattle.well_typed_order.specs.Laws.Good.{none-after, silent-on, silent-both, front, texts-front}
+use Rattle.well_typed_order.specs.Laws.Good.{EnvIn, TextsIn, Silent, Inside, NoMore, GoodIf, Good, good-if, good-from, good-on, good-both, good-sure}
+use Rattle.well_typed_order.specs.Laws.Good.{good-either, good-never, good-none, good-more, none-after, silent-on, silent-both, front, texts-front}
 use Rattle.well_typed_order.specs.Laws.Postfix.{TableIn}
-use Rattle.well_typed_order.specs.Laws.Known.{ValueIn, Into, assignable-in, value-in}
-use Rattle.well_typed_order.specs.Laws.Types.{and_first}
+use Rattle.well_typed_order.specs.Laws.Known.{There, TargetIn, AddressIn, FixedIn, ValueIn, Into, assignable-in, value-in}
+use Rattle.well_typed_order.specs.Laws.Types.{and_first, and_second}
 
 module _ (s : Scope) where
   -- ---- a text alone
@@ -101,15 +112,61 @@ module _ (s : Scope) where
 
   -- ---- what an object is initialised with
 
-  abbrev pub FitsIn : Ty → Fitted → Type 0
-  FitsIn t f = Initialises s t (out-TInit f.tree)
+  -- the first bytes of an object that lives from the start: what an address is of is there
+  abbrev pub InitialIn : InitValue → Type 0
+  InitialIn (initial.Number n bytes) = Unit {0}
+  InitialIn (initial.Address t offset) = TargetIn (file_of s) t
+
+  abbrev pub PieceIn : InitPiece → Type 0
+  PieceIn p = InitialIn p.value
+
+  pub record FitsIn (t : Ty) (f : Fitted) : Type 0 where
+    pub tree : Initialises s t (out-TInit f.tree)
+    pub pieces : AllByRecursion PieceIn f.pieces
+
+  bytes_in : (offset : ℕ) (bs : List ℕ) → AllByRecursion PieceIn (byte_pieces offset bs)
+  bytes_in offset [] = tt
+  bytes_in offset (b ∷ bs) = (tt, bytes_in (offset + 1) bs)
+
+  number_in : (t : IntType) (c : Constancy) → AllByRecursion PieceIn (number_piece t c)
+  number_in t Varies = tt
+  number_in t DividesByZero = tt
+  number_in t (Is n) = (tt, tt)
+
+  address_in : (t : Option Target) (offset : ℕ) → AddressIn s t → InitialIn (address_value t offset)
+  address_in None offset is = tt
+  address_in (Some t) offset is = is
+
+  fixed_in : (o : Option Fixed) → FixedIn s o → AllByRecursion PieceIn (address_piece o)
+  fixed_in None is = tt
+  fixed_in (Some f) is = (address_in f.target f.offset is, tt)
+
+  pointer_in : (null : Bool) (o : Option Fixed) → FixedIn s o → AllByRecursion PieceIn (pointer_piece null o)
+  pointer_in true o is = (tt, tt)
+  pointer_in false o is = fixed_in o is
+
+  scalar_in : (l : TyLayer) (k : Known) → FixedIn s k.fixed → AllByRecursion PieceIn (scalar_piece l k)
+  scalar_in Ty-F.Void k is = tt
+  scalar_in (Ty-F.Int t) k is = number_in t k.constant
+  scalar_in (Ty-F.Pointer t) k is = pointer_in (is_null k) k.fixed is
+  scalar_in (Ty-F.Array t n) k is = tt
+  scalar_in (Ty-F.Struct n) k is = tt
+
+  moved_in : (by : ℕ) (ps : List InitPiece) → AllByRecursion PieceIn ps → AllByRecursion PieceIn (map (moved_piece by) ps)
+  moved_in by [] all = tt
+  moved_in by (p ∷ ps) all = (all.0, moved_in by ps all.1)
+
+  joined_in : (ps qs : List InitPiece) → AllByRecursion PieceIn ps → AllByRecursion PieceIn qs → AllByRecursion PieceIn (ps ++ qs)
+  joined_in [] qs all more = more
+  joined_in (p ∷ ps) qs all more = (all.0, joined_in ps qs all.1 more)
 
   spelled_good : (span : Span) (t element : Ty) (n : ℕ) (bytes : List ℕ) → element_of t ≡ Some element → (k : Known) → IsText bytes k →
       Good s (FitsIn t) (spelled span n bytes k)
   unfolding given_typed
   spelled_good span t element n bytes is k text = record {
     silent = λ env. refl;
-    holds = λ env inside kept texts. order.text is text.node_is text.there;
+    holds = λ env inside kept texts.
+        record { tree = order.text is text.node_is text.there; pieces = bytes_in 0 (first_of n bytes) };
   }
 
   array_good : (span : Span) (t element : Ty) (n : ℕ) → element_of t ≡ Some element → (e : Expr) (o : Option (List ℕ)) →
@@ -117,11 +174,13 @@ module _ (s : Scope) where
   array_good span t element n is e (Some bytes) text true = good-on (expression e).judged (spelled span n bytes) (text-good e bytes text)
       (λ k env. refl) (spelled_good span t element n bytes is)
   array_good span t element n is e (Some bytes) text false = good-either (expression e).judged (breaks 16 span) _ (expression-good s e)
-      (good-never (breaks 16 span) (λ env. refl) (λ env. refl)) (λ k env. refl)
-      (λ k known. good-never _ (λ env. refl) (λ env. refl))
+      (λ env. refl) (λ k env. refl)
+      (λ k known. good-never (asked span (rule 12 (is_value k) ∷ rule 16 false ∷ [])) (λ env. refl)
+      (λ env kept. never-kept span 12 16 (is_value k) kept))
   array_good span t element n is e None text b = good-either (expression e).judged (breaks 16 span) _ (expression-good s e)
-      (good-never (breaks 16 span) (λ env. refl) (λ env. refl)) (λ k env. refl)
-      (λ k known. good-never _ (λ env. refl) (λ env. refl))
+      (λ env. refl) (λ k env. refl)
+      (λ k known. good-never (asked span (rule 12 (is_value k) ∷ rule 16 false ∷ [])) (λ env. refl)
+      (λ env kept. never-kept span 12 16 (is_value k) kept))
 
   -- ---- an expression for a scalar or a struct
 
@@ -136,38 +195,43 @@ module _ (s : Scope) where
   one_init t k true is into kinds = order.scalar is into.value.has into.is
   one_init t k false is into kinds = order.struct_value kinds into.value.has into.is
 
-  assigned_good : (span : Span) (t : Ty) (k : Known) → ValueIn s k → Good s (FitsIn t) (assigned span false t k)
+  assigned_good : (span : Span) (b : Bool) (t : Ty) (k : Known) → ValueIn s k → Good s (FitsIn t) (assigned span b t k)
   unfolding given_typed
-  assigned_good span t k value = record {
+  assigned_good span b t k value = record {
     silent = λ env. refl;
     holds = λ env inside kept texts.
-        let rules = rule 16 (assignable t k && may_begin false t k) ∷ [] in
-        let both = kept-first span 16 (assignable t k && may_begin false t k) [] (kept-rest span 12 (is_value k) rules kept) in
-        let fits = and_first (assignable t k) (may_begin false t k) both in
-        one_init t _ (is_scalar t) refl (assignable-in k t value fits)
-        (or_kinds (is_integer t) (is_pointer t) (is_struct t) (is_integer k.tree.ty)
-        (same_type t k.tree.ty || is_null k) (same_type t k.tree.ty) fits);
+        let rules = rule 16 (assignable t k && may_begin b t k) ∷ [] in
+        let both = kept-first span 16 (assignable t k && may_begin b t k) [] (kept-rest span 12 (is_value k) rules kept) in
+        let fits = and_first (assignable t k) (may_begin b t k) both in
+        record {
+          tree = one_init t _ (is_scalar t) refl (assignable-in k t value fits)
+              (or_kinds (is_integer t) (is_pointer t) (is_struct t) (is_integer k.tree.ty)
+              (same_type t k.tree.ty || is_null k) (same_type t k.tree.ty) fits);
+          pieces = scalar_in (out-Ty t) k value.fixed;
+        };
   }
 
-  plain_good : (e : Expr) (t : Ty) (l : TyLayer) → Good s (FitsIn t)
-      (either (expression e).judged (asked (expression e).span (rule 16 (may_fit false (expression e).computes l) ∷ []))
-      (λ k. assigned (expression e).span false t (value k)))
-  plain_good e t l = good-either (expression e).judged _ _ (expression-good s e) (good-never _ (λ env. refl) (λ env. refl))
-      (λ k env. refl) (λ k known. assigned_good (expression e).span t (value k) (value-in k known))
+  plain_good : (e : Expr) (b : Bool) (t : Ty) (l : TyLayer) → Good s (FitsIn t)
+      (either (expression e).judged (asked (expression e).span (rule 16 (may_fit b (expression e).computes l) ∷ []))
+      (λ k. assigned (expression e).span b t (value k)))
+  plain_good e b t l = good-either (expression e).judged _ _ (expression-good s e) (λ env. refl)
+      (λ k env. refl) (λ k known. assigned_good (expression e).span b t (value k) (value-in k known))
 
-  expression_for_good : (e : Expr) (t : Ty) (l : TyLayer) → out-Ty t ≡ l → Good s (FitsIn t) (expression_for (expression e) false t l)
-  expression_for_good e t (Ty-F.Array element n) is =
+  expression_for_good : (e : Expr) (b : Bool) (t : Ty) (l : TyLayer) → out-Ty t ≡ l →
+      Good s (FitsIn t) (expression_for (expression e) b t l)
+  expression_for_good e b t (Ty-F.Array element n) is =
       array_good (expression e).span t element n (ap element_of_level is) e (expression e).text refl (is_char_type element)
-  expression_for_good e t Ty-F.Void is = plain_good e t Ty-F.Void
-  expression_for_good e t (Ty-F.Int i) is = plain_good e t (Ty-F.Int i)
-  expression_for_good e t (Ty-F.Pointer u) is = plain_good e t (Ty-F.Pointer u)
-  expression_for_good e t (Ty-F.Struct n) is = plain_good e t (Ty-F.Struct n)
+  expression_for_good e b t Ty-F.Void is = plain_good e b t Ty-F.Void
+  expression_for_good e b t (Ty-F.Int i) is = plain_good e b t (Ty-F.Int i)
+  expression_for_good e b t (Ty-F.Pointer u) is = plain_good e b t (Ty-F.Pointer u)
+  expression_for_good e b t (Ty-F.Struct n) is = plain_good e b t (Ty-F.Struct n)
 
   -- ---- lists
 
+  -- where an initialiser breaks no rule, it fits an object of a complete type
   pub record InitGood (i : InitSaid) : Type 0 where
-    pub loose : Silent i.loose
-    pub fits : (t : Ty) → Good s (FitsIn t) (i.fitted false t)
+    pub loose : Good s (λ (x : Unit {0}). Unit {0}) i.loose
+    pub fits : (b : Bool) (t : Ty) → GoodIf (λ structs. is_complete structs t ≡ true) s (FitsIn t) (i.fitted b t)
 
   abbrev SlotFits : Option Slot → Fitted → Type 0
   SlotFits None f = ⊥
@@ -178,36 +242,60 @@ module _ (s : Scope) where
   FitsFrom slot k [] = Unit {0}
   FitsFrom slot k (f ∷ fs) = SlotFits (slot k) f × FitsFrom slot (k + 1) fs
 
+  -- places have complete types
+  abbrev Wholes : (ℕ → Option Slot) → List StructInfo → Type 0
+  Wholes slot structs = (k : ℕ) (x : Slot) → slot k ≡ Some x → is_complete structs x.ty ≡ true
+
+  loose_good : (is : List InitSaid) → AllByRecursion InitGood is → Good s (AllByRecursion (λ (x : Unit {0}). Unit {0})) (loose_all is)
+  loose_good [] all = good-none
+  loose_good (i ∷ is) all = good-more i.loose (map (λ i. i.loose) is) all.0.loose (loose_good is all.1)
+
   loose_silent : (is : List InitSaid) → AllByRecursion InitGood is → Silent (loose_all is)
-  loose_silent [] all env = refl
-  loose_silent (i ∷ is) all env =
-      none-after (loose_all is (behind (i.loose env) env)).names (i.loose env).names (loose_silent is all.1 (behind (i.loose env) env))
-      (all.0.loose env)
+  loose_silent is all = (loose_good is all).silent
 
   many_silent : (i : InitSaid) (is : List InitSaid) → InitGood i → AllByRecursion InitGood is → Silent (both (too_many i) (loose_all is))
-  many_silent i is good all = silent-both (too_many i) (loose_all is) good.loose (loose_silent is all)
+  many_silent i is good all = silent-both (too_many i) (loose_all is) good.loose.silent (loose_silent is all)
 
-  abbrev fit_rest : (ℕ → Option Slot) → ℕ → InitSaid → List InitSaid → Option Slot → Judged (List Fitted)
-  fit_rest slot k i is o = elim o [
+  not_none : {A : Type 0} (xs : List A) (x : A) → xs ++ x ∷ [] ≡ [] → ⊥
+  not_none [] x is = absurd cc
+  not_none (y ∷ xs) x is = absurd cc
+
+  many_never : (i : InitSaid) (is : List InitSaid) (env : Env) → (both (too_many i) (loose_all is) env).faults ≡ [] → ⊥
+  many_never i is env kept = not_none (i.loose env).faults (fault 16 i.span) (front (too_many i env).faults _ kept)
+
+  abbrev fit_rest : (ℕ → Option Slot) → Bool → ℕ → InitSaid → List InitSaid → Option Slot → Judged (List Fitted)
+  fit_rest slot b k i is o = elim o [
     | None ↦ on (both (too_many i) (loose_all is)) (λ x. not_known)
-    | Some s ↦ on (both (i.fitted false s.ty) (fit_all slot false (k + 1) is)) (λ (f, fs). sure (moved_fitted s.offset f ∷ fs))
+    | Some s ↦ on (both (i.fitted b s.ty) (fit_all slot b (k + 1) is)) (λ (f, fs). sure (moved_fitted s.offset f ∷ fs))
   ]
 
-  rest_good : (slot : ℕ → Option Slot) (k : ℕ) (i : InitSaid) (is : List InitSaid) → InitGood i → AllByRecursion InitGood is →
-      Good s (FitsFrom slot (k + 1)) (fit_all slot false (k + 1) is) → (o : Option Slot) → slot k ≡ o →
-      Good s (FitsFrom slot k) (fit_rest slot k i is o)
-  rest_good slot k i is good all rest None same = good-on (both (too_many i) (loose_all is)) _
-      (good-any (both (too_many i) (loose_all is)) (many_silent i is good all)) (λ x env. refl)
-      (λ x known. good-never not_known (λ env. refl) (λ env. refl))
-  rest_good slot k i is good all rest (Some x) same = good-on (both (i.fitted false x.ty) (fit_all slot false (k + 1) is)) _
-      (good-both (i.fitted false x.ty) (fit_all slot false (k + 1) is) (good.fits x.ty) rest) (λ v env. refl)
-      (λ v known. good-sure (moved_fitted x.offset v.0 ∷ v.1)
-      (subst (λ o. SlotFits o (moved_fitted x.offset v.0)) (sym same) known.0, known.1))
+  on_never : {A B : Type 0} (p : Judged A) (f : A → Judged B) → ((env : Env) → (p env).faults ≡ [] → ⊥) → (env : Env) →
+      (on p f env).faults ≡ [] → ⊥
+  on_never p f never env = by_known (p env).known
+    where
+      by_known : (o : Option _) → (continued (p env) o f env).faults ≡ [] → ⊥
+      by_known None kept = never env kept
+      by_known (Some v) kept = never env (front (p env).faults _ kept)
 
-  all_good : (slot : ℕ → Option Slot) (k : ℕ) (is : List InitSaid) → AllByRecursion InitGood is →
-      Good s (FitsFrom slot k) (fit_all slot false k is)
-  all_good slot k [] all = good-sure [] tt
-  all_good slot k (i ∷ is) all = rest_good slot k i is all.0 all.1 (all_good slot (k + 1) is all.1) (slot k) refl
+  rest_good : (slot : ℕ → Option Slot) (b : Bool) (k : ℕ) (i : InitSaid) (is : List InitSaid) → InitGood i →
+      AllByRecursion InitGood is → GoodIf (Wholes slot) s (FitsFrom slot (k + 1)) (fit_all slot b (k + 1) is) → (o : Option Slot) →
+      slot k ≡ o → GoodIf (Wholes slot) s (FitsFrom slot k) (fit_rest slot b k i is o)
+  rest_good slot b k i is good all rest None same =
+      good-never (on (both (too_many i) (loose_all is)) (λ x. not_known {A = List Fitted}))
+      (silent-on (both (too_many i) (loose_all is)) (λ x. not_known {A = List Fitted}) (many_silent i is good all) (λ x env. refl))
+      (on_never (both (too_many i) (loose_all is)) (λ x. not_known {A = List Fitted}) (many_never i is))
+  rest_good slot b k i is good all rest (Some x) same = good-on (both (i.fitted b x.ty) (fit_all slot b (k + 1) is)) _
+      (good-both (i.fitted b x.ty) (fit_all slot b (k + 1) is)
+      (good-from (λ structs. is_complete structs x.ty ≡ true) (Wholes slot) (i.fitted b x.ty) (λ env inside whole. whole k x same)
+      (good.fits b x.ty)) rest) (λ v env. refl)
+      (λ v known. good-sure (moved_fitted x.offset v.0 ∷ v.1)
+      (subst (λ o. SlotFits o (moved_fitted x.offset v.0)) (sym same)
+      (record { tree = known.0.tree; pieces = moved_in x.offset v.0.pieces known.0.pieces }), known.1))
+
+  all_good : (slot : ℕ → Option Slot) (b : Bool) (k : ℕ) (is : List InitSaid) → AllByRecursion InitGood is →
+      GoodIf (Wholes slot) s (FitsFrom slot k) (fit_all slot b k is)
+  all_good slot b k [] all = good-sure [] tt
+  all_good slot b k (i ∷ is) all = rest_good slot b k i is all.0 all.1 (all_good slot b (k + 1) is all.1) (slot k) refl
 
   -- an initialiser of an int is one of an array or struct as the 0 of `{0}`
   int_no_array : (is_array (ty.Int int.Int) || is_struct (ty.Int int.Int)) ≡ false
@@ -243,7 +331,7 @@ module _ (s : Scope) where
   slot_element : (element : Ty) (f : Fitted) (o : Option Slot) → ((x : Slot) → o ≡ Some x → x.ty ≡ element) → SlotFits o f →
       Initialises s element (out-TInit f.tree)
   slot_element element f None all fits = absurd fits
-  slot_element element f (Some x) all fits = subst (λ t. Initialises s t (out-TInit f.tree)) (all x refl) fits
+  slot_element element f (Some x) all fits = subst (λ t. Initialises s t (out-TInit f.tree)) (all x refl) fits.tree
 
   elements_in : (slot : ℕ → Option Slot) (element : Ty) → ((k : ℕ) (x : Slot) → slot k ≡ Some x → x.ty ≡ element) → (k : ℕ)
       (fs : List Fitted) → FitsFrom slot k fs → Elements s element (map tree_of fs)
@@ -259,7 +347,7 @@ module _ (s : Scope) where
   slot_member : (f : Fitted) (m : MemberInfo) (o : Option MemberInfo) → o ≡ Some m → SlotFits (member_slot o) f →
       Initialises s m.ty (out-TInit f.tree)
   slot_member f m None is fits = absurd fits
-  slot_member f m (Some n) is fits = subst (λ (m : MemberInfo). Initialises s m.ty (out-TInit f.tree)) (same_Some n m is) fits
+  slot_member f m (Some n) is fits = subst (λ (m : MemberInfo). Initialises s m.ty (out-TInit f.tree)) (same_Some n m is) fits.tree
 
   members_in : (ms rest : List MemberInfo) (k : ℕ) → ((j : ℕ) → slice_get ms (k + j) ≡ slice_get rest j) → (fs : List Fitted) →
       FitsFrom (λ k. member_slot (slice_get ms k)) k fs → Members s rest (map tree_of fs)
@@ -288,53 +376,79 @@ module _ (s : Scope) where
   OneFits t (f ∷ []) = FitsIn t f
   OneFits t (f ∷ g ∷ fs) = ⊥
 
-  one_listed : (t : Ty) (o : Option Fitted) → IfSome o (FitsIn t) → IfSome (listed o (Some [])) (OneFits t)
-  one_listed t None holds = tt
+  one_listed : (t : Ty) (o : Option Fitted) → There o (FitsIn t) → There (listed o (Some [])) (OneFits t)
+  one_listed t None holds = holds
   one_listed t (Some f) holds = holds
 
-  one_good : (t : Ty) (p : Judged Fitted) → Good s (FitsIn t) p → Good s (OneFits t) (each (p ∷ []))
+  one_good : {M : List StructInfo → Type 0} (t : Ty) (p : Judged Fitted) → GoodIf M s (FitsIn t) p →
+      GoodIf M s (OneFits t) (each (p ∷ []))
   one_good t p good = record {
     silent = λ env. good.silent env;
     holds = λ env inside kept texts. one_listed t (p env).known (good.holds env inside (front (p env).faults [] kept)
         (texts-front s env.texts (p env).texts [] texts));
   }
 
-  slot_there : (slot : ℕ → Option Slot) (o : Option Slot) → slot 0 ≡ o → is_aggregate_slot o ≡ true → (f : Fitted) →
-      FitsIn (ty.Int int.Int) f → SlotFits o f
-  slot_there slot None same kinds f fits = absurd cc
-  slot_there slot (Some x) same kinds f fits = zero_fits (ty.Int int.Int) x.ty (out-TInit f.tree) refl kinds fits
+  slot_there : (o : Option Slot) → is_aggregate_slot o ≡ true → (f : Fitted) → FitsIn (ty.Int int.Int) f → SlotFits o f
+  slot_there None kinds f fits = absurd cc
+  slot_there (Some x) kinds f fits =
+      record { tree = zero_fits (ty.Int int.Int) x.ty (out-TInit f.tree) refl kinds fits.tree; pieces = fits.pieces }
 
   zero_made : (t : Ty) (span : Span) (bytes : ℕ) (slot : ℕ → Option Slot) → ListFits t span slot → is_aggregate_slot (slot 0) ≡ true →
-      (fs : List Fitted) → OneFits (ty.Int int.Int) fs → Initialises s t (out-TInit (tinit.List (map tree_of fs) span))
+      (fs : List Fitted) → OneFits (ty.Int int.Int) fs →
+      FitsIn t (record { tree = tinit.List (map tree_of fs) span; pieces = piece 0 (initial.Number 0 bytes) ∷ [] })
   zero_made t span bytes slot fits kinds [] one = absurd one
-  zero_made t span bytes slot fits kinds (f ∷ []) one =
-      braces_in t span (map tree_of (f ∷ [])) (fits (f ∷ []) (slot_there slot (slot 0) refl kinds f one, tt))
+  zero_made t span bytes slot fits kinds (f ∷ []) one = record {
+    tree = braces_in t span (map tree_of (f ∷ [])) (fits (f ∷ []) (slot_there (slot 0) kinds f one, tt));
+    pieces = (tt, tt);
+  }
   zero_made t span bytes slot fits kinds (f ∷ g ∷ fs) one = absurd one
 
-  zero_good : (t : Ty) (span : Span) (bytes : ℕ) (is : List InitSaid) → AllByRecursion InitGood is → is_zero_list is ≡ true →
-      (slot : ℕ → Option Slot) → ListFits t span slot → is_aggregate_slot (slot 0) ≡ true → Good s (FitsIn t) (zero_list span is bytes)
+  int_complete : (structs : List StructInfo) → is_complete structs (ty.Int int.Int) ≡ true
+  int_complete structs = complete-int structs int.Int
+
+  zero_good : {M : List StructInfo → Type 0} (t : Ty) (span : Span) (bytes : ℕ) (is : List InitSaid) → AllByRecursion InitGood is →
+      is_zero_list is ≡ true → (slot : ℕ → Option Slot) → ListFits t span slot → is_aggregate_slot (slot 0) ≡ true →
+      GoodIf M s (FitsIn t) (zero_list span is bytes)
   zero_good t span bytes [] all zeros slot fits kinds = absurd cc
-  zero_good t span bytes (i ∷ []) all zeros slot fits kinds =
+  zero_good {M = M} t span bytes (i ∷ []) all zeros slot fits kinds =
       good-on (each (i.fitted false (ty.Int int.Int) ∷ [])) _
-      (one_good (ty.Int int.Int) (i.fitted false (ty.Int int.Int)) (all.0.fits (ty.Int int.Int)))
+      (one_good (ty.Int int.Int) (i.fitted false (ty.Int int.Int))
+      (good-from (λ structs. is_complete structs (ty.Int int.Int) ≡ true) M (i.fitted false (ty.Int int.Int))
+      (λ env inside more. int_complete env.structs) (all.0.fits false (ty.Int int.Int))))
       (λ fs env. refl) (λ fs one. good-sure _ (zero_made t span bytes slot fits kinds fs one))
   zero_good t span bytes (i ∷ j ∷ is) all zeros slot fits kinds = absurd cc
 
-  list_if : (t : Ty) (span : Span) (bytes : ℕ) (is : List InitSaid) → AllByRecursion InitGood is → (slot : ℕ → Option Slot) →
-      ListFits t span slot → (a b : Bool) → is_zero_list is ≡ a → is_aggregate_slot (slot 0) ≡ b →
-      Good s (FitsIn t) (if a && b then zero_list span is bytes else on (fit_all slot false 0 is) (λ fs. sure (in_braces span fs)))
-  list_if t span bytes is all slot fits true true zeros kinds = zero_good t span bytes is all zeros slot fits kinds
-  list_if t span bytes is all slot fits true false zeros kinds =
-      good-on (fit_all slot false 0 is) _ (all_good slot 0 is all) (λ fs env. refl)
-      (λ fs known. good-sure (in_braces span fs) (braces_in t span (map tree_of fs) (fits fs known)))
-  list_if t span bytes is all slot fits false b zeros kinds =
-      good-on (fit_all slot false 0 is) _ (all_good slot 0 is all) (λ fs env. refl)
-      (λ fs known. good-sure (in_braces span fs) (braces_in t span (map tree_of fs) (fits fs known)))
+  pieces_in : (slot : ℕ → Option Slot) (k : ℕ) (fs : List Fitted) → FitsFrom slot k fs → AllByRecursion PieceIn (flat_map pieces_of fs)
+  pieces_in slot k [] fits = tt
+  pieces_in slot k (f ∷ fs) fits =
+      joined_in f.pieces (flat_map pieces_of fs) (slot_pieces (slot k) f fits.0) (pieces_in slot (k + 1) fs fits.1)
+    where
+      slot_pieces : (o : Option Slot) (f : Fitted) → SlotFits o f → AllByRecursion PieceIn f.pieces
+      slot_pieces None f fits = absurd fits
+      slot_pieces (Some x) f fits = fits.pieces
 
-  list_by_good : (t : Ty) (span : Span) (bytes : ℕ) (is : List InitSaid) → AllByRecursion InitGood is → (slot : ℕ → Option Slot) →
-      ListFits t span slot → Good s (FitsIn t) (list_by span is false bytes (Some slot))
-  list_by_good t span bytes is all slot fits =
-      list_if t span bytes is all slot fits (is_zero_list is) (is_aggregate_slot (slot 0)) refl refl
+  braced : (t : Ty) (span : Span) (slot : ℕ → Option Slot) → ListFits t span slot → (fs : List Fitted) → FitsFrom slot 0 fs →
+      FitsIn t (in_braces span fs)
+  braced t span slot fits fs known =
+      record { tree = braces_in t span (map tree_of fs) (fits fs known); pieces = pieces_in slot 0 fs known }
+
+  plain_list : (t : Ty) (span : Span) (b : Bool) (is : List InitSaid) → AllByRecursion InitGood is → (slot : ℕ → Option Slot) →
+      ListFits t span slot → GoodIf (Wholes slot) s (FitsIn t) (on (fit_all slot b 0 is) (λ fs. sure (in_braces span fs)))
+  plain_list t span b is all slot fits = good-on (fit_all slot b 0 is) _ (all_good slot b 0 is all) (λ fs env. refl)
+      (λ fs known. good-sure (in_braces span fs) (braced t span slot fits fs known))
+
+  list_if : (t : Ty) (span : Span) (b : Bool) (bytes : ℕ) (is : List InitSaid) → AllByRecursion InitGood is → (slot : ℕ → Option Slot) →
+      ListFits t span slot → (x y : Bool) → is_zero_list is ≡ x → is_aggregate_slot (slot 0) ≡ y →
+      GoodIf (Wholes slot) s (FitsIn t)
+      (if x && y then zero_list span is bytes else on (fit_all slot b 0 is) (λ fs. sure (in_braces span fs)))
+  list_if t span b bytes is all slot fits true true zeros kinds = zero_good t span bytes is all zeros slot fits kinds
+  list_if t span b bytes is all slot fits true false zeros kinds = plain_list t span b is all slot fits
+  list_if t span b bytes is all slot fits false y zeros kinds = plain_list t span b is all slot fits
+
+  list_by_good : (t : Ty) (span : Span) (b : Bool) (bytes : ℕ) (is : List InitSaid) → AllByRecursion InitGood is →
+      (slot : ℕ → Option Slot) → ListFits t span slot → GoodIf (Wholes slot) s (FitsIn t) (list_by span is b bytes (Some slot))
+  list_by_good t span b bytes is all slot fits =
+      list_if t span b bytes is all slot fits (is_zero_list is) (is_aggregate_slot (slot 0)) refl refl
 
   -- ---- lists, by what they are for
 
@@ -343,39 +457,40 @@ module _ (s : Scope) where
   fitted_silent (i ∷ is) all env =
       let a = i.fitted false (ty.Int int.Int) env in
       none-after (each (map (λ i. i.fitted false (ty.Int int.Int)) is) (behind a env)).names a.names
-      (fitted_silent is all.1 (behind a env)) ((all.0.fits (ty.Int int.Int)).silent env)
+      (fitted_silent is all.1 (behind a env)) ((all.0.fits false (ty.Int int.Int)).silent env)
 
-  list_silent : (span : Span) (bytes : ℕ) (is : List InitSaid) → AllByRecursion InitGood is → (slot : ℕ → Option Slot) → (b : Bool) →
-      Silent (if b then zero_list span is bytes else on (fit_all slot false 0 is) (λ fs. sure (in_braces span fs)))
-  list_silent span bytes is all slot true = silent-on (each (map (λ i. i.fitted false (ty.Int int.Int)) is)) _ (fitted_silent is all)
+  list_silent : (span : Span) (b : Bool) (bytes : ℕ) (is : List InitSaid) → AllByRecursion InitGood is → (slot : ℕ → Option Slot) →
+      (x : Bool) → Silent (if x then zero_list span is bytes else on (fit_all slot b 0 is) (λ fs. sure (in_braces span fs)))
+  list_silent span b bytes is all slot true = silent-on (each (map (λ i. i.fitted false (ty.Int int.Int)) is)) _ (fitted_silent is all)
       (λ fs env. refl)
-  list_silent span bytes is all slot false = silent-on (fit_all slot false 0 is) _ (all_good slot 0 is all).silent (λ fs env. refl)
+  list_silent span b bytes is all slot false = silent-on (fit_all slot b 0 is) _ (all_good slot b 0 is all).silent (λ fs env. refl)
 
-  by_silent : (span : Span) (bytes : ℕ) (is : List InitSaid) → AllByRecursion InitGood is → (o : Option (ℕ → Option Slot)) →
-      Silent (list_by span is false bytes o)
-  by_silent span bytes is all None = silent-on (loose_all is) _ (loose_silent is all) (λ x env. refl)
-  by_silent span bytes is all (Some slot) = list_silent span bytes is all slot (is_zero_list is && is_aggregate_slot (slot 0))
+  by_silent : (span : Span) (b : Bool) (bytes : ℕ) (is : List InitSaid) → AllByRecursion InitGood is → (o : Option (ℕ → Option Slot)) →
+      Silent (list_by span is b bytes o)
+  by_silent span b bytes is all None = silent-on (loose_all is) _ (loose_silent is all) (λ x env. refl)
+  by_silent span b bytes is all (Some slot) = list_silent span b bytes is all slot (is_zero_list is && is_aggregate_slot (slot 0))
 
-  for_silent : (span : Span) (t : Ty) (is : List InitSaid) → AllByRecursion InitGood is → (env : Env) (b : Bool) →
+  for_silent : (span : Span) (from : Bool) (t : Ty) (is : List InitSaid) → AllByRecursion InitGood is → (env : Env) (b : Bool) →
       (if b then on (loose_all is) (λ x. not_known {A = Fitted}) env
-      else list_by span is false (first_scalar env.structs t) (slots env.structs (out-Ty t)) env).names ≡ []
-  for_silent span t is all env true = silent-on (loose_all is) (λ x. not_known) (loose_silent is all) (λ x env. refl) env
-  for_silent span t is all env false = by_silent span (first_scalar env.structs t) is all (slots env.structs (out-Ty t)) env
+      else list_by span is from (first_scalar env.structs t) (slots env.structs (out-Ty t)) env).names ≡ []
+  for_silent span from t is all env true = silent-on (loose_all is) (λ x. not_known) (loose_silent is all) (λ x env. refl) env
+  for_silent span from t is all env false =
+      by_silent span from (first_scalar env.structs t) is all (slots env.structs (out-Ty t)) env
 
-  nowhere_good : (t : Ty) (span : Span) (bytes : ℕ) (is : List InitSaid) → AllByRecursion InitGood is →
-      Good s (FitsIn t) (list_by span is false bytes None)
-  nowhere_good t span bytes is all = good-on (loose_all is) _ (good-any (loose_all is) (loose_silent is all)) (λ x env. refl)
-      (λ x known. good-never (breaks 16 span) (λ env. refl) (λ env. refl))
+  nowhere_good : {M : List StructInfo → Type 0} (t : Ty) (span : Span) (b : Bool) (bytes : ℕ) (is : List InitSaid) →
+      AllByRecursion InitGood is → GoodIf M s (FitsIn t) (list_by span is b bytes None)
+  nowhere_good t span b bytes is all = good-on (loose_all is) _ (good-if (loose_all is) (loose_good is all)) (λ x env. refl)
+      (λ x known. good-never (breaks 16 span) (λ env. refl) (λ env is. absurd cc))
 
   slot_is : (b : Bool) (element : Ty) (offset : ℕ) (x : Slot) →
       ◌≡◌ {A = Option Slot} (if b then Some (record { ty = element; offset = offset }) else None) (Some x) → x.ty ≡ element
   slot_is true element offset x is = ap (λ (x : Slot). x.ty) (sym (same_Some (record { ty = element; offset = offset }) x is))
   slot_is false element offset x is = absurd cc
 
-  struct_complete : (a b : Bool) → (a && (if b then false else true)) ≡ false → a ≡ true → b ≡ true
-  struct_complete true true is its = refl
-  struct_complete true false is its = absurd cc
-  struct_complete false b is its = absurd cc
+  no_incomplete : (a b : Bool) → b ≡ true → (a && (if b then false else true)) ≡ true → ⊥
+  no_incomplete true true is its = absurd cc
+  no_incomplete false true is its = absurd cc
+  no_incomplete a false is its = absurd cc
 
   struct_slots : (t : Ty) (span : Span) (env : Env) → TableIn env s → (number : ℕ) → out-Ty t ≡ Ty-F.Struct number →
       is_complete env.structs t ≡ true → ListFits t span (λ k. member_slot (slice_get (members_of (slice_get env.structs number)) k))
@@ -395,44 +510,73 @@ module _ (s : Scope) where
   array_slots t span env element n is fs fits =
       order.elements (ap element_of_level is) (elements_in _ element (λ k x same. slot_is (ltb k n) element _ x same) 0 fs fits)
 
-  level_good : (t : Ty) (span : Span) (bytes : ℕ) (is : List InitSaid) → AllByRecursion InitGood is → (env : Env) → TableIn env s →
-      (is_struct t ≡ true → is_complete env.structs t ≡ true) → (l : TyLayer) → out-Ty t ≡ l →
-      Good s (FitsIn t) (list_by span is false bytes (slots env.structs l))
-  level_good t span bytes is all env table complete (Ty-F.Array element n) same =
-      list_by_good t span bytes is all _ (array_slots t span env element n same)
-  level_good t span bytes is all env table complete (Ty-F.Struct number) same =
-      list_by_good t span bytes is all _
-      (struct_slots t span env table number same (complete (ap (λ l. is_there (struct_of_level l)) same)))
-  level_good t span bytes is all env table complete Ty-F.Void same = nowhere_good t span bytes is all
-  level_good t span bytes is all env table complete (Ty-F.Int i) same = nowhere_good t span bytes is all
-  level_good t span bytes is all env table complete (Ty-F.Pointer u) same = nowhere_good t span bytes is all
+  -- what stands in a complete array or struct is complete
+  array_whole : (structs : List StructInfo) (element : Ty) (n : ℕ) → is_complete structs (ty.Array element n) ≡ true →
+      is_complete structs element ≡ true
+  array_whole structs element n is =
+      and_second (ltb 0 n) (is_complete structs element) (sym (complete-array structs element n) ∙ is)
 
-  for_holds : (t : Ty) (span : Span) (is : List InitSaid) → AllByRecursion InitGood is → (env : Env) → EnvIn env s → (b : Bool) →
-      (is_struct t && (if is_complete env.structs t then false else true)) ≡ b →
+  array_wholes : (structs : List StructInfo) (element : Ty) (n : ℕ) → is_complete structs (ty.Array element n) ≡ true →
+      Wholes (λ k. (if ltb k n then Some (record { ty = element; offset = k * size structs element % 2 ^ 64 }) else None)) structs
+  array_wholes structs element n is k x same =
+      subst (λ t. is_complete structs t ≡ true) (sym (slot_is (ltb k n) element _ x same)) (array_whole structs element n is)
+
+  member_is : (o : Option MemberInfo) (x : Slot) → member_slot o ≡ Some x → (m : MemberInfo) × (o ≡ Some m) × (m.ty ≡ x.ty)
+  member_is None x is = absurd cc
+  member_is (Some m) x is =
+      (m, refl, ap (λ (x : Slot). x.ty) (same_Some (record { ty = m.ty; offset = m.offset }) x is))
+
+  struct_wholes : (env : Env) → TableIn env s → (number : ℕ) →
+      Wholes (λ k. member_slot (slice_get (members_of (slice_get env.structs number)) k)) env.structs
+  struct_wholes env table number k x same =
+      let found = member_is (slice_get (members_of (slice_get env.structs number)) k) x same in
+      subst (λ t. is_complete env.structs t ≡ true) found.2 (table.complete number k found.0 found.1)
+
+  rolled : (t : Ty) (l : TyLayer) → out-Ty t ≡ l → roll-Ty l ≡ t
+  rolled t l is = ap roll-Ty (sym is) ∙ roll-out-Ty t
+
+  level_holds : (t : Ty) (span : Span) (b : Bool) (bytes : ℕ) (is : List InitSaid) → AllByRecursion InitGood is → (env : Env) →
+      EnvIn env s → is_complete env.structs t ≡ true → (l : TyLayer) → out-Ty t ≡ l →
+      let o = list_by span is b bytes (slots env.structs l) env in
+      o.faults ≡ [] → TextsIn s env.texts o.texts → There o.known (FitsIn t)
+  unfolding given_types
+  level_holds t span b bytes is all env inside complete (Ty-F.Array element n) same =
+      let whole = array_wholes env.structs element n (ap (is_complete env.structs) (rolled t (Ty-F.Array element n) same) ∙ complete) in
+      (list_by_good t span b bytes is all _ (array_slots t span env element n same)).holds env (record { here = inside; more = whole })
+  level_holds t span b bytes is all env inside complete (Ty-F.Struct number) same =
+      (list_by_good t span b bytes is all _ (struct_slots t span env inside.table number same complete)).holds env
+      (record { here = inside; more = struct_wholes env inside.table number })
+  level_holds t span b bytes is all env inside complete Ty-F.Void same =
+      (nowhere_good {M = NoMore} t span b bytes is all).holds env (record { here = inside; more = tt })
+  level_holds t span b bytes is all env inside complete (Ty-F.Int i) same =
+      (nowhere_good {M = NoMore} t span b bytes is all).holds env (record { here = inside; more = tt })
+  level_holds t span b bytes is all env inside complete (Ty-F.Pointer u) same =
+      (nowhere_good {M = NoMore} t span b bytes is all).holds env (record { here = inside; more = tt })
+
+  for_holds : (t : Ty) (span : Span) (from : Bool) (is : List InitSaid) → AllByRecursion InitGood is → (env : Env) → EnvIn env s →
+      is_complete env.structs t ≡ true → (b : Bool) → (is_struct t && (if is_complete env.structs t then false else true)) ≡ b →
       let o = (if b then on (loose_all is) (λ x. not_known {A = Fitted}) env
-      else list_by span is false (first_scalar env.structs t) (slots env.structs (out-Ty t)) env) in
-      o.faults ≡ [] → TextsIn s env.texts o.texts → IfSome o.known (FitsIn t)
-  for_holds t span is all env inside true same kept texts =
-      (good-on {Q = FitsIn t} (loose_all is) (λ x. not_known) (good-any (loose_all is) (loose_silent is all)) (λ x env. refl)
-      (λ x known. good-never not_known (λ env. refl) (λ env. refl))).holds env inside kept texts
-  for_holds t span is all env inside false same kept texts =
-      (level_good t span (first_scalar env.structs t) is all env inside.table
-      (struct_complete (is_struct t) (is_complete env.structs t) same)
-      (out-Ty t) refl).holds env inside kept texts
+      else list_by span is from (first_scalar env.structs t) (slots env.structs (out-Ty t)) env) in
+      o.faults ≡ [] → TextsIn s env.texts o.texts → There o.known (FitsIn t)
+  for_holds t span from is all env inside complete true same kept texts =
+      absurd (no_incomplete (is_struct t) (is_complete env.structs t) complete same)
+  for_holds t span from is all env inside complete false same kept texts =
+      level_holds t span from (first_scalar env.structs t) is all env inside complete (out-Ty t) refl kept texts
 
   list_good : (is : List InitSaid) (span : Span) → AllByRecursion InitGood is → InitGood (init_step (Init-F.List is span))
   list_good is span all = record {
-    loose = silent-on (loose_all is) _ (loose_silent is all) (λ x env. refl);
-    fits = λ t. record {
-      silent = λ env. for_silent span t is all env (is_struct t && (if is_complete env.structs t then false else true));
-      holds = λ env inside kept texts. for_holds t span is all env inside _ refl kept texts;
+    loose = good-on (loose_all is) _ (loose_good is all) (λ x env. refl) (λ x known. good-sure tt tt);
+    fits = λ b t. record {
+      silent = λ env. for_silent span b t is all env (is_struct t && (if is_complete env.structs t then false else true));
+      holds = λ env inside kept texts. for_holds t span b is all env inside.here inside.more _ refl kept texts;
     };
   }
 
   one_init_good : (e : Expr) → InitGood (init_step (Init-F.One e))
   one_init_good e = record {
-    loose = silent-on (expression e).judged _ (expression-good s e).silent (λ k env. refl);
-    fits = λ t. expression_for_good e t (out-Ty t) refl;
+    loose = good-on (expression e).judged _ (expression-good s e) (λ k env. refl)
+        (λ k known. record { silent = λ env. refl; holds = λ env inside kept texts. tt });
+    fits = λ b t. good-if (expression_for (expression e) b t (out-Ty t)) (expression_for_good e b t (out-Ty t) refl);
   }
 
   -- ---- all of them

@@ -9,14 +9,37 @@ use Rattle.c_type_base.specs.declared.ty.Ty.TheOpen.{Ty-F}
 use Rattle.c_type_base.specs.declared.expr.TNode.{out-TNode}
 use Rattle.c_type_base.specs.declared.known.Constancy.{Constancy}
 use Rattle.c_type_base.specs.declared.known.Constancy.TheVariants.{Varies, DividesByZero, Is}
+use Rattle.c_type_base.specs.declared.known.Fixed.{Fixed}
 use Rattle.c_type_base.specs.declared.known.Known.{Known}
+use Rattle.c_type_base.specs.declared.typed.Target.{Target}
+use Rattle.c_type_base.specs.declared.typed.Typed.{Typed}
 use Rattle.c_type_base.specs.Known.{read, decayed, value_by, value, wrapped, as_type, converted, is_zero, is_null, assignable}
 use Rattle.c_type_base.specs.Types.{TyLayer, same_type, is_there, int_of, int_of_level, target_of_level, element_of, element_of_level}
 use Rattle.c_type_base.specs.Types.{struct_of_level}
 use Rattle.c_type_base.specs.Types.{is_void, is_void_level, is_integer, is_pointer, is_array, is_struct}
 use Rattle.block_meaning.specs.ExpressionsInOrder as order
-use Rattle.block_meaning.specs.ExpressionsInOrder.{Scope, HasValue, Designates, Converts}
+use Rattle.block_meaning.specs.ExpressionsInOrder.{Scope, HasValue, Designates, Converts, file_of}
+use Rattle.block_meaning.specs.ProgramsInOrder.{TargetInOrder}
 use Rattle.c_type_base.specs.Laws.SameLaws.{one-type, same-itself}
+
+-- it is known, and has a property
+abbrev pub There : {A : Type 0} → Option A → (A → Type 0) → Type 0
+There None P = ⊥
+There (Some a) P = P a
+
+-- what an address is of is there in a file
+abbrev pub TargetIn : Option Typed → Target → Type 0
+TargetIn None t = ⊥
+TargetIn (Some u) t = TargetInOrder u t
+
+abbrev pub AddressIn : Scope → Option Target → Type 0
+AddressIn s None = Unit {0}
+AddressIn s (Some t) = TargetIn (file_of s) t
+
+-- the address that is known before the run, if there is one
+abbrev pub FixedIn : Scope → Option Fixed → Type 0
+FixedIn s None = Unit {0}
+FixedIn s (Some f) = AddressIn s f.target
 
 -- an array or a struct that is no lvalue is a struct that was assigned, or a member of one
 pub record KnownIn (s : Scope) (k : Known) : Type 0 where
@@ -24,20 +47,27 @@ pub record KnownIn (s : Scope) (k : Known) : Type 0 where
   pub gives : k.lvalue ≡ false → is_array k.tree.ty ≡ false → HasValue s k.tree.ty (out-TNode k.tree.node)
   pub object : k.lvalue ≡ true → is_void k.tree.ty ≡ false
   pub integer : (n : ℕ) → k.constant ≡ Is n → is_integer k.tree.ty ≡ true
+  pub fixed : FixedIn s k.fixed
 
 -- a value
 pub record ValueIn (s : Scope) (k : Known) : Type 0 where
   pub has : HasValue s k.tree.ty (out-TNode k.tree.node)
   pub integer : (n : ℕ) → k.constant ≡ Is n → is_integer k.tree.ty ≡ true
+  pub fixed : FixedIn s k.fixed
+
+no_address : (s : Scope) (o : Option Fixed) → o ≡ None → FixedIn s o
+no_address s None is = tt
+no_address s (Some f) is = absurd cc
 
 -- what has a value, and is no array and no struct
-pub known_by : {s : Scope} (k : Known) → k.lvalue ≡ false → HasValue s k.tree.ty (out-TNode k.tree.node) →
+pub valued : {s : Scope} (k : Known) → k.lvalue ≡ false → FixedIn s k.fixed → HasValue s k.tree.ty (out-TNode k.tree.node) →
     (is_array k.tree.ty || is_struct k.tree.ty) ≡ false → ((n : ℕ) → k.constant ≡ Is n → is_integer k.tree.ty ≡ true) → KnownIn s k
-known_by k no_lvalue has plain integer = record {
+valued k no_lvalue fixed has plain integer = record {
   place = λ is. absurd (neither k.lvalue (is_array k.tree.ty || is_struct k.tree.ty) no_lvalue plain is);
   gives = λ is its. has;
   object = λ is. absurd (not_both k.lvalue no_lvalue is);
   integer = integer;
+  fixed = fixed;
 }
   where
     not_both : (b : Bool) → b ≡ false → b ≡ true → ⊥
@@ -48,6 +78,12 @@ known_by k no_lvalue has plain integer = record {
     neither true b is its or = absurd cc
     neither false true is its or = absurd cc
     neither false false is its or = absurd cc
+
+-- where no address of it is known before the run
+pub known_by : {s : Scope} (k : Known) → ◌≡◌ {A = Bool × Option Fixed} (k.lvalue, k.fixed) (false, None) →
+    HasValue s k.tree.ty (out-TNode k.tree.node) → (is_array k.tree.ty || is_struct k.tree.ty) ≡ false →
+    ((n : ℕ) → k.constant ≡ Is n → is_integer k.tree.ty ≡ true) → KnownIn s k
+known_by {s = s} k is = valued k (ap (λ p. p.0) is) (no_address s k.fixed (ap (λ p. p.1) is))
 
 pub int-plain : (i : IntType) → (is_array (ty.Int i) || is_struct (ty.Int i)) ≡ false
 unfolding given_types
@@ -96,6 +132,7 @@ decayed_in k element known is = record {
   has = order.decay (known.place (or_right k.lvalue (is_array k.tree.ty) (is_struct k.tree.ty) (array_there (out-Ty k.tree.ty) element is)))
       is;
   integer = λ n its. absurd (array_is_no_integer (out-Ty k.tree.ty) element is (known.integer n its));
+  fixed = known.fixed;
 }
 
 read_by : {s : Scope} (k : Known) (b : Bool) → k.lvalue ≡ b → KnownIn s k → element_of k.tree.ty ≡ None →
@@ -105,9 +142,10 @@ read_by k true lvalue known is = record {
   has = order.read (known.place (ap (λ b. b || (is_array k.tree.ty || is_struct k.tree.ty)) lvalue))
       (readable (out-Ty k.tree.ty) (known.object lvalue) is);
   integer = λ n its. absurd cc;
+  fixed = tt;
 }
 read_by k false lvalue known is =
-    record { has = known.gives lvalue (array_absent (out-Ty k.tree.ty) is); integer = known.integer }
+    record { has = known.gives lvalue (array_absent (out-Ty k.tree.ty) is); integer = known.integer; fixed = known.fixed }
 
 value_by_in : {s : Scope} (k : Known) (o : Option Ty) → element_of k.tree.ty ≡ o → KnownIn s k → ValueIn s (value_by o k)
 value_by_in k (Some element) is known = decayed_in k element known is
@@ -135,6 +173,7 @@ converted_by k t false same value types = record {
   value = record {
     has = order.convert value.has (types refl);
     integer = λ n is. wrapped-integer (int_of t) k.constant n is;
+    fixed = tt;
   };
   is = refl;
 }

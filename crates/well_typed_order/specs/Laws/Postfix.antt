@@ -1,6 +1,7 @@
 -- Elements, members and calls keep expressions in order.
 use Rattle.std.proofs.Common.{◌≡◌, refl, sym, ◌∙◌, ap, subst, ℕ, Bool, true, false, ◌&&◌, ◌||◌, List, [], ◌∷◌, length, Option, Some, None}
 use Rattle.std.proofs.Common.{nat_eq, slice_get, arith}
+use Rattle.std.specs.Prelude.{if◌then◌else◌}
 use Rattle.std.specs.List.{AllByRecursion}
 use Rattle.std.proofs.lemmas.Bool.{eqb-true}
 use Rattle.c_ast.specs.declared.token.Span.{Span}
@@ -14,10 +15,12 @@ use Rattle.c_type_base.specs.declared.expr.TNode.TheVariants as node
 use Rattle.c_type_base.specs.declared.expr.TNode.TheOpen.{TNode-F}
 use Rattle.c_type_base.specs.declared.expr.Callee.{Callee}
 use Rattle.c_type_base.specs.declared.typed.MemberInfo.{MemberInfo}
+use Rattle.c_type_base.specs.declared.known.Fixed.{Fixed}
 use Rattle.c_type_base.specs.declared.known.Known.{Known}
+use Rattle.c_type_base.specs.Constants.{forward, moved}
 use Rattle.c_type_base.specs.Known.{converted, assignable}
 use Rattle.c_type_base.specs.Layout.{members_of}
-use Rattle.c_type_base.specs.Sizes.{is_complete}
+use Rattle.c_type_base.specs.Sizes.{size, is_complete}
 use Rattle.c_type_base.specs.Types.{is_void, is_array, is_struct, target_of, struct_of}
 use Rattle.c_type_base.specs.Types.{TyLayer, is_there, int_of_level, target_of_level, element_of_level, struct_of_level, is_void_level}
 use Rattle.c_type_base.specs.declared.ty.Ty.TheOpen.{Ty-F}
@@ -25,15 +28,15 @@ use Rattle.c_type_expr.specs.declared.scopes.Signature.{Signature}
 use Rattle.c_type_expr.specs.Environment.{Env}
 use Rattle.c_type_expr.specs.Faults.{rule}
 use Rattle.c_type_expr.specs.Operators.{Sort, Integer, Points, sort_of}
-use Rattle.c_type_expr.specs.Postfix.{element, index_row, member_number, member_at, member_known, member_found, member_in, member_row}
+use Rattle.c_type_expr.specs.Postfix.{index_fixed_by, element, index_row, member_fixed, member_number, member_at, member_known, member_found, member_in, member_row}
 use Rattle.c_type_expr.specs.Postfix.{arrow_known, arrow_found, arrow_in, struct_pointed, arrow_row, passed, all_assignable, all_values}
 use Rattle.c_type_expr.specs.Postfix.{call_made}
 use Rattle.c_type_expr.specs.Postfix.{call_known}
 use Rattle.block_meaning.specs.ExpressionsInOrder as order
 use Rattle.block_meaning.specs.ExpressionsInOrder.{Scope, HasValue, Designates, HasMember, Arguments, Callable}
 use Rattle.block_meaning.specs.Linkage.{structs_of}
-use Rattle.well_typed_order.specs.Laws.Binary.{Keeps, kept-first, kept-rest, sort-integer, sort-target}
-use Rattle.well_typed_order.specs.Laws.Known.{KnownIn, ValueIn, known_by, assignable-in}
+use Rattle.well_typed_order.specs.Laws.Binary.{Keeps, moved-fixed, kept-first, kept-rest, sort-integer, sort-target}
+use Rattle.well_typed_order.specs.Laws.Known.{FixedIn, KnownIn, ValueIn, known_by, assignable-in}
 use Rattle.well_typed_order.specs.Laws.Types.{and_first, and_second}
 use Rattle.well_typed_order.specs.Laws.Unary.{lvalue-in, complete-object}
 
@@ -42,20 +45,29 @@ pub record TableIn (env : Env) (s : Scope) : Type 0 where
   pub extends : Extends env.structs (structs_of s.program.units s.unit)
   pub objects : (number k : ℕ) (m : MemberInfo) → slice_get (members_of (slice_get (structs_of s.program.units s.unit) number)) k ≡ Some m →
       is_void m.ty ≡ false
+  pub complete : (number k : ℕ) (m : MemberInfo) → slice_get (members_of (slice_get env.structs number)) k ≡ Some m →
+      is_complete env.structs m.ty ≡ true
 
 -- ---- elements
 
-element_in : {s : Scope} (span : Span) (n : TNode) (p i : Known) (t : Ty) (env : Env) → Designates s t (out-TNode n) →
+index_fixed_in : (s : Scope) (bytes : ℕ) (p i : Known) → FixedIn s p.fixed → FixedIn s (index_fixed_by bytes p i)
+index_fixed_in s bytes p i fixed = by_path p.path
+  where
+    by_path : (b : Bool) → FixedIn s (if b then moved forward bytes p.fixed i.constant else None)
+    by_path true = moved-fixed s forward bytes p.fixed i.constant fixed
+    by_path false = tt
+
+element_in : {s : Scope} (span : Span) (n : TNode) (p i : Known) (t : Ty) (env : Env) → FixedIn s p.fixed → Designates s t (out-TNode n) →
     Keeps s (element span n p i t env)
-element_in span n p i t env place kept =
-    lvalue-in _ refl refl place (complete-object env.structs t (kept-first span 15 (is_complete env.structs t) [] kept))
+element_in {s = s} span n p i t env fixed place kept =
+    lvalue-in _ refl refl (index_fixed_in s (size env.structs t) p i fixed) place (complete-object env.structs t (kept-first span 15 (is_complete env.structs t) [] kept))
 
 pub index-in : {s : Scope} (span : Span) (a i : Known) (env : Env) → ValueIn s a → ValueIn s i → (x y : Sort) → sort_of a ≡ x →
     sort_of i ≡ y → Keeps s (index_row span a i x y env)
 unfolding given_typed
-index-in span a i env of_a of_i (Points t) (Integer j) is its kept = element_in span (node.Index a.tree i.tree) a i t env
+index-in span a i env of_a of_i (Points t) (Integer j) is its kept = element_in span (node.Index a.tree i.tree) a i t env of_a.fixed
     (order.element of_a.has (sort-target a t is) of_i.has (sort-integer i j its)) kept
-index-in span a i env of_a of_i (Integer j) (Points t) is its kept = element_in span (node.Index a.tree i.tree) i a t env
+index-in span a i env of_a of_i (Integer j) (Points t) is its kept = element_in span (node.Index a.tree i.tree) i a t env of_i.fixed
     (order.element_of_second of_a.has (sort-integer a j is) of_i.has (sort-target i t its)) kept
 index-in span a i env of_a of_i _ _ is its kept = absurd cc
 
@@ -90,15 +102,22 @@ struct_level : (l : TyLayer) (number : ℕ) → struct_of_level l ≡ Some numbe
 struct_level (Ty-F.Struct n) number is = refl
 struct_level _ number is = absurd cc
 
+member_fixed_in : (s : Scope) (m : MemberInfo) (b : Bool) (o : Option Fixed) → FixedIn s o →
+    FixedIn s (if b then member_fixed m o else None)
+member_fixed_in s m true None fixed = tt
+member_fixed_in s m true (Some f) fixed = fixed
+member_fixed_in s m false o fixed = tt
+
 member_of : {s : Scope} (span : Span) (e : Known) (k : ℕ) (m : MemberInfo) → KnownIn s e → is_struct e.tree.ty ≡ true →
     HasMember s e.tree.ty k m → is_void m.ty ≡ false → KnownIn s (member_known span e k m)
 unfolding given_typed
-member_of span e k m of_e a_struct has object =
+member_of {s = s} span e k m of_e a_struct has object =
     let place = of_e.place (or_third e.lvalue (is_array e.tree.ty) (is_struct e.tree.ty) a_struct) in record {
       place = λ is. order.member place has;
       gives = λ is plain. order.member_value place has (readable_level (out-Ty m.ty) object plain);
       object = λ is. object;
       integer = λ n is. absurd (struct_no_integer (out-Ty e.tree.ty) a_struct (of_e.integer n is));
+      fixed = member_fixed_in s m e.path e.fixed of_e.fixed;
     }
 
 found_in : {env : Env} {s : Scope} (table : TableIn env s) (span : Span) (e : Known) (number : ℕ) → KnownIn s e →
@@ -132,7 +151,7 @@ member-in table span e name of_e (Some number) is kept = complete_in table span 
 arrow_of : {s : Scope} (span : Span) (e : Known) (k : ℕ) (m : MemberInfo) (t : Ty) → ValueIn s e → target_of e.tree.ty ≡ Some t →
     HasMember s t k m → is_void m.ty ≡ false → KnownIn s (arrow_known span e k m)
 unfolding given_typed
-arrow_of span e k m t of_e is has object = lvalue-in (arrow_known span e k m) refl refl (order.arrow of_e.has is has) object
+arrow_of span e k m t of_e is has object = lvalue-in (arrow_known span e k m) refl refl tt (order.arrow of_e.has is has) object
 
 arrow_found_in : {env : Env} {s : Scope} (table : TableIn env s) (span : Span) (e : Known) (t : Ty) (number : ℕ) → ValueIn s e →
     target_of e.tree.ty ≡ Some t → struct_of t ≡ Some number → is_complete env.structs (ty.Struct number) ≡ true → (k : ℕ)

@@ -1,7 +1,7 @@
 -- Unary operators, casts, assignments, steps and choices keep expressions in order.
 use Rattle.std.proofs.Common.{◌⊎◌, inl, inr, ◌≡◌, refl, sym, ◌∙◌, ap, subst, ℕ, Bool, true, false, ◌&&◌, ◌||◌, List, [], ◌∷◌, Option}
 use Rattle.std.proofs.Common.{Some, None}
-use Rattle.std.specs.Prelude.{IfSome, if◌then◌else◌}
+use Rattle.std.specs.Prelude.{if◌then◌else◌, ◌%◌, ◌^◌}
 use Rattle.c_ast.specs.declared.token.Span.{Span}
 use Rattle.c_ast.specs.declared.int_type.IntType.TheVariants as int
 use Rattle.c_ast.specs.declared.operator.UnaryOperator.{UnaryOperator}
@@ -21,28 +21,28 @@ use Rattle.c_type_base.specs.declared.known.Constancy.{Constancy}
 use Rattle.c_type_base.specs.declared.known.Constancy.TheVariants.{Varies, Is}
 use Rattle.c_type_base.specs.declared.known.Known.{Known}
 use Rattle.c_type_base.specs.Conversions.{promoted, usual}
-use Rattle.c_type_base.specs.Known.{converted, is_null, value, assignable, is_changeable}
+use Rattle.c_type_base.specs.Known.{converted, is_null, is_value, value, assignable, is_changeable}
 use Rattle.c_type_base.specs.Laws.SizeLaws.{complete-void}
-use Rattle.c_type_base.specs.Sizes.{is_complete}
+use Rattle.c_type_base.specs.Sizes.{size, is_complete}
 use Rattle.c_type_base.specs.Types.{TyLayer, same_type, is_there, int_of, int_of_level, element_of_level, struct_of_level}
 use Rattle.c_type_base.specs.Types.{is_void, is_void_level, is_integer, is_pointer, is_array, is_struct, is_scalar}
 use Rattle.c_type_base.specs.declared.ty.Ty.{roll-Ty, roll-out-Ty}
 use Rattle.c_type_expr.specs.Environment.{Env}
-use Rattle.c_type_expr.specs.Expressions.{address_known, address_row, target_row, unary_row, castable, cast_known, cast_row, assigned}
+use Rattle.c_type_expr.specs.Expressions.{address_known, address_row, target_row, unary_row, castable, cast_fixed, cast_known, cast_row, assigned}
 use Rattle.c_type_expr.specs.Expressions.{simple_row}
 use Rattle.c_type_expr.specs.Expressions.{binary_of, right_type, moves, compound_row, assign_row, stepped, step_row, size_known}
 use Rattle.c_type_expr.specs.Expressions.{sizeof_row}
 use Rattle.c_type_expr.specs.Expressions.{sizeof_type}
-use Rattle.c_type_expr.specs.Faults.{rule}
+use Rattle.c_type_expr.specs.Faults.{Rule, rule, broken, all_kept}
 use Rattle.c_type_expr.specs.Operators.{Sort, Integer, Points, Neither, sort_of, converted_as, complete_target, signed_known}
 use Rattle.c_type_expr.specs.Operators.{signed_row, denied, not_row, with_arms, arms_of_void}
 use Rattle.c_type_expr.specs.Operators.{arms, cond_row, cond_judged}
 use Rattle.block_meaning.specs.ExpressionsInOrder as order
 use Rattle.block_meaning.specs.ExpressionsInOrder.{Scope, HasValue, Designates, Converts, CompoundTypes, is_sign, int_type}
-use Rattle.well_typed_order.specs.Laws.Binary.{Keeps, kept-first, kept-rest, sort-integer, sort-pointer, sort-target, int-integer}
+use Rattle.well_typed_order.specs.Laws.Binary.{Keeps, never-kept, kept-first, kept-rest, sort-integer, sort-pointer, sort-target, int-integer}
 use Rattle.well_typed_order.specs.Laws.Binary.{one-pointer}
 use Rattle.well_typed_order.specs.Laws.Binary.{integer-scalar, pointer-scalar}
-use Rattle.well_typed_order.specs.Laws.Known.{KnownIn, ValueIn, known_by, int-plain, pointer-plain, Into, converted-in, value-in}
+use Rattle.well_typed_order.specs.Laws.Known.{There, FixedIn, KnownIn, ValueIn, known_by, valued, int-plain, pointer-plain, Into, converted-in, value-in}
 use Rattle.well_typed_order.specs.Laws.Known.{null-integer}
 use Rattle.well_typed_order.specs.Laws.Known.{assignable-in, wrapped-integer}
 use Rattle.well_typed_order.specs.Laws.Types.{and_first, and_second}
@@ -67,17 +67,18 @@ or_first : (a b : Bool) → a ≡ true → (a || b) ≡ true
 or_first true b is = refl
 or_first false b is = absurd cc
 
-lvalue_in : {s : Scope} (k : Known) → k.lvalue ≡ true → k.constant ≡ Varies → Designates s k.tree.ty (out-TNode k.tree.node) →
-    is_void k.tree.ty ≡ false → KnownIn s k
-lvalue_in k lvalue varies place object = record {
+lvalue_in : {s : Scope} (k : Known) → k.lvalue ≡ true → k.constant ≡ Varies → FixedIn s k.fixed →
+    Designates s k.tree.ty (out-TNode k.tree.node) → is_void k.tree.ty ≡ false → KnownIn s k
+lvalue_in k lvalue varies fixed place object = record {
   place = λ is. place;
   gives = λ is its. let no : true ≡ false = sym lvalue ∙ is in absurd cc;
   object = λ is. object;
   integer = λ n is. let no : ◌≡◌ {A = Constancy} Varies (Is n) = sym varies ∙ is in absurd cc;
+  fixed = fixed;
 }
 
-pub lvalue-in : {s : Scope} (k : Known) → k.lvalue ≡ true → k.constant ≡ Varies → Designates s k.tree.ty (out-TNode k.tree.node) →
-    is_void k.tree.ty ≡ false → KnownIn s k
+pub lvalue-in : {s : Scope} (k : Known) → k.lvalue ≡ true → k.constant ≡ Varies → FixedIn s k.fixed →
+    Designates s k.tree.ty (out-TNode k.tree.node) → is_void k.tree.ty ≡ false → KnownIn s k
 lvalue-in = lvalue_in
 
 place_of : {s : Scope} (k : Known) → KnownIn s k → k.lvalue ≡ true → Designates s k.tree.ty (out-TNode k.tree.node)
@@ -95,14 +96,14 @@ pointer_type_plain t = refl
 address_in : {s : Scope} (span : Span) (e : Known) (env : Env) → KnownIn s e → Keeps s (address_row span e env)
 unfolding given_typed
 address_in span e env known kept =
-    known_by (address_known span e) refl (order.address (place_of e known (kept-first span 11 e.lvalue [] kept)))
+    valued (address_known span e) refl known.fixed (order.address (place_of e known (kept-first span 11 e.lvalue [] kept)))
     (pointer_type_plain e.tree.ty) (λ n is. absurd cc)
 
 target_in : {s : Scope} (span : Span) (e : Known) (env : Env) → ValueIn s e → (x : Sort) → sort_of e ≡ x →
     Keeps s (target_row span e x env)
 unfolding given_typed
 target_in span e env of_e (Points t) is kept =
-    lvalue_in _ refl refl (order.target of_e.has (sort-target e t is))
+    lvalue_in _ refl refl tt (order.target of_e.has (sort-target e t is))
     (complete-object env.structs t (kept-first span 15 (is_complete env.structs t) [] kept))
 target_in span e env of_e _ is kept = absurd cc
 
@@ -166,12 +167,20 @@ converts_plain {t = t} (order.integers is its) = integer_plain (out-Ty t) its
 converts_plain {t = t} (order.pointers is its) = pointer-plain t its
 converts_plain {t = t} (order.null_constant is its) = pointer-plain t its
 
+cast_fixed_in : (s : Scope) (t : Ty) (k : Known) → FixedIn s k.fixed → FixedIn s (cast_fixed t k)
+cast_fixed_in s t k fixed = by_kind (is_pointer t) (is_null k)
+  where
+    by_kind : (a b : Bool) → FixedIn s (if a then (if b then Some (record { target = None; offset = 0 }) else k.fixed) else None)
+    by_kind true true = tt
+    by_kind true false = fixed
+    by_kind false b = tt
+
 cast_by : {s : Scope} (span : Span) (t : Ty) (k : Known) → ValueIn s k → (is_void t ≡ true) ⊎ Converts k.tree.ty t →
     KnownIn s (cast_known span t k)
 unfolding given_typed
-cast_by span t k of_k (inl is) = known_by (cast_known span t k) refl (order.cast_to_void of_k.has is) (void_plain (out-Ty t) is)
+cast_by {s = s} span t k of_k (inl is) = valued (cast_known span t k) refl (cast_fixed_in s t k of_k.fixed) (order.cast_to_void of_k.has is) (void_plain (out-Ty t) is)
     (λ n c. wrapped-integer (int_of t) k.constant n c)
-cast_by span t k of_k (inr types) = known_by (cast_known span t k) refl (order.cast of_k.has types) (converts_plain types)
+cast_by {s = s} span t k of_k (inr types) = valued (cast_known span t k) refl (cast_fixed_in s t k of_k.fixed) (order.cast of_k.has types) (converts_plain types)
     (λ n c. wrapped-integer (int_of t) k.constant n c)
 
 pub cast-in : {s : Scope} (span : Span) (t : Ty) (k : Known) (env : Env) → ValueIn s k → Keeps s (cast_row span t k env)
@@ -190,15 +199,32 @@ unfolding given_typed
 size_name_in span t n =
     known_by (size_known span (node.SizeofName t) n) refl order.size_of_type (int-plain int.ULong) (λ m c. int-integer int.ULong)
 
-perhaps_in : {s : Scope} (k : Known) (b : Bool) → KnownIn s k → IfSome (if b then Some k else None) (KnownIn s)
-perhaps_in k true known = known
-perhaps_in k false known = tt
+rule_kept : (span : Span) (n : ℕ) (b : Bool) (rules : List Rule) → (broken span rules ≡ [] → all_kept rules ≡ true) →
+    broken span (rule n b ∷ rules) ≡ [] → (b && all_kept rules) ≡ true
+rule_kept span n true rules rest kept = rest kept
+rule_kept span n false rules rest kept = absurd cc
+
+pub each-kept : (span : Span) (rules : List Rule) → broken span rules ≡ [] → all_kept rules ≡ true
+each-kept span [] kept = refl
+each-kept span (r ∷ rules) kept = rule_kept span r.number r.kept rules (each-kept span rules) kept
+
+-- where its rules are kept
+pub if-kept : {A : Type 0} (P : A → Type 0) (span : Span) (rules : List Rule) (k : A) → broken span rules ≡ [] → P k →
+    There (if all_kept rules then Some k else None) P
+if-kept P span rules k kept holds =
+    subst (λ b. There (if b then Some k else None) P) (sym (each-kept span rules kept)) holds
 
 pub sizeof-in : (s : Scope) (span : Span) (e : Known) (env : Env) → Keeps s (sizeof_row span e env)
-sizeof-in s span e env kept = perhaps_in _ _ (size_in span e _)
+sizeof-in s span e env kept =
+    let bytes = size env.structs e.tree.ty % 2 ^ 64 in
+    if-kept (KnownIn s) span (rule 12 (is_value e) ∷ rule 15 (is_complete env.structs e.tree.ty) ∷ [])
+    (size_known span (node.SizeofExpr e.tree) bytes) kept (size_in span e bytes)
 
 pub sizeof-name-in : (s : Scope) (span : Span) (t : Ty) (env : Env) → Keeps s (sizeof_type span t env)
-sizeof-name-in s span t env kept = perhaps_in _ _ (size_name_in span t _)
+sizeof-name-in s span t env kept =
+    let bytes = size env.structs t % 2 ^ 64 in
+    if-kept (KnownIn s) span (rule 15 (is_complete env.structs t) ∷ []) (size_known span (node.SizeofName t) bytes) kept
+    (size_name_in span t bytes)
 
 -- ---- assignments
 
@@ -221,6 +247,7 @@ assigned_in {s = s} span a b of_a changeable of_b = record {
   gives = λ is its. order.assigned place of_b.value.has of_b.is;
   object = λ is. absurd cc;
   integer = λ n is. absurd cc;
+  fixed = tt;
 }
   where
     place : Designates s a.tree.ty (out-TNode a.tree.node)
@@ -268,11 +295,11 @@ compound_in o span a b env of_a of_b (Points u) (Integer j) is its kept =
     let moved = kept-first span 12 (moves o) (complete_target env.structs u ∷ []) (kept-rest span 11 (is_changeable a) rules kept) in
     compound_known o span a b of_a (changeable_lvalue a (kept-first span 11 (is_changeable a) rules kept)) of_b
     (moved_types o a.tree.ty b.tree.ty moved (sort-pointer a u is) (sort-integer b j its)) (pointer-plain a.tree.ty (sort-pointer a u is))
-compound_in o span a b env of_a of_b (Points u) (Points w) is its kept = tt
-compound_in o span a b env of_a of_b (Points u) Neither is its kept = tt
-compound_in o span a b env of_a of_b (Integer i) (Points w) is its kept = tt
-compound_in o span a b env of_a of_b (Integer i) Neither is its kept = tt
-compound_in o span a b env of_a of_b Neither y is its kept = tt
+compound_in o span a b env of_a of_b (Points u) (Points w) is its kept = absurd (never-kept span 11 12 (is_changeable a) kept)
+compound_in o span a b env of_a of_b (Points u) Neither is its kept = absurd (never-kept span 11 12 (is_changeable a) kept)
+compound_in o span a b env of_a of_b (Integer i) (Points w) is its kept = absurd (never-kept span 11 12 (is_changeable a) kept)
+compound_in o span a b env of_a of_b (Integer i) Neither is its kept = absurd (never-kept span 11 12 (is_changeable a) kept)
+compound_in o span a b env of_a of_b Neither y is its kept = absurd (never-kept span 11 12 (is_changeable a) kept)
 
 pub assign-in : {s : Scope} (o : Option AssignOperator) (span : Span) (a b : Known) (env : Env) → KnownIn s a → KnownIn s b →
     Keeps s (assign_row o span a b env)
@@ -295,7 +322,7 @@ step-in o span e env of_e (Integer i) is kept =
 step-in o span e env of_e (Points t) is kept =
     stepped_in o span e of_e (changeable_lvalue e (kept-first span 11 (is_changeable e) (complete_target env.structs t ∷ []) kept))
     (pointer-scalar e.tree.ty (sort-pointer e t is)) (pointer-plain e.tree.ty (sort-pointer e t is))
-step-in o span e env of_e Neither is kept = tt
+step-in o span e env of_e Neither is kept = absurd (never-kept span 11 12 (is_changeable e) kept)
 
 -- ---- `c ? a : b`
 
