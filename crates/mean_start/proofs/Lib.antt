@@ -1,0 +1,5 @@
+pub mod Steps
+pub mod Starting
+pub mod Naming
+pub mod Agreeing
+pub mod Blocks
