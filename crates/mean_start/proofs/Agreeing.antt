@@ -1,5 +1,6 @@
 -- Types of two files one by one, and what names stand for, one further.
-use Rattle.std.proofs.Common.{◌≡◌, ◌≢◌, refl, sym, ap, subst, ◌∙◌, ℕ, zero, suc, ◌+◌, ◌<◌, ◌≤◌, Bool, true, false, ◌&&◌, List, [], ◌∷◌, ◌++◌}
+use Rattle.std.proofs.Common.{◌≡◌, ◌≢◌, refl, sym, ap, subst, ◌∙◌, ℕ, zero, suc, ◌+◌, ◌<◌, ◌≤◌, Bool}
+use Rattle.std.proofs.Common.{true, false, ◌&&◌, List, [], ◌∷◌, ◌++◌}
 use Rattle.std.proofs.Common.{length, map, take, drop, get_or, arith, Option, Some, None}
 use Rattle.std.specs.Prelude.{slice_get}
 use Rattle.std.proofs.lemmas.List.{take_more, drop_more, drop_all, map-append}
@@ -22,43 +23,9 @@ too_many these those (s ∷ ss) (l ∷ ls) differs =
     none true = refl
     none false = refl
 
--- those from a place on, by the first of them
-left_is : (these those : List StructInfo) (ss : List Ty) (ls : List LocalInfo) (i : ℕ) (s : Ty) (l : LocalInfo) → i < length ss →
-    i < length ls → s ≡ get_or ss i s → l ≡ get_or ls i l →
-    all_same_across these those (drop i ss) (map type_of_local (drop i ls)) ≡
-    (same_across these those s l.ty && all_same_across these those (drop (i + 1) ss) (map type_of_local (drop (i + 1) ls)))
-left_is these those ss ls i s l within inside of_s of_l =
-    let front : drop i ss ≡ s ∷ drop (i + 1) ss = drop_more ss i s within ∙ ap (λ t. t ∷ drop (i + 1) ss) (sym of_s) in
-    let behind : drop i ls ≡ l ∷ drop (i + 1) ls = drop_more ls i l inside ∙ ap (λ t. t ∷ drop (i + 1) ls) (sym of_l) in
-    ap (λ x. all_same_across these those x (map type_of_local (drop i ls))) front
-    ∙ ap (λ y. all_same_across these those (s ∷ drop (i + 1) ss) (map type_of_local y)) behind
-
--- two that differ
-pub one_differs : (these those : List StructInfo) (ss : List Ty) (ls : List LocalInfo) (i : ℕ) (s : Ty) (l : LocalInfo) → i < length ss →
-    length ss ≡ length ls → s ≡ get_or ss i s → l ≡ get_or ls i l → same_across these those s l.ty ≡ false →
-    all_same_across these those (drop i ss) (map type_of_local (drop i ls)) ≡ false
-one_differs these those ss ls i s l within same of_s of_l not =
-    left_is these those ss ls i s l within (omega arith) of_s of_l
-    ∙ ap (λ b. b && all_same_across these those (drop (i + 1) ss) (map type_of_local (drop (i + 1) ls))) not
-
--- two that are the same
-pub one_agrees : (these those : List StructInfo) (ss : List Ty) (ls : List LocalInfo) (i : ℕ) (s : Ty) (l : LocalInfo) → i < length ss →
-    length ss ≡ length ls → s ≡ get_or ss i s → l ≡ get_or ls i l → same_across these those s l.ty ≡ true →
-    all_same_across these those (drop (i + 1) ss) (map type_of_local (drop (i + 1) ls)) ≡
-    all_same_across these those (drop i ss) (map type_of_local (drop i ls))
-one_agrees these those ss ls i s l within same of_s of_l is = sym (
-    left_is these those ss ls i s l within (omega arith) of_s of_l
-    ∙ ap (λ b. b && all_same_across these those (drop (i + 1) ss) (map type_of_local (drop (i + 1) ls))) is)
-
--- none is left
-pub all_agree : (these those : List StructInfo) (ss : List Ty) (ls : List LocalInfo) (i : ℕ) → length ss ≤ i → length ss ≡ length ls →
-    all_same_across these those (drop i ss) (map type_of_local (drop i ls)) ≡ true
-all_agree these those ss ls i far same =
-    ap (λ x. all_same_across these those x (map type_of_local (drop i ls))) (drop_all i ss far)
-    ∙ ap (λ y. all_same_across these those [] (map type_of_local y)) (drop_all i ls (omega arith))
-
 -- a function of each element, one further
-pub map_further : {A B : Type 0} (f : A → B) (xs : List A) (i : ℕ) (x : A) (made new : List B) (y : B) → i < length xs → x ≡ get_or xs i x →
+pub map_further : {A B : Type 0} (f : A → B) (xs : List A) (i : ℕ) (x : A) (made new : List B) (y : B) → i < length xs →
+    x ≡ get_or xs i x →
     made ≡ map f (take i xs) → y ≡ f x → new ≡ made ++ y ∷ [] → new ≡ map f (take (i + 1) xs)
 map_further f xs i x made new y within is so_far at pushed =
     pushed ∙ ap (λ l. l ++ y ∷ []) so_far ∙ ap (λ z. map f (take i xs) ++ z ∷ []) at ∙ sym (map-append f (take i xs) (x ∷ []))

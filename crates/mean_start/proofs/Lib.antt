@@ -3,3 +3,6 @@ pub mod Starting
 pub mod Naming
 pub mod Agreeing
 pub mod Blocks
+pub mod Filing
+pub mod Meaning
+mod StartExamples

@@ -1,5 +1,6 @@
 -- A map of names, one definition more.
-use Rattle.std.proofs.Common.{◌≡◌, ◌≢◌, refl, sym, ap, subst, ◌∙◌, ℕ, zero, suc, ◌+◌, ◌<◌, Bool, true, false, ◌&&◌, cond, not, List, [], ◌∷◌, ◌++◌}
+use Rattle.std.proofs.Common.{◌≡◌, ◌≢◌, refl, sym, ap, subst, ◌∙◌, ℕ, zero, suc, ◌+◌, ◌<◌, Bool, true}
+use Rattle.std.proofs.Common.{false, ◌&&◌, cond, not, List, [], ◌∷◌, ◌++◌}
 use Rattle.std.proofs.Common.{length, take, get_or, arith, Option, Some, None, is_some, add-zero, zero-add}
 use Rattle.std.specs.Prelude.{if◌then◌else◌}
 use Rattle.std.specs.Borrow.{Bor}
@@ -10,6 +11,8 @@ use Rattle.std.proofs.lemmas.Bool.{true≢false}
 use Rattle.std.proofs.lemmas.List.{take_more, length-take-le}
 use Rattle.std.proofs.lemmas.Slice.Eq.{bytes_eq-Decides}
 use Rattle.indexmap.specs.IndexMap.{IndexMap, get_by}
+use Rattle.c_type_base.specs.declared.typed.GlobalInfo.{GlobalInfo}
+use Rattle.c_type_base.specs.declared.typed.TFunction.{TFunction}
 use Rattle.c_type_base.specs.declared.typed.Typed.{Typed}
 use Rattle.block_meaning.specs.Linkage.{Definition, AnObject, AFunction, function_of, or_definition, object_at, function_at, defined_from}
 use Rattle.block_meaning.specs.Linkage.{defined_in, is_object_named, is_function_named, object_block, code_block}
@@ -86,19 +89,18 @@ pub and_false : (b : Bool) → (b && false) ≡ false
 and_false true = refl
 and_false false = refl
 
+behind : (b : Bool) (n : ℕ) (all front rest : Option ℕ) → all ≡ option_or front rest →
+    cond b (Some n) all ≡ option_or (cond b (Some n) front) rest
+behind true n all front rest is = refl
+behind false n all front rest is = is
+
 position_last : {A : Type 0} (p : A → Bool) (xs : List A) (x : A) (n : ℕ) →
     position_from p n (xs ++ x ∷ []) ≡ option_or (position_from p n xs) (cond (p x) (Some (n + length xs)) None)
 position_last p [] x n = ap (λ k. cond (p x) (Some k) None) (sym (add-zero n))
-position_last p (y ∷ ys) x n = by_test (p y)
-  where
-    further : n + 1 + length ys ≡ n + suc (length ys)
-    further = omega arith
-
-    by_test : (b : Bool) → cond b (Some n) (position_from p (n + 1) (ys ++ x ∷ [])) ≡
-        option_or (cond b (Some n) (position_from p (n + 1) ys)) (cond (p x) (Some (n + suc (length ys))) None)
-    by_test true = refl
-    by_test false = position_last p ys x (n + 1)
-        ∙ ap (λ k. option_or (position_from p (n + 1) ys) (cond (p x) (Some k) None)) further
+position_last p (y ∷ ys) x n =
+    let further : n + 1 + length ys ≡ n + suc (length ys) = omega arith in
+    behind (p y) n (position_from p (n + 1) (ys ++ x ∷ [])) (position_from p (n + 1) ys) (cond (p x) (Some (n + suc (length ys))) None)
+    (position_last p ys x (n + 1) ∙ ap (λ k. option_or (position_from p (n + 1) ys) (cond (p x) (Some k) None)) further)
 
 -- the first that passes of those so far and of one more
 position_more : {A : Type 0} (p : A → Bool) (xs : List A) (i : ℕ) (x : A) → i < length xs → x ≡ get_or xs i x →
@@ -114,7 +116,8 @@ object_or unit None false i = refl
 object_or unit (Some n) b i = refl
 
 function_or : (unit : ℕ) (a : Option ℕ) (b : Bool) (i : ℕ) →
-    or_definition (function_at unit a) (where_true b (AFunction (function_of unit i))) ≡ function_at unit (option_or a (cond b (Some i) None))
+    or_definition (function_at unit a) (where_true b (AFunction (function_of unit i))) ≡
+    function_at unit (option_or a (cond b (Some i) None))
 function_or unit None true i = refl
 function_or unit None false i = refl
 function_or unit (Some n) b i = refl
@@ -131,7 +134,8 @@ object_more unit p xs i x o within is =
 -- a function more
 pub function_more : {A : Type 0} (unit : ℕ) (p : A → Bool) (xs : List A) (i : ℕ) (x : A) (o : Option Definition) → i < length xs →
     x ≡ get_or xs i x →
-    or_definition (or_definition o (function_at unit (position_from p 0 (take i xs)))) (where_true (p x) (AFunction (function_of unit i))) ≡
+    or_definition (or_definition o (function_at unit (position_from p 0 (take i xs)))) (where_true (p x) (AFunction
+    (function_of unit i))) ≡
     or_definition o (function_at unit (position_from p 0 (take (i + 1) xs)))
 function_more unit p xs i x o within is =
     or_assoc o _ _ ∙ ap (or_definition o)
@@ -164,3 +168,53 @@ object_meant units unit first block number begins is =
   where
     meant : ℕ → Meant
     meant b = record { block = b; function = None }
+
+pub function_meant : (units : List Typed) (unit first block number n : ℕ) → first ≡ code_block units unit 0 → block ≡ first + number →
+    n ≡ number →
+    record { block = block; function = Some (record { unit = unit; number = n }) } ≡ meant_by units (AFunction (function_of unit number))
+function_meant units unit first block number n begins is at =
+    let same : block ≡ code_block units unit number = omega arith in
+    ap (λ (b : ℕ). meant b n) same ∙ ap (meant (code_block units unit number)) at
+  where
+    meant : ℕ → ℕ → Meant
+    meant b k = record { block = b; function = Some (record { unit = unit; number = k }) }
+
+-- an object is found under its name alone, where other files see it
+pub object_named : {S : Type 0} (m : IndexMap (Bor Name) Meant S) (units : List Typed) (found : Found) (unit number : ℕ) (name : Name)
+    (g : GlobalInfo) → name ≡ g.name → g.local ≡ false → Knows m units (also found name (AnObject unit number)) →
+    Knows m units (λ n. or_definition (found n) (where_true (is_object_named n g) (AnObject unit number)))
+object_named m units found unit number name g is shared =
+    knows_as m units (also found name (AnObject unit number))
+    (λ n. or_definition (found n) (where_true (is_object_named n g) (AnObject unit number)))
+    (λ n. ap (λ b. or_definition (found n) (where_true b (AnObject unit number)))
+    (ap (λ x. bytes_eq x n) is ∙ and_true (bytes_eq g.name n) ∙ ap (λ b. bytes_eq g.name n && not b) (sym shared)))
+
+-- likewise a function
+pub function_named : {S : Type 0} (m : IndexMap (Bor Name) Meant S) (units : List Typed) (found : Found) (unit number : ℕ) (name : Name)
+    (f : TFunction) → name ≡ f.name → f.local ≡ false → Knows m units (also found name (AFunction (function_of unit number))) →
+    Knows m units (λ n. or_definition (found n) (where_true (is_function_named n f) (AFunction (function_of unit number))))
+function_named m units found unit number name f is shared =
+    knows_as m units (also found name (AFunction (function_of unit number)))
+    (λ n. or_definition (found n) (where_true (is_function_named n f) (AFunction (function_of unit number))))
+    (λ n. ap (λ b. or_definition (found n) (where_true b (AFunction (function_of unit number))))
+    (ap (λ x. bytes_eq x n) is ∙ and_true (bytes_eq f.name n) ∙ ap (λ b. bytes_eq f.name n && not b) (sym shared)))
+
+-- what a file defines: its objects, and then its functions
+pub file_defined : {S : Type 0} (m : IndexMap (Bor Name) Meant S) (units : List Typed) (found : Found) (k unit : ℕ) (u : Typed)
+    (os : List GlobalInfo) (fs : List TFunction) → k ≡ unit → os ≡ u.globals → fs ≡ u.functions →
+    Knows m units (λ n. or_definition (or_definition (found n) (object_at k (position_from (is_object_named n) 0 os)))
+    (function_at k (position_from (is_function_named n) 0 fs))) →
+    Knows m units (λ n. or_definition (found n) (defined_in n unit u))
+file_defined m units found k unit u os fs is of_os of_fs =
+    knows_as m units
+    (λ n. or_definition (or_definition (found n) (object_at k (position_from (is_object_named n) 0 os)))
+    (function_at k (position_from (is_function_named n) 0 fs)))
+    (λ n. or_definition (found n) (defined_in n unit u))
+    (λ n. or_assoc (found n) (object_at k (position_from (is_object_named n) 0 os)) (function_at k (position_from
+    (is_function_named n) 0 fs))
+    ∙ ap (λ j. or_definition (found n) (or_definition (object_at j (position_from (is_object_named n) 0 os))
+    (function_at j (position_from (is_function_named n) 0 fs)))) is
+    ∙ ap (λ l. or_definition (found n) (or_definition (object_at unit (position_from (is_object_named n) 0 l))
+    (function_at unit (position_from (is_function_named n) 0 fs)))) of_os
+    ∙ ap (λ l. or_definition (found n) (or_definition (object_at unit (position_from (is_object_named n) 0 u.globals))
+    (function_at unit (position_from (is_function_named n) 0 l)))) of_fs)

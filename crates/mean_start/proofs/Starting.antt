@@ -1,8 +1,9 @@
 -- The numbers of the first blocks of files, one file further.
-use Rattle.std.proofs.Common.{◌≡◌, refl, sym, ap, subst, ◌∙◌, ℕ, zero, suc, ◌+◌, ◌<◌, List, [], ◌∷◌, ◌++◌, length, take, get_or, arith, Option, Some, None}
+use Rattle.std.proofs.Common.{◌≡◌, refl, sym, ap, subst, ◌∙◌, ℕ, zero, suc, ◌+◌, ◌<◌, ◌≤◌, List, [], ◌∷◌}
+use Rattle.std.proofs.Common.{◌++◌, length, take, get_or, arith, Option, Some, None}
 use Rattle.std.specs.Prelude.{slice_get}
 use Rattle.std.proofs.lemmas.List.{take_more}
-use Rattle.std.proofs.lemmas.Option.{none-some, same_Some, slice_get_read}
+use Rattle.std.proofs.lemmas.Option.{none-some, same_Some, slice_get_read, slice_get-get_or}
 use Rattle.c_type_base.specs.declared.typed.Typed.{Typed}
 use Rattle.block_meaning.specs.Linkage.{blocks_of, blocks_in, first_block, objects_in, objects_and_texts_in}
 use Rattle.mean_start.specs.declared.starts.Starts.{Starts}
@@ -50,3 +51,26 @@ pub each_pushed : {A : Type 0} (P : ℕ → A → Type 0) (xs ys : List A) (i : 
     ((n : ℕ) (y : A) → slice_get xs n ≡ Some y → P n y) → P i x → (n : ℕ) (y : A) → slice_get ys n ≡ Some y → P n y
 each_pushed P xs ys i x is count old new n y at = each_more P xs x old (subst (λ k. P k x) (sym count) new) n y
     (ap (λ l. slice_get l n) (sym is) ∙ at)
+
+-- what a place past the end reads as
+abbrev pub no_start : Starts
+no_start = record { objects = 0; texts = 0; functions = 0 }
+
+-- those of the file of a number
+pub start_at : (starts : List Starts) (units : List Typed) → AreStarts starts units → (i : ℕ) → i < length units →
+    IsStart (get_or starts i no_start) units i
+start_at starts units are i within =
+    let count = are.count in
+    are.each i (get_or starts i no_start) (slice_get-get_or starts i no_start (omega arith))
+
+-- there is an element within a list
+pub element : {A : Type 0} (xs : List A) (i : ℕ) → i < length xs → (x : A) × (x ≡ get_or xs i x)
+element [] i within = absurd (omega arith)
+element (x ∷ xs) zero within = (x, refl)
+element (x ∷ xs) (suc i) within = element xs i (omega arith)
+
+-- past the end of a list
+pub past : {A : Type 0} (xs : List A) (i : ℕ) → slice_get xs i ≡ None → length xs ≤ i
+past [] i none = omega arith
+past (x ∷ xs) zero none = absurd (none-some x (sym none))
+past (x ∷ xs) (suc i) none = let below = past xs i none in omega arith

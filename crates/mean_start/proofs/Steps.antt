@@ -60,7 +60,8 @@ unsigned_is (negsuc n) = minus_more (2 ^ 64) n
 
 zero_is : (structs : List StructInfo) (deeper inner number : ℕ) (info : StructInfo) → deeper ≡ suc inner →
     slice_get structs number ≡ Some info →
-    zero_members (zero_by (zero_in_struct inner structs)) info.members (replicate info.bytes (Byte 0)) ≡ zero_in_struct deeper structs number
+    zero_members (zero_by (zero_in_struct inner structs)) info.members (replicate info.bytes (Byte 0)) ≡
+    zero_in_struct deeper structs number
 zero_is structs deeper inner number info is at =
     ap (λ o. zero_members (zero_by (zero_in_struct inner structs)) (members_of o) (replicate (bytes_of_struct o) (Byte 0))) (sym at)
     ∙ ap (λ d. zero_in_struct d structs number) (sym is)

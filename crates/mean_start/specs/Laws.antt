@@ -1,2 +1,3 @@
--- What a file says of its program, and lists one element further.
+-- What a file as code has it says of its program.
 pub mod Looking
+pub mod Found

@@ -13,12 +13,7 @@ use sqlite_items::at;
 use std::alloc::{AllocError, Global};
 
 /// What a call of a function reaches, by the type by which a file with these structs declares it.
-fn function_called(
-    units: &[Typed],
-    these: &[StructInfo],
-    e: &ExternInfo,
-    f: FunctionId,
-) -> Called
+fn function_called(units: &[Typed], these: &[StructInfo], e: &ExternInfo, f: FunctionId) -> Called
     ensures { (unit : ℕ) → these.now ≡ structs_of units.now unit
         → result ≡ called_where (called_as units.now unit e.now (AFunction (function_of f.unit f.number))) }
 {

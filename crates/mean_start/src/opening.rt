@@ -24,12 +24,7 @@ fn text_cells(alloc: Global, bytes: &[u8]) -> Result<Vec<Cell>, AllocError>
 }
 
 /// The blocks of the texts of a file.
-fn open_texts(
-    alloc: Global,
-    memory: &mut Memory,
-    file: &File,
-    unit: u32,
-) -> Result<(), AllocError>
+fn open_texts(alloc: Global, memory: &mut Memory, file: &File, unit: u32) -> Result<(), AllocError>
     ensures { OnOk result ((blocks : List Block) → IsMemory memory.old blocks
         → IsMemory memory.new (blocks ++ texts_from unit 0 file.now.typed.now.texts)) }
 {
@@ -60,12 +55,7 @@ fn open_functions(
 }
 
 /// The blocks of a file.
-fn open_file(
-    alloc: Global,
-    memory: &mut Memory,
-    file: &File,
-    unit: usize,
-) -> Result<(), AllocError>
+fn open_file(alloc: Global, memory: &mut Memory, file: &File, unit: usize) -> Result<(), AllocError>
     ensures { OnOk result ((program : Program) (blocks : List Block) → IsFile file.now program unit → IsMemory memory.old blocks
         → IsMemory memory.new (blocks ++ file_blocks program.units unit file.now.typed.now)) }
 {

@@ -55,7 +55,14 @@ pub fn files<'a>(
     let names = names_of(alloc, units, &starts)?;
     let mut made = Vec::new(alloc);
     for unit in 0..units.len() {
-        let file = file_at(alloc, &names, units, starts[unit], unit, frames.bytes[unit].as_slice())?;
+        let file = file_at(
+            alloc,
+            &names,
+            units,
+            starts[unit],
+            unit,
+            frames.bytes[unit].as_slice(),
+        )?;
         made.push(file)?;
     }
     Ok(made)

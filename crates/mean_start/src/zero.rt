@@ -136,11 +136,7 @@ fn zero_with_members(
 /// # Errors
 ///
 /// Where the host has no memory left, or types stand in one another more than 1,000 deep.
-pub fn zero_cells(
-    alloc: Global,
-    ty: &Ty,
-    structs: &[StructInfo],
-) -> Result<Vec<Cell>, AllocError>
+pub fn zero_cells(alloc: Global, ty: &Ty, structs: &[StructInfo]) -> Result<Vec<Cell>, AllocError>
     ensures { IfOk result (λ made. made.items ≡ spec.zero_cells structs.now ty.now) }
 {
     let inside = Inside {

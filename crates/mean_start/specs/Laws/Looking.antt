@@ -1,4 +1,4 @@
--- What a file as code has it says of its program.
+-- Files and numbers of blocks, by what code has.
 use Rattle.std.proofs.Common.{◌≡◌, refl, sym, subst, ap, ◌∙◌, ℕ, ◌+◌, List, Option, Some, None, add-zero}
 use Rattle.std.specs.Prelude.{slice_get}
 use Rattle.c_type_base.specs.declared.typed.ExternInfo.{ExternInfo}
@@ -18,13 +18,15 @@ file_of {program = program} is unit f at = subst (λ o. IsFileAt o program unit)
 
 -- ---- numbers of blocks
 
-pub object_is : {f : File} {program : Program} {unit : ℕ} → IsFile f program unit → (n : ℕ) → object_block program.units unit n ≡ f.objects + n
+pub object_is : {f : File} {program : Program} {unit : ℕ} → IsFile f program unit → (n : ℕ) →
+    object_block program.units unit n ≡ f.objects + n
 object_is is n = sym (ap (λ b. b + n) (is.objects ∙ add-zero _))
 
 pub text_is : {f : File} {program : Program} {unit : ℕ} → IsFile f program unit → (n : ℕ) → text_block program.units unit n ≡ f.texts + n
 text_is is n = sym (ap (λ b. b + n) (is.texts ∙ add-zero _))
 
-pub code_is : {f : File} {program : Program} {unit : ℕ} → IsFile f program unit → (n : ℕ) → code_block program.units unit n ≡ f.functions + n
+pub code_is : {f : File} {program : Program} {unit : ℕ} → IsFile f program unit → (n : ℕ) →
+    code_block program.units unit n ≡ f.functions + n
 code_is is n = sym (ap (λ b. b + n) (is.functions ∙ add-zero _))
 
 -- ---- names that other files define

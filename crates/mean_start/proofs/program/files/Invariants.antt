@@ -10,5 +10,5 @@ abbrev pub invariant-loop-unit : goal.invariant-loop-unit
 invariant-loop-unit l = record {
   count : length l.made.items ≡ l.unit;
   each : (program : Program) → program.units ≡ l.units → program.frames ≡ frames_in l.frames → (unit : ℕ) (f : File) →
-      slice_get l.made.items unit ≡ Some f → IsFile f program unit
+      slice_get l.made.items unit ≡ Some f → IsFile f program unit;
 }

@@ -10,5 +10,5 @@ abbrev pub invariant-loop-typed : goal.invariant-loop-typed
 invariant-loop-typed l = record {
   next : l.next ≡ first_block l.units l.typed-index;
   count : length l.made.items ≡ l.typed-index;
-  each : (unit : ℕ) (s : Starts) → slice_get l.made.items unit ≡ Some s → IsStart s l.units unit
+  each : (unit : ℕ) (s : Starts) → slice_get l.made.items unit ≡ Some s → IsStart s l.units unit;
 }

@@ -5,7 +5,8 @@ use Rattle.mean_start.proofs.Steps.{repeated_empty, repeated_more}
 use Rattle.mean_start.proofs.zero.repeated.Goals as goal
 
 pub returns-then-is_empty : goal.returns-then-is_empty
-returns-then-is_empty c = c.new-made.ensures.items ∙ repeated_empty c.args.count c.args.cells.now (eqb-true _ 0 (sym c.if-is_empty.ensures))
+returns-then-is_empty c = c.new-made.ensures.items ∙ repeated_empty c.args.count c.args.cells.now (eqb-true _ 0
+    (sym c.if-is_empty.ensures))
 
 pub loop-preserved : goal.loop-preserved
 loop-preserved c =
