@@ -1,5 +1,5 @@
 -- The blocks before the call of `main`, one further.
-use Rattle.std.proofs.Common.{◌≡◌, refl, sym, ap, subst, ◌∙◌, ℕ, zero, suc, ◌+◌, ◌<◌, ◌≤◌, List}
+use Rattle.std.proofs.Common.{◌≡◌, refl, sym, ap, subst, ◌∙◌, ℕ, suc, ◌+◌, ◌<◌, ◌≤◌, List}
 use Rattle.std.proofs.Common.{[], ◌∷◌, ◌++◌, append_assoc, length, map, take}
 use Rattle.std.proofs.Common.{get_or, arith, Option, Some, None, add-zero, zero-add}
 use Rattle.std.specs.Prelude.{slice_get}

@@ -1,8 +1,7 @@
 -- A map of names, one definition more.
-use Rattle.std.proofs.Common.{◌≡◌, ◌≢◌, refl, sym, ap, subst, ◌∙◌, ℕ, zero, suc, ◌+◌, ◌<◌, Bool, true}
+use Rattle.std.proofs.Common.{◌≡◌, refl, sym, ap, ◌∙◌, ℕ, suc, ◌+◌, ◌<◌, Bool, true}
 use Rattle.std.proofs.Common.{false, ◌&&◌, cond, not, List, [], ◌∷◌, ◌++◌}
 use Rattle.std.proofs.Common.{length, take, get_or, arith, Option, Some, None, is_some, add-zero, zero-add}
-use Rattle.std.specs.Prelude.{if◌then◌else◌}
 use Rattle.std.specs.Borrow.{Bor}
 use Rattle.std.specs.List.{position_from}
 use Rattle.std.specs.Option.{option_map, option_or}
@@ -81,13 +80,9 @@ knows_new m m' units found name d meant is new updates knows n = updates n ∙ b
 
 -- ---- an object or function more
 
-pub and_true : (b : Bool) → b ≡ (b && true)
+and_true : (b : Bool) → b ≡ (b && true)
 and_true true = refl
 and_true false = refl
-
-pub and_false : (b : Bool) → (b && false) ≡ false
-and_false true = refl
-and_false false = refl
 
 behind : (b : Bool) (n : ℕ) (all front rest : Option ℕ) → all ≡ option_or front rest →
     cond b (Some n) all ≡ option_or (cond b (Some n) front) rest

@@ -5,7 +5,7 @@ use Rattle.c_type_base.specs.declared.ty.Ty.TheVariants as ty
 use Rattle.c_type_base.specs.declared.typed.ExternInfo.{ExternInfo}
 use Rattle.c_type_base.specs.declared.typed.GlobalInfo.{GlobalInfo}
 use Rattle.c_type_base.specs.declared.typed.Typed.{Typed}
-use Rattle.block_meaning.specs.Linkage.{object_block, text_block, code_block}
+use Rattle.block_meaning.specs.Linkage.{object_block, text_block}
 use Rattle.mean_start.specs.declared.file.Called.TheVariants as called
 use Rattle.mean_start.specs.Files.{extern_as}
 

@@ -1,10 +1,10 @@
 -- Lists of cells, one step further.
 use Rattle.std.proofs.Common.{◌≡◌, refl, sym, ap, subst, ◌∙◌, ℕ, zero, suc, ◌+◌, ◌<◌, List, [], ◌∷◌, ◌++◌, append_assoc, add-one, length}
-use Rattle.std.proofs.Common.{take, drop, get_or, replicate, arith, ◌-◌, ◌^◌, ℤ, pos, negsuc, w64, Some, Result, Vec, Global}
+use Rattle.std.proofs.Common.{take, get_or, replicate, arith, ◌-◌, ◌^◌, ℤ, pos, negsuc, w64, Some, Result, Vec, Global}
 use Rattle.std.specs.Prelude.{slice_get, IfOk}
 use Rattle.std.specs.declared.alloc.AllocError.{AllocError}
 use Rattle.std.specs.Int.{cast_unsigned}
-use Rattle.std.proofs.lemmas.List.{append-nil, nil_from_length, take_more, drop_more}
+use Rattle.std.proofs.lemmas.List.{append-nil, nil_from_length, take_more}
 use Rattle.c_type_base.specs.declared.ty.Ty.{Ty}
 use Rattle.c_type_base.specs.declared.typed.MemberInfo.{MemberInfo}
 use Rattle.c_type_base.specs.declared.typed.InitPiece.{InitPiece}

@@ -1,6 +1,6 @@
 //! The names that files define for all files (C11 6.2.2), each with what it stands for.
 
-ghost use Rattle.std.specs.Prelude.{◌≡◌, ◌+◌, ℕ, List, Option, length, OnOk, IfOk, if◌then◌else◌, Some, None};
+ghost use Rattle.std.specs.Prelude.{◌≡◌, ℕ, List, Option, OnOk, IfOk};
 ghost use Rattle.std.specs.List.{position_from};
 ghost use Rattle.block_meaning.specs.Linkage.{Definition, AnObject, AFunction, function_of, object_block, code_block, or_definition};
 ghost use Rattle.block_meaning.specs.Linkage.{object_at, function_at, is_object_named, is_function_named, defined_in, defined};

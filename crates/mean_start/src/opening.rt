@@ -1,7 +1,7 @@
 //! The blocks of a program before the call of `main`.
 
-ghost use Rattle.std.specs.Prelude.{◌≡◌, ◌++◌, ◌∷◌, [], ℕ, List, map, IfOk, OnOk};
-ghost use Rattle.block_meaning.specs.Blocks.{Block, block_of, null_block};
+ghost use Rattle.std.specs.Prelude.{◌≡◌, ◌++◌, List, map, IfOk, OnOk};
+ghost use Rattle.block_meaning.specs.Blocks.{Block};
 ghost use Rattle.block_meaning.specs.Opening.{texts_from, codes_from, opening};
 ghost use Rattle.block_meaning.specs.Running.{Program};
 ghost use Rattle.block_meaning.specs.declared.cell.Cell.TheVariants.{Byte};

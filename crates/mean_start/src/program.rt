@@ -1,6 +1,6 @@
 //! A program's files with what their names stand for.
 
-ghost use Rattle.std.specs.Prelude.{◌≡◌, ◌<◌, ℕ, List, length, slice_get, Some, IfOk};
+ghost use Rattle.std.specs.Prelude.{◌≡◌, ◌<◌, length, slice_get, Some, IfOk};
 ghost use Rattle.block_meaning.specs.Linkage.{defined};
 ghost use Rattle.block_meaning.specs.Running.{Program};
 ghost use Rattle.mean_start.specs.Files.{IsFile, IsProgram, frames_in};

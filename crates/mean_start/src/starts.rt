@@ -1,7 +1,6 @@
 //! The numbers of the first blocks of each file.
 
 ghost use Rattle.std.specs.Prelude.{◌≡◌, ◌+◌, length, IfOk};
-ghost use Rattle.block_meaning.specs.Linkage.{blocks_of};
 ghost use Rattle.mean_start.specs.Numbers.{AreStarts};
 
 use c_type_base::Typed;

@@ -1,6 +1,6 @@
 //! The cells of objects that are zero (C11 6.7.9 paragraph 10).
 
-ghost use Rattle.std.specs.Prelude.{◌≡◌, ◌++◌, replicate, slice_get, IfOk, OnOk};
+ghost use Rattle.std.specs.Prelude.{◌≡◌, replicate, IfOk};
 ghost use Rattle.block_meaning.specs.Blocks as block;
 ghost use Rattle.block_meaning.specs.Opening as spec;
 ghost use Rattle.block_meaning.specs.Opening.{zero_by, zero_in_struct, zero_members, repeated};

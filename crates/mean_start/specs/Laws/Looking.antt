@@ -1,11 +1,8 @@
 -- Files and numbers of blocks, by what code has.
-use Rattle.std.proofs.Common.{◌≡◌, refl, sym, subst, ap, ◌∙◌, ℕ, ◌+◌, List, Option, Some, None, add-zero}
+use Rattle.std.proofs.Common.{◌≡◌, sym, subst, ap, ◌∙◌, ℕ, ◌+◌, List, Option, Some, None, add-zero}
 use Rattle.std.specs.Prelude.{slice_get}
-use Rattle.c_type_base.specs.declared.typed.ExternInfo.{ExternInfo}
-use Rattle.block_meaning.specs.Linkage.{Definition, function_of, object_block, text_block, code_block, extern_at, definition_of}
-use Rattle.block_meaning.specs.Linkage.{block_of_definition, extern_block, function_in, function_named, structs_in, structs_of}
-use Rattle.block_meaning.specs.Locals.{text_of}
-use Rattle.block_meaning.specs.Meaning.{frame_in, frame_bytes}
+use Rattle.block_meaning.specs.Linkage.{object_block, text_block, code_block, definition_of}
+use Rattle.block_meaning.specs.Linkage.{block_of_definition, extern_block}
 use Rattle.block_meaning.specs.Running.{Program}
 use Rattle.mean_start.specs.declared.file.Extern.{Extern}
 use Rattle.mean_start.specs.declared.file.File.{File}

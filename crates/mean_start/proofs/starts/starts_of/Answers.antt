@@ -1,5 +1,4 @@
-use Rattle.std.proofs.Common.{◌≡◌, ℕ, sym, ap, subst, ◌∙◌, length, ◌+◌, List, Some}
-use Rattle.std.specs.Prelude.{slice_get}
+use Rattle.std.proofs.Common.{ℕ, ap, ◌∙◌, length, ◌+◌}
 use Rattle.std.proofs.lemmas.List.{length_push}
 use Rattle.mean_start.specs.declared.starts.Starts.{Starts}
 use Rattle.mean_start.specs.Numbers.{IsStart}
