@@ -57,6 +57,10 @@ holds_set {slots = slots} {blocks = blocks} holds i s s' at named = record {
   apart = set_apart slots i s s' holds.apart at named;
 }
 
+-- no block, and no slot
+pub holds_none : Holds [] 0 []
+holds_none = record { count = refl; each = λ n. tt; apart = tt }
+
 no_slot : (o : Option Slot) → IsShown o None → o ≡ None
 no_slot None shown = refl
 no_slot (Some s) shown = absurd shown

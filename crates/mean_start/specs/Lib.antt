@@ -1,0 +1,5 @@
+pub mod Files
+pub mod Numbers
+pub mod Known
+pub mod Opened
+pub mod Laws
