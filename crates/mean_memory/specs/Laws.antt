@@ -4,3 +4,4 @@ pub mod Slots
 pub mod Owning
 pub mod Holding
 pub mod Ending
+pub mod Copying

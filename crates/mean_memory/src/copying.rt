@@ -64,7 +64,8 @@ fn give_cells(slot: &mut Slot, cells: Vec<Cell>)
 fn fill_from(cells: &mut Vec<Cell>, from: &Slot, part: Part)
     requires source { part.source + part.bytes ≤ length from.now.cells.items }
     requires target { part.target + part.bytes ≤ length cells.old.items }
-    ensures { cells.new.items ≡ with_cells part.target (cells_in (block_in from.now) part.source part.bytes) cells.old.items }
+    ensures is { cells.new.items ≡ with_cells part.target (cells_in (block_in from.now) part.source part.bytes) cells.old.items }
+    ensures len { length cells.new.items ≡ length cells.old.items }
 {
     let start = part.source as usize;
     let end = part.target as usize;

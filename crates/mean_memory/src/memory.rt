@@ -184,7 +184,11 @@ impl Memory {
         let Some(to) = located(&self.slots, &mut self.hints, target.block) else {
             return false;
         };
-        let part = Part { source: source.offset, target: target.offset, bytes };
+        let part = Part {
+            source: source.offset,
+            target: target.offset,
+            bytes,
+        };
         if from == to {
             copy_slot(&mut self.slots[to], part)
         } else {
