@@ -28,6 +28,9 @@ pub struct Memory {
     hints: Vec<usize>,
 }
 
+/// How many hints a memory has.
+const HINTS: usize = 4096;
+
 impl Memory {
     ghost use Rattle.block_meaning.specs.Access as spec;
     ghost use Rattle.block_meaning.specs.Blocks.{Block, block_of, fresh, stored};
@@ -39,6 +42,18 @@ impl Memory {
     ghost use Rattle.mean_memory.specs.Filled.{Fills, Reads};
     ghost use Rattle.mean_memory.specs.Shown.{read_as, ended_if};
     ghost use Rattle.mean_memory.specs.Standing.{IsEnding, IsMemory, IsWritten};
+
+    /// A memory without blocks.
+    pub fn new(alloc: Global) -> Result<Memory, AllocError>
+        ensures { IfOk result (λ made. IsMemory made []) }
+    {
+        let hints = vec![in alloc; 0; HINTS]?;
+        Ok(Memory {
+            slots: Vec::new(alloc),
+            next: 0,
+            hints,
+        })
+    }
 
     /// Reads a scalar of a type, or tells why that is undefined.
     pub fn read(&mut self, ty: &Ty, a: Access) -> Result<Value, Reason>

@@ -60,6 +60,10 @@ holds_set {slots = slots} {blocks = blocks} holds i s s' at named kind = record 
   in_order = order_set slots i s s' at kind holds.in_order;
 }
 
+-- no block, and no slot
+pub holds_none : Holds [] 0 []
+holds_none = record { count = refl; each = λ n. tt; apart = tt }
+
 no_slot : (o : Option Slot) → IsShown o None → o ≡ None
 no_slot None shown = refl
 no_slot (Some s) shown = absurd shown
