@@ -1,5 +1,5 @@
 -- Cells that are copied from one slot to another, and from block to block.
-use Rattle.std.proofs.Common.{◌≡◌, ◌≢◌, refl, sym, subst, ap, ◌∙◌, arith, ℕ, zero, suc, ◌+◌, ◌<◌, ◌≤◌, true, List, [], ◌∷◌, ◌++◌, length, take, drop}
+use Rattle.std.proofs.Common.{◌≡◌, ◌≢◌, refl, sym, subst, ap, ◌∙◌, arith, ℕ, zero, suc, ◌<◌, true, List, [], ◌∷◌, ◌++◌, length, take, drop}
 use Rattle.std.proofs.Common.{set, get_or, Some}
 use Rattle.std.proofs.lemmas.List.{length-set, take_at}
 use Rattle.std.proofs.lemmas.Option.{slice_get-get_or}
@@ -75,7 +75,8 @@ pub holds_copied : {slots : List Slot} {next : ℕ} {blocks : List Block} → Ho
     block_in t' ≡ with_cells_in target.offset (cells_in (block_in s) source.offset bytes) (block_in t) →
     Holds (slice_set slots j t') next (copied source target bytes blocks)
 holds_copied {slots = slots} {next = next} {blocks = blocks} holds source target bytes i j s t t' from from_place to to_place named is =
-    subst (λ cells. Holds (slice_set slots j t') next (stored target cells blocks)) (sym (cells_of_slot holds source bytes i s from from_place))
+    subst (λ cells. Holds (slice_set slots j t') next (stored target cells blocks))
+    (sym (cells_of_slot holds source bytes i s from from_place))
     (holds_stored holds target (cells_in (block_in s) source.offset bytes) j t t' to to_place named is)
 
 -- slots that were lent as a whole and came back

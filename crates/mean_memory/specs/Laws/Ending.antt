@@ -1,5 +1,5 @@
 -- The blocks of a call that ends, one after another.
-use Rattle.std.proofs.Common.{◌≡◌, ◌≢◌, refl, sym, subst, ap, ◌∙◌, arith, ℕ, zero, suc, ◌+◌, ◌-◌, ◌<◌, ◌≤◌, Bool, true, false, List, [], ◌∷◌, ◌++◌}
+use Rattle.std.proofs.Common.{◌≡◌, refl, sym, subst, ap, ◌∙◌, arith, ℕ, zero, suc, ◌-◌, ◌<◌, ◌≤◌, Bool, true, false, List, [], ◌∷◌, ◌++◌}
 use Rattle.std.proofs.Common.{length, map, Option, Some, None, inl, inr}
 use Rattle.std.proofs.lemmas.Bool.Decides.{eqb_tells}
 use Rattle.std.proofs.lemmas.List.{length-append}
@@ -8,7 +8,7 @@ use Rattle.std.specs.Option.{option_to_list}
 use Rattle.block_meaning.specs.Access.{is_null_block}
 use Rattle.block_meaning.specs.declared.cell.Cell.{Cell}
 use Rattle.block_meaning.specs.declared.kind.Kind.{Kind}
-use Rattle.block_meaning.specs.declared.kind.Kind.TheVariants.{NullBlock, Global, Text, Code, Local}
+use Rattle.block_meaning.specs.declared.kind.Kind.TheVariants.{NullBlock}
 use Rattle.block_meaning.specs.Blocks.{Block, ended, changed, with_block}
 use Rattle.block_meaning.specs.Meaning.{is_of_call, end_call}
 use Rattle.mean_memory.specs.declared.slot.Slot.{Slot}
@@ -77,7 +77,8 @@ map_kept f (b ∷ bs) each = ap (λ c. c ∷ map f bs) (each 0 b refl) ∙ ap (�
 
 dead_kept : (b : Block) → IsDead b → ended b ≡ b
 dead_kept b is =
-    ap (λ (cells : List Cell). record b { live = false; cells = cells }) (sym is.no_cells) ∙ ap (λ (live : Bool). record b { live = live }) (sym is.dead)
+    ap (λ (cells : List Cell). record b { live = false; cells = cells }) (sym is.no_cells)
+    ∙ ap (λ (live : Bool). record b { live = live }) (sym is.dead)
 
 either_kept : (b : Block) (of_call : Bool) → ended b ≡ b → (if of_call then ended b else b) ≡ b
 either_kept b true same = same

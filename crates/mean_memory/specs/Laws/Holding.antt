@@ -62,7 +62,7 @@ holds_set {slots = slots} {blocks = blocks} holds i s s' at named kind = record 
 
 -- no block, and no slot
 pub holds_none : Holds [] 0 []
-holds_none = record { count = refl; each = λ n. tt; apart = tt }
+holds_none = record { count = refl; each = λ n. tt; apart = tt; in_order = tt }
 
 no_slot : (o : Option Slot) → IsShown o None → o ≡ None
 no_slot None shown = refl

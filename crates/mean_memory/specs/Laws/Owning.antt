@@ -1,10 +1,10 @@
 -- Slots in the order of their owners, after a change, after a new one, and without the latest.
-use Rattle.std.proofs.Common.{◌≡◌, refl, sym, subst, ap, arith, ℕ, zero, suc, ◌+◌, ◌-◌, ◌≤◌, Bool, true, false, List, [], ◌∷◌, ◌++◌, length, Option}
+use Rattle.std.proofs.Common.{◌≡◌, refl, sym, subst, arith, ℕ, zero, suc, ◌-◌, ◌≤◌, false, List, [], ◌∷◌, ◌++◌, length}
 use Rattle.std.proofs.Common.{Some, None}
 use Rattle.std.proofs.lemmas.Bool.{ne_eqb}
 use Rattle.std.specs.Prelude.{slice_get, slice_set}
 use Rattle.block_meaning.specs.declared.kind.Kind.{Kind}
-use Rattle.block_meaning.specs.declared.kind.Kind.TheVariants.{NullBlock, Global, Text, Code, Local}
+use Rattle.block_meaning.specs.declared.kind.Kind.TheVariants.{Local}
 use Rattle.block_meaning.specs.Meaning.{is_of_call}
 use Rattle.mean_memory.specs.declared.slot.Slot.{Slot}
 use Rattle.mean_memory.specs.Laws.Places.{none_not_some, some_same}

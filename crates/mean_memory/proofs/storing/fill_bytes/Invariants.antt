@@ -1,5 +1,5 @@
 -- What is filled.
-use Rattle.std.proofs.Common.{◌≡◌, take, map, length}
+use Rattle.std.proofs.Common.{◌≡◌, take, map}
 use Rattle.block_meaning.specs.declared.cell.Cell.TheVariants.{Byte}
 use Rattle.mean_memory.proofs.storing.fill_bytes.Given as goal
 

@@ -1,4 +1,4 @@
-use Rattle.std.proofs.Common.{◌≡◌, refl, subst, sym, ap, ◌∙◌, arith, ◌<◌, length, take, drop, ◌++◌}
+use Rattle.std.proofs.Common.{◌≡◌, refl, subst, sym, ap, ◌∙◌, length}
 use Rattle.std.proofs.lemmas.List.{length-set}
 use Rattle.mean_memory.specs.Copied.{IsCopied}
 use Rattle.mean_memory.specs.declared.copying.Part.{Part}

@@ -1,5 +1,4 @@
 use Rattle.std.proofs.Common.{subst, sym, ◌∙◌}
-use Rattle.block_meaning.specs.Meaning.{end_call}
 use Rattle.mean_memory.specs.Laws.Ending.{end_call_none}
 use Rattle.mean_memory.specs.Owners.{InOrder, UpTo}
 use Rattle.mean_memory.specs.Standing.{IsMemory, IsEnding}

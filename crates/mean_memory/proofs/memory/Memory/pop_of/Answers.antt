@@ -2,7 +2,7 @@ use Rattle.std.proofs.Common.{refl, subst, arith, ◌-◌, ◌<◌, length}
 use Rattle.std.proofs.lemmas.Option.{slice_get_within}
 use Rattle.block_meaning.specs.Blocks.{ended, with_block}
 use Rattle.mean_memory.specs.Laws.Ending.{holds_taken, ended_before, no_null_of_call, taken_fewer}
-use Rattle.mean_memory.specs.Shown.{Holds, IsLatestOf}
+use Rattle.mean_memory.specs.Shown.{IsLatestOf}
 use Rattle.mean_memory.proofs.memory.Memory.pop_of.Goals as goal
 
 pub returns-then-is_latest_of : goal.returns-then-is_latest_of

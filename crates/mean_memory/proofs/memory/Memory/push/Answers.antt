@@ -1,5 +1,4 @@
 use Rattle.std.proofs.Common.{◌≡◌, refl, rules, sym, subst, true}
-use Rattle.std.specs.Prelude.{IsTrue}
 use Rattle.mean_memory.specs.declared.slot.Slot.{Slot}
 use Rattle.mean_memory.specs.Laws.Holding.{holds_push, holds_as}
 use Rattle.mean_memory.specs.Owners.{owner, InOrder, UpTo}
@@ -10,5 +9,6 @@ returns c = λ blocks holds.
     let s : Slot = record { number = c.args.self.now.next; kind = c.args.kind; cells = c.args.cells } in
     let follows : c.may_push.result ≡ true = search rules in
     let most : UpTo (owner c.args.kind) c.args.self.now.slots.items =
-    subst (UpTo (owner c.args.kind)) c.deref.ensures.value (c.may_push.ensures follows (subst InOrder (sym c.deref.ensures.value) holds.in_order)) in
+    subst (UpTo (owner c.args.kind)) c.deref.ensures.value
+    (c.may_push.ensures follows (subst InOrder (sym c.deref.ensures.value) holds.in_order)) in
     (holds.count, holds_as c.in_ok-push.ensures.items (search rules) (holds_push holds s refl most))
