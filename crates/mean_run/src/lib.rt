@@ -8,8 +8,10 @@ mod evaluation;
 mod frames;
 mod here;
 mod now;
+mod object;
 mod operators;
 mod places;
+mod process;
 mod sizes;
 
 pub use access::{read, read_scalar};
@@ -18,9 +20,14 @@ pub use evaluation::{
     Choice, Logical, both_given, condition_given, first_given, operand_first, second_given,
     unary_given, unit_place, unit_value,
 };
-pub use frames::{Control, Frame, OperandFrame, PlaceFrame};
+pub use frames::{
+    Control, Declarations, DoneFrame, Flow, FlowFrame, Frame, Heading, Loop, OperandFrame, PlaceFrame,
+    ValueFrame,
+};
 pub use here::Here;
 pub use now::{Ending, Now};
+pub use object::Object;
 pub use operators::{Both, Operation, on_values, second_effect, unary_effect};
 pub use places::{element_at, read_given};
+pub use process::Process;
 pub use sizes::{exact_size, target_size};
