@@ -3,3 +3,4 @@ pub mod Giving
 pub mod Comparing
 pub mod Standing
 pub mod Reading
+pub mod Storing

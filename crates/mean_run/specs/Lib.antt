@@ -1,3 +1,4 @@
 pub mod Shown
 pub mod Stacked
+pub mod Answered
 pub mod Laws

@@ -2,7 +2,9 @@
 #![tactic(auto)]
 
 mod access;
+mod answers;
 mod arithmetic;
+mod copying;
 mod effects;
 mod evaluation;
 mod frames;
@@ -13,8 +15,10 @@ mod operators;
 mod places;
 mod process;
 mod sizes;
+mod writing;
 
 pub use access::{read, read_scalar};
+pub use copying::{Copy, copy_struct};
 pub use effects::{comparison, is_true, spend};
 pub use evaluation::{
     Choice, Logical, both_given, condition_given, first_given, operand_first, second_given,
@@ -31,3 +35,4 @@ pub use operators::{Both, Operation, on_values, second_effect, unary_effect};
 pub use places::{element_at, read_given};
 pub use process::Process;
 pub use sizes::{exact_size, target_size};
+pub use writing::write;
