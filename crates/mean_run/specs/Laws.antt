@@ -4,3 +4,4 @@ pub mod Comparing
 pub mod Standing
 pub mod Reading
 pub mod Storing
+pub mod Combining

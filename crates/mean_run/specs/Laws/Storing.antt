@@ -117,8 +117,8 @@ pub gives-apart : (n : Now) (here : Context) (now : State) (c : Copy) (to : Acce
     overlap c.source.at c.target.at to.size ≡ false → Gives n now r (with_blocks (copied c.source.at c.target.at to.size) now) →
     Gives n now r (copied_apart here c to now)
 gives-apart n here now c to r is gives = subst
-    (λ b. Gives n now r (goes_on (unless_overlap here c.span to b now) (λ _. with_blocks (copied c.source.at c.target.at to.size)))) (sym is)
-    gives
+    (λ b. Gives n now r (goes_on (unless_overlap here c.span to b now) (λ _. with_blocks (copied c.source.at c.target.at to.size))))
+    (sym is) gives
 
 from_by : (n : Now) (here : Context) (now : State) (c : Copy) (from to : Access) (r : Result (Unit {0}) Ending) →
     from ≡ access here false c.source → to ≡ access here true c.target →
