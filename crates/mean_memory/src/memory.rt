@@ -55,6 +55,11 @@ impl Memory {
         })
     }
 
+    /// The allocator that it was made with.
+    pub fn allocator(&self) -> Global {
+        *self.slots.allocator()
+    }
+
     /// Reads a scalar of a type, or tells why that is undefined.
     pub fn read(&mut self, ty: &Ty, a: Access) -> Result<Value, Reason>
         requires { Reads ty.now a.size }
