@@ -1,12 +1,14 @@
 -- The blocks that the slots of a memory stand for.
-use Rattle.std.specs.Prelude.{◌≡◌, ℕ, false, nat_eq, List, [], ◌∷◌, length, slice_get, Option, Some, None, Result, Ok, Err}
+use Rattle.std.specs.Prelude.{◌≡◌, ℕ, ◌-◌, Bool, false, true, nat_eq, List, [], ◌∷◌, length, slice_get, Option, Some, None, Result, Ok, Err}
 use Rattle.std.specs.Prelude.{if◌then◌else◌}
 use Rattle.block_meaning.specs.declared.access.Access.{Access}
 use Rattle.block_meaning.specs.declared.cell.Cell.{Cell}
 use Rattle.block_meaning.specs.declared.reason.Reason.{Reason}
 use Rattle.block_meaning.specs.declared.value.Value.{Value}
 use Rattle.block_meaning.specs.Access.{ReadResult, ReadsAs, UndefinedBy, is_null_block}
-use Rattle.block_meaning.specs.Blocks.{Block, block_of, with_cells_in, stored}
+use Rattle.block_meaning.specs.Blocks.{Block, block_of, ended, with_block, with_cells_in, stored}
+use Rattle.block_meaning.specs.Meaning.{is_of_call}
+use Rattle.mean_memory.specs.Owners.{InOrder}
 use Rattle.mean_memory.specs.declared.slot.Slot.{Slot}
 
 -- the block of a slot
@@ -20,6 +22,7 @@ slot_with (s ∷ ss) n = (if nat_eq s.number n then Some s else slot_with ss n)
 -- a block whose life has ended
 pub record IsDead (b : Block) : Type 0 where
   pub dead : b.live ≡ false
+  pub no_cells : b.cells ≡ []
   pub no_null : is_null_block b.kind ≡ false
 
 -- a slot, or none, for a block
@@ -39,6 +42,7 @@ pub record Holds (slots : List Slot) (next : ℕ) (blocks : List Block) : Type 0
   pub count : next ≡ length blocks
   pub each : (n : ℕ) → IsShown (slot_with slots n) (slice_get blocks n)
   pub apart : Apart slots
+  pub in_order : InOrder slots
 
 -- a slot of a number stands at an index
 pub record StandsAt (slots : List Slot) (number index : ℕ) : Type 0 where
@@ -49,6 +53,23 @@ pub record StandsAt (slots : List Slot) (number index : ℕ) : Type 0 where
 abbrev pub IsPosition : List Slot → ℕ → Option ℕ → Type 0
 IsPosition slots number None = slot_with slots number ≡ None
 IsPosition slots number (Some index) = StandsAt slots number index
+
+-- the latest slot is a local's that has a number
+pub record IsLatestLocal (slots : List Slot) (number : ℕ) : Type 0 where
+  pub slot : Slot
+  pub is : slice_get slots (length slots - 1) ≡ Some slot
+  pub named : slot.number ≡ number
+  pub no_null : is_null_block slot.kind ≡ false
+
+-- it is a call's
+pub record IsLatestOf (slots : List Slot) (call : ℕ) : Type 0 where
+  pub slot : Slot
+  pub is : slice_get slots (length slots - 1) ≡ Some slot
+  pub of_call : is_of_call call slot.kind ≡ true
+
+-- the blocks after one of a number ended, or none
+abbrev pub ended_if : Bool → ℕ → List Block → List Block
+ended_if ends number blocks = (if ends then with_block number ended blocks else blocks)
 
 -- what a read gives
 abbrev pub read_as : Result Value Reason → ReadResult

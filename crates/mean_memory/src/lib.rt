@@ -2,11 +2,14 @@
 #![tactic(auto)]
 
 mod compare;
+mod copying;
 mod judge;
 mod lookup;
 mod memory;
+mod owner;
 mod reading;
 mod slot;
+mod storing;
 mod values;
 mod writing;
 

@@ -1,11 +1,15 @@
 //! The blocks of a program's run.
 
-ghost use Rattle.std.specs.Prelude.{◌≡◌, ◌≢◌, ◌≤◌, ◌+◌, ◌++◌, List, [], ◌∷◌, length, slice_get, Some, None, IfOk};
+ghost use Rattle.std.specs.Prelude.{◌≡◌, ◌≢◌, ◌<◌, ◌≤◌, ◌+◌, ◌++◌, List, [], ◌∷◌, length, map, slice_get, Some, None, IfOk, IsTrue};
+ghost use Rattle.block_meaning.specs.declared.cell.Cell.TheVariants.{Byte};
 
 use crate::compare::{Ends, compared_by};
+use crate::copying::{Part, copy_between, copy_slot};
 use crate::judge::{read_in, reason_after, reason_against};
 use crate::lookup::{found, located};
+use crate::owner::{all_before, is_latest, is_latest_of, may_push};
 use crate::slot::Slot;
+use crate::storing::{store_bytes_slot, store_slot};
 use crate::values::null;
 use crate::writing::write_slot;
 use block_meaning::{Access, Cell, Kind, Pointer, Reason, Value};
@@ -29,13 +33,15 @@ const HINTS: usize = 4096;
 
 impl Memory {
     ghost use Rattle.block_meaning.specs.Access as spec;
-    ghost use Rattle.block_meaning.specs.Blocks.{Block, block_of};
+    ghost use Rattle.block_meaning.specs.Blocks.{Block, block_of, fresh, stored};
     ghost use Rattle.block_meaning.specs.Compare as compare;
+    ghost use Rattle.block_meaning.specs.Meaning.{end_call};
+    ghost use Rattle.block_meaning.specs.Memory.{copied};
     ghost use Rattle.block_meaning.specs.Values.{cells_of};
     ghost use Rattle.mean_memory.specs.Ends.{end_in};
     ghost use Rattle.mean_memory.specs.Filled.{Fills, Reads};
-    ghost use Rattle.mean_memory.specs.Shown.{read_as};
-    ghost use Rattle.mean_memory.specs.Standing.{IsMemory, IsWritten};
+    ghost use Rattle.mean_memory.specs.Shown.{read_as, ended_if};
+    ghost use Rattle.mean_memory.specs.Standing.{IsEnding, IsMemory, IsWritten};
 
     /// A memory without blocks.
     pub fn new(alloc: Global) -> Result<Memory, AllocError>
@@ -47,6 +53,11 @@ impl Memory {
             next: 0,
             hints,
         })
+    }
+
+    /// The allocator that it was made with.
+    pub fn allocator(&self) -> Global {
+        *self.slots.allocator()
     }
 
     /// Reads a scalar of a type, or tells why that is undefined.
@@ -85,7 +96,7 @@ impl Memory {
         }
     }
 
-    /// Makes a block, and tells its number.
+    /// Makes a block, and tells its number. A local of an earlier call than the latest block's finds no memory.
     pub fn push(&mut self, kind: Kind, cells: Vec<Cell>) -> Result<u64, AllocError>
         ensures { IfOk result (λ number. (blocks : List Block) → IsMemory self.old blocks
             → (number ≡ length blocks) × IsMemory self.new (blocks ++ block_of kind cells.items ∷ [])) }
@@ -94,6 +105,9 @@ impl Memory {
         let Some(next) = number.checked_add(1) else {
             return Err(AllocError);
         };
+        if !may_push(&self.slots, kind) {
+            return Err(AllocError);
+        }
         self.slots.push(Slot {
             number,
             kind,
@@ -101,6 +115,49 @@ impl Memory {
         })?;
         self.next = next;
         Ok(number)
+    }
+
+    /// Makes a block of so many bytes that were never written, and tells its number.
+    pub fn push_fresh(&mut self, kind: Kind, bytes: u64) -> Result<u64, AllocError>
+        ensures { IfOk result (λ number. (blocks : List Block) → IsMemory self.old blocks
+            → (number ≡ length blocks) × IsMemory self.new (blocks ++ fresh kind bytes ∷ [])) }
+    {
+        let alloc = *self.slots.allocator();
+        let cells = vec![in alloc; Cell::Nothing; bytes as usize]?;
+        self.push(kind, cells)
+    }
+
+    /// The latest block ends, if it is a local that has this number. Else nothing changes.
+    pub fn pop_local(&mut self, number: u64) -> bool
+        ensures { (blocks : List Block) → IsMemory self.old blocks → IsMemory self.new (ended_if result number blocks) }
+    {
+        if is_latest(&self.slots, number) {
+            self.slots.pop();
+            true
+        } else {
+            false
+        }
+    }
+
+    /// The latest block ends, if it belongs to a call.
+    fn pop_of(&mut self, call: u64) -> bool
+        ensures ends { (blocks : List Block) → IsMemory self.old blocks → IsEnding self.new call blocks }
+        ensures fewer { IsTrue result → length self.new.slots.items < length self.old.slots.items }
+    {
+        if is_latest_of(&self.slots, call) {
+            self.slots.pop();
+            true
+        } else {
+            false
+        }
+    }
+
+    /// All blocks of a call end, where no block of a later one is alive: true, and else some of them may have ended.
+    pub fn end_call(&mut self, call: u64) -> bool
+        ensures { IsTrue result → (blocks : List Block) → IsMemory self.old blocks → IsMemory self.new (end_call call blocks) }
+    {
+        while self.pop_of(call) {}
+        all_before(&self.slots, call)
     }
 
     /// Writes a scalar of a type, or tells why that is undefined.
@@ -113,6 +170,50 @@ impl Memory {
             return Some(reason_after(a));
         };
         write_slot(&mut self.slots[index], ty, a, v)
+    }
+
+    /// Stores cells from a place on, where the block is alive and has room for them: true, and else nothing changes.
+    pub fn store(&mut self, at: Pointer, cells: &[Cell]) -> bool
+        ensures { IsTrue result → (blocks : List Block) → IsMemory self.old blocks → IsMemory self.new (stored at cells.now blocks) }
+    {
+        let Some(index) = located(&self.slots, &mut self.hints, at.block) else {
+            return false;
+        };
+        store_slot(&mut self.slots[index], at.offset, cells)
+    }
+
+    /// Stores bytes likewise.
+    pub fn store_bytes(&mut self, at: Pointer, bytes: &[u8]) -> bool
+        ensures { IsTrue result → (blocks : List Block) → IsMemory self.old blocks
+            → IsMemory self.new (stored at (map Byte bytes.now) blocks) }
+    {
+        let Some(index) = located(&self.slots, &mut self.hints, at.block) else {
+            return false;
+        };
+        store_bytes_slot(&mut self.slots[index], at.offset, bytes)
+    }
+
+    /// Copies so many cells from one place to another, where both are in blocks that are alive: true, and else nothing changes.
+    pub fn copy(&mut self, source: Pointer, target: Pointer, bytes: u64) -> bool
+        ensures { IsTrue result → (blocks : List Block) → IsMemory self.old blocks
+            → IsMemory self.new (copied source target bytes blocks) }
+    {
+        let Some(from) = located(&self.slots, &mut self.hints, source.block) else {
+            return false;
+        };
+        let Some(to) = located(&self.slots, &mut self.hints, target.block) else {
+            return false;
+        };
+        let part = Part {
+            source: source.offset,
+            target: target.offset,
+            bytes,
+        };
+        if from == to {
+            copy_slot(&mut self.slots[to], part)
+        } else {
+            copy_between(&mut self.slots, from, to, part)
+        }
     }
 
     /// Compares two pointers; none is a comparison that is undefined.

@@ -3,3 +3,5 @@ pub mod Giving
 pub mod Comparing
 pub mod Standing
 pub mod Reading
+pub mod Storing
+pub mod Combining

@@ -1,3 +1,5 @@
 pub mod Shown
 pub mod Stacked
+pub mod Answered
+pub mod Effects
 pub mod Laws

@@ -1,9 +1,11 @@
 -- What the code of a run shows of the definition's run.
-use Rattle.std.specs.Prelude.{◌≡◌, length, Result, Ok, Err}
+use Rattle.std.specs.Prelude.{◌≡◌, ℕ, ◌+◌, List, [], ◌∷◌, length, slice_get, Option, Some, None, Result, Ok, Err}
+use Rattle.block_meaning.specs.Locals.{local_info}
 use Rattle.block_meaning.specs.Memory.{structs_at}
-use Rattle.block_meaning.specs.Running.{Context, State, Stop, Divide, Deep, More, IsUndefined, Stuck}
+use Rattle.block_meaning.specs.Running.{Call, Context, State, Stop, Divide, Deep, More, IsUndefined, Stuck}
 use Rattle.block_meaning.specs.Running as meaning
 use Rattle.mean_memory.specs.Standing.{IsMemory}
+use Rattle.mean_start.specs.Files.{IsProgram}
 use Rattle.mean_run.specs.declared.now.Ending.{Ending}
 use Rattle.mean_run.specs.declared.now.Ending.TheVariants as ending
 use Rattle.mean_run.specs.declared.now.Now.{Now}
@@ -15,10 +17,32 @@ pub record IsNow (n : Now) (now : State) : Type 0 where
   pub work : n.work ≡ now.work
   pub calls : n.calls ≡ length now.calls
 
+-- the call that runs
+pub record IsCall (h : Here) (here : Context) (c : Call) : Type 0 where
+  pub number : h.call ≡ c.number
+  pub place : h.place ≡ c.place
+  pub locals : (k : ℕ) → local_info here c k ≡ slice_get h.locals.now k
+
+-- the call that runs, if there is one yet
+abbrev pub RunsIn : Here → Context → List Call → Type 0
+RunsIn h here [] = h.place ≡ 0
+RunsIn h here (c ∷ cs) = IsCall h here c
+
 -- where something runs
 pub record IsHere (h : Here) (here : Context) : Type 0 where
+  pub program : IsProgram h.files.now here.program
+  pub stack : h.stack ≡ here.program.stack
   pub unit : h.unit ≡ here.unit
   pub structs : h.structs.now ≡ structs_at here
+  pub runs_in : RunsIn h here here.open_calls
+
+abbrev pub block_at : Option (Option ℕ) → Option ℕ
+block_at None = None
+block_at (Some block) = block
+
+-- the blocks of the locals, from the call's first on
+pub record IsWindow (locals : List (Option ℕ)) (h : Here) (here : Context) : Type 0 where
+  pub each : (k : ℕ) → here.local k ≡ block_at (slice_get locals (h.base + k))
 
 -- the outside is as it was
 pub record Quiet (before after : State) : Type 0 where

@@ -6,9 +6,11 @@ ghost use Rattle.block_meaning.specs.Running.{Context, State};
 ghost use Rattle.c_type_base.specs.Sizes.{size};
 ghost use Rattle.mean_memory.specs.Filled.{Reads};
 ghost use Rattle.mean_run.specs.Shown.{IsNow, IsHere, Gives};
+ghost use Rattle.mean_run.specs.Stacked.{object_of};
 
 use crate::here::Here;
 use crate::now::{Ending, Now};
+use crate::object::Object;
 use crate::sizes::exact_size;
 use block_meaning::{Access, Pointer, Value};
 use c_ast::Span;
@@ -27,19 +29,28 @@ fn accessed_size(ty: &Ty, structs: &[StructInfo]) -> Option<u64>
     }
 }
 
-/// The access to an object of a type.
-fn access(h: Here, writes: bool, ty: &Ty, at: Pointer) -> Option<Access>
-    ensures is { IfSome result (λ a. (here : Context) → IsHere h.entry here → a ≡ spec.access here writes (spec.object ty.now at)) }
-    ensures fits { IfSome result (λ a. Reads ty.now a.size) }
+/// The access to an object, by its size.
+pub fn access_of(h: Here, writes: bool, o: Object, size: u64) -> Access
+    ensures is { (here : Context) → IsHere h.entry here → size ≡ spec.bytes_of here o.entry.ty.now
+        → result ≡ spec.access here writes (object_of o.entry) }
+    ensures sized { result.size ≡ size }
 {
-    match accessed_size(ty, h.structs) {
-        Some(size) => Some(Access {
-            at,
-            size,
-            align: align_of(ty, h.structs),
-            writes,
-            scalar: !is_struct(ty),
-        }),
+    Access {
+        at: o.at,
+        size,
+        align: align_of(o.ty, h.structs),
+        writes,
+        scalar: !is_struct(o.ty),
+    }
+}
+
+/// The access to an object.
+pub fn access(h: Here, writes: bool, o: Object) -> Option<Access>
+    ensures is { IfSome result (λ a. (here : Context) → IsHere h.entry here → a ≡ spec.access here writes (object_of o.entry)) }
+    ensures fits { IfSome result (λ a. Reads o.entry.ty.now a.size) }
+{
+    match accessed_size(o.ty, h.structs) {
+        Some(size) => Some(access_of(h, writes, o, size)),
         None => None,
     }
 }
@@ -49,7 +60,7 @@ pub fn read_scalar(n: &mut Now, h: Here, span: Span, ty: &Ty, at: Pointer) -> Re
     ensures { (here : Context) (now : State) → IsHere h.entry here → IsNow n.old now
         → Gives n.new now result (spec.read_scalar here span (spec.object ty.now at) now) }
 {
-    let Some(a) = access(h, false, ty, at) else {
+    let Some(a) = access(h, false, Object { ty, at }) else {
         return Err(Ending::NoMemory);
     };
     match n.memory.read(ty, a) {

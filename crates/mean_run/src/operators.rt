@@ -31,7 +31,8 @@ pub struct Both {
     pub second: Pointer,
 }
 
-fn int_in(ty: &Ty) -> IntType
+/// The integer type that a type is, and else int.
+pub fn int_in(ty: &Ty) -> IntType
     ensures { result ≡ spec.int_in ty.now }
 {
     match int_of(ty) {

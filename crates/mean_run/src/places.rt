@@ -6,7 +6,7 @@ ghost use Rattle.block_meaning.specs.Running.{Context, State};
 ghost use Rattle.mean_machine.specs.Evaluation as machine;
 ghost use Rattle.mean_machine.specs.Frames as waiting;
 ghost use Rattle.mean_run.specs.Shown.{IsNow, IsHere};
-ghost use Rattle.mean_run.specs.Stacked.{Stacked, Stands};
+ghost use Rattle.mean_run.specs.Stacked.{World, Stacked, Stands};
 
 use crate::access::read;
 use crate::frames::{Control, Frame};
@@ -34,8 +34,8 @@ pub fn read_given<'a>(
     e: &'a TExpr,
     p: Pointer,
 ) -> Result<Control<'a>, Ending>
-    ensures { (here : Context) (k : List waiting.Frame) (frames : List Frame) (now : State) → IsHere h.entry here → Stacked k frames here
-        → IsNow n.old now → Stands n.new frames here now result (machine.place_given here k (waiting.ReadFrom e.now) p now) }
+    ensures { (w : World) (here : Context) (k : List waiting.Frame) (frames : List Frame) (now : State) → IsHere h.entry here → Stacked k frames w here
+        → IsNow n.old now → Stands n.new frames w here now result (machine.place_given here k (waiting.ReadFrom e.now) p now) }
 {
     match read(n, h, e.span, &e.ty, p) {
         Ok(v) => Ok(Control::GivesValue(v)),

@@ -12,8 +12,10 @@ use Rattle.block_meaning.specs.declared.cell.Cell.{Cell}
 use Rattle.block_meaning.specs.declared.value.Pointer.{Pointer}
 use Rattle.block_meaning.specs.Blocks.{Block, ended, changed, with_block, with_cells_in, stored}
 use Rattle.mean_memory.specs.declared.slot.Slot.{Slot}
+use Rattle.mean_memory.specs.Laws.Owning.{order_set, order_push, order_front}
 use Rattle.mean_memory.specs.Laws.Places.{some_same, set_there, get_new, get_old, get_set_same, get_set_other}
 use Rattle.mean_memory.specs.Laws.Slots.{stands_with, set_other, set_same, set_apart, push_other, push_same, push_apart, front_apart}
+use Rattle.mean_memory.specs.Owners.{owner, UpTo}
 use Rattle.mean_memory.specs.Shown.{block_in, slot_with, IsShown, Holds, written_block, written_or_kept}
 
 data Decision (m n : ℕ) : Type 0 where
@@ -49,17 +51,18 @@ set_shown {slots = slots} {blocks = blocks} holds i s s' at named n (Differ diff
 
 -- a slot changes, and its block with it
 pub holds_set : {slots : List Slot} {next : ℕ} {blocks : List Block} → Holds slots next blocks → (i : ℕ) (s s' : Slot) →
-    slice_get slots i ≡ Some s → s'.number ≡ s.number →
+    slice_get slots i ≡ Some s → s'.number ≡ s.number → s'.kind ≡ s.kind →
     Holds (slice_set slots i s') next (slice_set blocks s.number (block_in s'))
-holds_set {slots = slots} {blocks = blocks} holds i s s' at named = record {
+holds_set {slots = slots} {blocks = blocks} holds i s s' at named kind = record {
   count = holds.count ∙ sym (length-set blocks s.number (block_in s'));
   each = λ n. set_shown holds i s s' at named n (decision s.number n);
   apart = set_apart slots i s s' holds.apart at named;
+  in_order = order_set slots i s s' at kind holds.in_order;
 }
 
 -- no block, and no slot
 pub holds_none : Holds [] 0 []
-holds_none = record { count = refl; each = λ n. tt; apart = tt }
+holds_none = record { count = refl; each = λ n. tt; apart = tt; in_order = tt }
 
 no_slot : (o : Option Slot) → IsShown o None → o ≡ None
 no_slot None shown = refl
@@ -80,13 +83,14 @@ push_shown {slots = slots} {blocks = blocks} holds s named n (Same is) = subst
 push_shown {slots = slots} {blocks = blocks} holds s named n (Differ differs) =
     shown_as (push_other slots s n differs) (get_old blocks (block_in s) n (λ e. differs (named ∙ holds.count ∙ sym e))) (holds.each n)
 
--- a block more
+-- a block more, of an owner that is no earlier
 pub holds_push : {slots : List Slot} {next : ℕ} {blocks : List Block} → Holds slots next blocks → (s : Slot) → s.number ≡ next →
-    Holds (slots ++ s ∷ []) (next + 1) (blocks ++ block_in s ∷ [])
-holds_push {slots = slots} {blocks = blocks} holds s named = record {
+    UpTo (owner s.kind) slots → Holds (slots ++ s ∷ []) (next + 1) (blocks ++ block_in s ∷ [])
+holds_push {slots = slots} {blocks = blocks} holds s named most = record {
   count = ap (λ n. n + 1) holds.count ∙ sym (length-append blocks (block_in s ∷ []));
   each = λ n. push_shown holds s named n (decision s.number n);
   apart = push_apart slots s holds.apart (ap (slot_with slots) named ∙ next_free holds);
+  in_order = order_push slots s holds.in_order most;
 }
 
 pop_shown : {next : ℕ} {blocks : List Block} (front : List Slot) (s : Slot) → Holds (front ++ s ∷ []) next blocks →
@@ -95,7 +99,7 @@ pop_shown : {next : ℕ} {blocks : List Block} (front : List Slot) (s : Slot) �
 pop_shown {blocks = blocks} front s holds no_null at n (Same is) = subst
     (λ k. IsShown (slot_with front k) (slice_get (slice_set blocks s.number (ended (block_in s))) k)) is
     (shown_as ((front_apart front s holds.apart).1) (get_set_same blocks s.number (block_in s) (ended (block_in s)) at)
-    (record { dead = refl; no_null = no_null }))
+    (record { dead = refl; no_cells = refl; no_null = no_null }))
 pop_shown {blocks = blocks} front s holds no_null at n (Differ differs) =
     shown_as (sym (push_other front s n differs)) (get_set_other blocks s.number n (ended (block_in s)) differs) (holds.each n)
 
@@ -110,6 +114,7 @@ holds_pop {next = next} {blocks = blocks} front s holds no_null =
       count = holds.count ∙ sym (length-set blocks s.number (ended (block_in s)));
       each = λ n. pop_shown front s holds no_null at n (decision s.number n);
       apart = (front_apart front s holds.apart).0;
+      in_order = order_front front s holds.in_order;
     })
 
 pub holds_as : {slots slots' : List Slot} {next next' : ℕ} {blocks : List Block} → slots' ≡ slots → next' ≡ next → Holds slots next blocks →
@@ -127,7 +132,7 @@ holds_stored {slots = slots} {next = next} {blocks = blocks} holds p cells i s s
     let same : slice_set blocks s.number (block_in s') ≡ changed f (slice_get blocks s.number) s.number blocks =
     ap (slice_set blocks s.number) is ∙ ap (λ o. changed f o s.number blocks) (sym there) in
     subst (λ n. Holds (slice_set slots i s') next (changed f (slice_get blocks n) n blocks)) place
-    (subst (Holds (slice_set slots i s') next) same (holds_set holds i s s' at named))
+    (subst (Holds (slice_set slots i s') next) same (holds_set holds i s s' at named (ap (λ b. b.kind) is)))
 
 -- the block of a slot is the one of its number
 pub block_found : {slots : List Slot} {next : ℕ} {blocks : List Block} → Holds slots next blocks → (i n : ℕ) (s : Slot) (b : Block) →
@@ -143,4 +148,5 @@ holds_written holds a cells i s s' None at place named is = holds_stored holds a
 holds_written {slots = slots} {next = next} {blocks = blocks} holds a cells i s s' (Some why) at place named is =
     let there : slice_get blocks s.number ≡ Some (block_in s) = block_at holds i s at in
     subst (Holds (slice_set slots i s') next)
-    (ap (slice_set blocks s.number) is ∙ set_there blocks s.number (block_in s) there) (holds_set holds i s s' at named)
+    (ap (slice_set blocks s.number) is ∙ set_there blocks s.number (block_in s) there)
+    (holds_set holds i s s' at named (ap (λ b. b.kind) is))

@@ -106,3 +106,9 @@ read_there {whole = whole} n i s same stands is =
     let at : slice_get whole i ≡ Some stands.slot = ap (λ l. slice_get l i) (sym same) ∙ stands.is in
     let there : s ≡ stands.slot = is ∙ get_or_from_slice_get whole i stands.slot s at in
     (at ∙ ap Some (sym there), ap (λ t. t.number) there ∙ stands.named)
+
+-- the slot at an index where one of a number stands has the number
+pub found_there : {slots whole : List Slot} {n i : ℕ} {s : Slot} → slots ≡ whole → StandsAt slots n i → slice_get whole i ≡ Some s →
+    s.number ≡ n
+found_there {i = i} same stands at =
+    ap (λ t. t.number) (some_same (sym at ∙ ap (λ l. slice_get l i) (sym same) ∙ stands.is)) ∙ stands.named

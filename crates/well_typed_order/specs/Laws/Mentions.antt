@@ -35,7 +35,8 @@ use Rattle.well_typed_order.specs.Laws.Good.{front, back}
 use Rattle.well_typed_order.specs.Laws.Growth.{In, Grows, grows-objects, grows-body, grows-parts}
 use Rattle.well_typed_order.specs.Laws.Heads.{with_parameters}
 use Rattle.well_typed_order.specs.Laws.Objects.{object_named, object_begun}
-use Rattle.well_typed_order.specs.Laws.Types.{one-type, and_first, and_second}
+use Rattle.c_type_base.specs.Laws.SameLaws.{one-type}
+use Rattle.well_typed_order.specs.Laws.Types.{and_first, and_second}
 
 -- ---- what the text mentions
 

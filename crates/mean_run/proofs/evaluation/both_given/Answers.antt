@@ -5,7 +5,7 @@ use Rattle.mean_run.specs.Laws.Standing.{stands-then, stands-stop, stands-spent,
 use Rattle.mean_run.proofs.evaluation.both_given.Goals as goal
 
 pub returns-in-Ok-on_values : goal.returns-in-Ok-on_values
-returns-in-Ok-on_values c = λ here k frames now of_here stacked of_now.
+returns-in-Ok-on_values c = λ w here k frames now of_here stacked of_now.
     let o = c.args.o in
     let run = on_values here o.span o.operator o.first_type.now o.second_type.now o.first o.second in
     stands-spent (by run (value here k)) c.in-Ok.is (c.spend.ensures now of_now) (λ after shown.
@@ -13,7 +13,7 @@ returns-in-Ok-on_values c = λ here k frames now of_here stacked of_now.
     stands-value refl stacked shown'))
 
 pub returns-in-Err-on_values : goal.returns-in-Err-on_values
-returns-in-Err-on_values c = λ here k frames now of_here stacked of_now.
+returns-in-Err-on_values c = λ w here k frames now of_here stacked of_now.
     let o = c.args.o in
     let run = on_values here o.span o.operator o.first_type.now o.second_type.now o.first o.second in
     stands-spent (by run (value here k)) c.in-Ok.is (c.spend.ensures now of_now) (λ after shown.

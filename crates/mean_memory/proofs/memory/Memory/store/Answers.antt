@@ -1,0 +1,11 @@
+use Rattle.mean_memory.specs.Laws.Slots.{read_there}
+use Rattle.mean_memory.specs.Laws.Holding.{holds_stored}
+use Rattle.mean_memory.proofs.memory.Memory.store.Goals as goal
+
+pub returns : goal.returns
+returns c = λ done blocks holds.
+    let p = c.args.at in
+    let s = c.index_mut.result.now in
+    let there = read_there p.block c.in-Some.index s c.deref.ensures.value c.in-Some.ensures c.index_mut.ensures.value in
+    holds_stored holds p c.args.cells.now c.in-Some.index s c.store_slot.new.slot there.0 there.1 c.store_slot.ensures.number
+    (c.store_slot.ensures.block done)
