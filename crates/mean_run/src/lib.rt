@@ -3,23 +3,25 @@
 
 mod access;
 mod arithmetic;
+mod assigning;
 mod effects;
+mod evaluate;
 mod evaluation;
 mod frames;
 mod here;
+mod locate;
+mod members;
 mod now;
 mod object;
+mod operands;
 mod operators;
 mod places;
 mod process;
 mod sizes;
+mod stepping;
 
 pub use access::{read, read_scalar};
 pub use effects::{comparison, is_true, spend};
-pub use evaluation::{
-    Choice, Logical, both_given, condition_given, first_given, operand_first, second_given,
-    unary_given, unit_place, unit_value,
-};
 pub use frames::{
     Control, Declarations, DoneFrame, Flow, FlowFrame, Frame, Heading, Loop, OperandFrame, PlaceFrame,
     ValueFrame,
@@ -27,7 +29,8 @@ pub use frames::{
 pub use here::Here;
 pub use now::{Ending, Now};
 pub use object::Object;
+pub use operands::operand_given;
 pub use operators::{Both, Operation, on_values, second_effect, unary_effect};
-pub use places::{element_at, read_given};
+pub use places::place_given;
 pub use process::Process;
 pub use sizes::{exact_size, target_size};
