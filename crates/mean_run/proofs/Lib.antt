@@ -2,3 +2,5 @@ pub mod Computed
 pub mod Modulo
 pub mod Waiting
 pub mod First
+pub mod Alike
+pub mod Blocks

@@ -1,10 +1,12 @@
 //! What comes first for the place of what an expression designates.
 
-ghost use Rattle.std.specs.Prelude.{◌≡◌, ℕ, List, ◌∷◌, Option, Some, IfSome};
+ghost use Rattle.std.specs.Prelude.{◌≡◌, ℕ, List, ◌∷◌, Option, Some, IfSome, OnOk};
 ghost use Rattle.block_meaning.specs.Expressions as spec;
 ghost use Rattle.block_meaning.specs.Linkage as linkage;
 ghost use Rattle.block_meaning.specs.Running.{Context, State};
+ghost use Rattle.c_type_base.specs.declared.expr.TExpr.{TExpr as Tree};
 ghost use Rattle.c_type_base.specs.declared.expr.TNode.{out-TNode};
+ghost use Rattle.c_type_base.specs.declared.expr.TNode.TheOpen.{TNode-F};
 ghost use Rattle.mean_machine.specs.Evaluation as machine;
 ghost use Rattle.mean_machine.specs.Frames as waiting;
 ghost use Rattle.mean_machine.specs.Going.{by, place};
@@ -23,7 +25,7 @@ use sqlite_items::at;
 
 /// The block of a local, if it is alive.
 fn local_block(h: Here, locals: &[Option<u64>], number: u32) -> Option<u64>
-    ensures { IfSome result (λ block. (here : Context) → IsWindow locals.now h.entry here → here.local number ≡ Some block) }
+    ensures { (here : Context) → IsWindow locals.now h.entry here → IfSome result (λ block. here.local number ≡ Some block) }
 {
     match h.base.checked_add(number as usize) {
         Some(index) => match at(locals, index) {
@@ -36,8 +38,8 @@ fn local_block(h: Here, locals: &[Option<u64>], number: u32) -> Option<u64>
 
 /// The block of an object that the file defines.
 fn object_block(h: Here, number: u32) -> Option<u64>
-    ensures { IfSome result (λ block. (here : Context) → IsHere h.entry here
-        → linkage.object_block here.program.units here.unit number ≡ block) }
+    ensures { (here : Context) → IsHere h.entry here
+        → IfSome result (λ block. Some (linkage.object_block here.program.units here.unit number) ≡ Some block) }
 {
     match at(h.files, h.unit as usize) {
         Some(file) => file.objects.checked_add(number as u64),
@@ -47,8 +49,8 @@ fn object_block(h: Here, number: u32) -> Option<u64>
 
 /// The block of a text of the file.
 fn text_block(h: Here, number: u32) -> Option<u64>
-    ensures { IfSome result (λ block. (here : Context) → IsHere h.entry here
-        → linkage.text_block here.program.units here.unit number ≡ block) }
+    ensures { (here : Context) → IsHere h.entry here
+        → IfSome result (λ block. Some (linkage.text_block here.program.units here.unit number) ≡ Some block) }
 {
     match at(h.files, h.unit as usize) {
         Some(file) => file.texts.checked_add(number as u64),
@@ -58,8 +60,8 @@ fn text_block(h: Here, number: u32) -> Option<u64>
 
 /// The block of what the file declares and another defines.
 fn extern_block(h: Here, number: u32) -> Option<u64>
-    ensures { IfSome result (λ block. (here : Context) → IsHere h.entry here
-        → linkage.extern_block here.program.units here.unit number ≡ Some block) }
+    ensures { (here : Context) → IsHere h.entry here
+        → IfSome result (λ block. linkage.extern_block here.program.units here.unit number ≡ Some block) }
 {
     match at(h.files, h.unit as usize) {
         Some(file) => match at(file.externs.as_slice(), number as usize) {
@@ -82,7 +84,34 @@ fn starts<'a>(n: &mut Now, block: Option<u64>) -> Result<Control<'a>, Ending>
     }
 }
 
-/// The place of the left side of an assignment is found; where the struct stands that was assigned is wanted.
+/// The place that a dereferenced pointer points to.
+fn dereferenced<'a>(
+    stack: &mut Vec<Frame<'a>>,
+    operator: UnaryOperator,
+    a: &'a TExpr,
+) -> Result<Control<'a>, Ending>
+    ensures { (n : Code) (w : World) (here : Context) (k : List waiting.Frame) (e : Tree) (now : State)
+        → Stacked k stack.old.items w here → IsNow n now
+        → Stands n stack.new.items w here now result (machine.locate here k e (TNode-F.Unary operator a.now) now) }
+{
+    match operator {
+        UnaryOperator::Dereference => operand_first(stack, a, OperandFrame::Dereferenced),
+        _ => Err(Ending::NoMemory),
+    }
+}
+
+/// The pointer in a value is wanted.
+fn pointer_waits(stack: &mut Vec<Frame>) -> Result<(), Ending>
+    ensures { OnOk result ((w : World) (here : Context) (k : List waiting.Frame) → Stacked k stack.old.items w here
+        → Stacked (waiting.OnOperand waiting.PointerIn ∷ k) stack.new.items w here) }
+{
+    match stack.push(Frame::OnOperand(OperandFrame::PointerIn)) {
+        Ok(()) => Ok(()),
+        Err(_) => Err(Ending::NoMemory),
+    }
+}
+
+/// The place of the left side of an assignment is found, and then where the struct stands that was assigned.
 fn assigned_first<'a>(
     stack: &mut Vec<Frame<'a>>,
     a: &'a TExpr,
@@ -92,7 +121,7 @@ fn assigned_first<'a>(
         → IsNow n now → Stands n stack.new.items w here now result
         (machine.place_first here (waiting.OnOperand waiting.PointerIn ∷ k) a.now (place_of frame.entry) now) }
 {
-    match stack.push(Frame::OnOperand(OperandFrame::PointerIn)) {
+    match pointer_waits(stack) {
         Ok(()) => place_first(stack, a, frame),
         Err(_) => Err(Ending::NoMemory),
     }
@@ -116,9 +145,7 @@ pub fn locate<'a>(
         TNode::Global(number) => starts(n, object_block(h, *number)),
         TNode::Extern(number) => starts(n, extern_block(h, *number)),
         TNode::Paren(a) => Ok(Control::Locate(a)),
-        TNode::Unary(UnaryOperator::Dereference, a) => {
-            operand_first(stack, a, OperandFrame::Dereferenced)
-        }
+        TNode::Unary(o, a) => dereferenced(stack, *o, a),
         TNode::Index(a, i) => operand_first(stack, a, OperandFrame::IndexLeft(&e.ty, i)),
         TNode::Member(a, member) => place_first(stack, a, PlaceFrame::MemberAt(a, *member)),
         TNode::Arrow(a, member) => operand_first(stack, a, OperandFrame::ArrowTo(a, *member)),

@@ -37,7 +37,7 @@ pub struct Calling {
 fn call_next<'a>(n: &mut Now, calling: Calling) -> Result<Control<'a>, Ending>
     ensures { (w : World) (here : Context) (k : List waiting.Frame) (frames : List Frame) (now : State) → Stacked k frames w here
         → IsNow n.old now → Stands n.new frames w here now result
-        (spend_then (machine.call enter here k calling.entry.span calling.entry.callee calling.entry.done.items) now) }
+        (spend_then (machine.call enter here k calling.span calling.callee calling.done.items) now) }
 {
     match spend(n) {
         Ok(()) => Ok(Control::Call(
@@ -58,7 +58,7 @@ pub fn arguments<'a>(
 ) -> Result<Control<'a>, Ending>
     ensures { (w : World) (here : Context) (k : List waiting.Frame) (now : State) → Stacked k stack.old.items w here
         → IsNow n.old now → Stands n.new stack.new.items w here now result
-        (machine.arguments enter here k calling.entry.span calling.entry.callee calling.entry.done.items left.now now) }
+        (machine.arguments enter here k calling.span calling.callee calling.done.items left.now now) }
 {
     match left {
         [] => call_next(n, calling),
@@ -80,7 +80,7 @@ fn argument_given<'a>(
 ) -> Result<Control<'a>, Ending>
     ensures { (w : World) (here : Context) (k : List waiting.Frame) (now : State) → Stacked k stack.old.items w here
         → IsNow n.old now → Stands n.new stack.new.items w here now result
-        (machine.arguments enter here k calling.entry.span calling.entry.callee (calling.entry.done.items ++ v ∷ []) left.now now) }
+        (machine.arguments enter here k calling.span calling.callee (calling.done.items ++ v ∷ []) left.now now) }
 {
     match calling.done.push(v) {
         Ok(()) => arguments(n, stack, calling, left),
