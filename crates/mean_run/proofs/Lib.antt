@@ -1,1 +1,5 @@
 pub mod Modulo
+pub mod Waiting
+pub mod First
+pub mod Alike
+pub mod Blocks

@@ -1,4 +1,4 @@
-//! The steps in expressions.
+//! Steps in expressions: what is evaluated or located first, and operators whose operands have their values.
 
 ghost use Rattle.std.specs.Prelude.{◌≡◌, List};
 ghost use Rattle.block_meaning.specs.Expressions.{same_truth};
@@ -10,11 +10,11 @@ ghost use Rattle.mean_machine.specs.Frames as waiting;
 ghost use Rattle.mean_machine.specs.Going.{by, either, place, value};
 ghost use Rattle.mean_machine.specs.Going.{spend as spend_then};
 ghost use Rattle.mean_run.specs.Shown.{IsNow, IsHere};
-ghost use Rattle.mean_run.specs.Stacked.{World, Stacked, Stands, operand_of};
+ghost use Rattle.mean_run.specs.Stacked.{World, Stacked, Stands, operand_of, place_of};
 ghost use Rattle.mean_run.specs.declared.now.Now.{Now as Code};
 
 use crate::effects::{is_true, spend};
-use crate::frames::{Control, Frame, OperandFrame};
+use crate::frames::{Control, Frame, OperandFrame, PlaceFrame};
 use crate::here::Here;
 use crate::now::{Ending, Now};
 use crate::operators::{
@@ -46,11 +46,26 @@ pub fn operand_first<'a>(
     e: &'a TExpr,
     frame: OperandFrame<'a>,
 ) -> Result<Control<'a>, Ending>
-    ensures { (n : Code) (w : World) (here : Context) (k : List waiting.Frame) (now : State) → Stacked k stack.old.items w here → IsNow n now
-        → Stands n stack.new.items w here now result (machine.operand_first here k e.now (operand_of frame.entry) now) }
+    ensures { (n : Code) (w : World) (here : Context) (k : List waiting.Frame) (now : State) → Stacked k stack.old.items w here
+        → IsNow n now → Stands n stack.new.items w here now result (machine.operand_first here k e.now (operand_of frame.entry) now) }
 {
     match stack.push(Frame::OnOperand(frame)) {
         Ok(()) => Ok(Control::Evaluate(e.span, e)),
+        Err(_) => Err(Ending::NoMemory),
+    }
+}
+
+/// The place of an operand is found.
+pub fn place_first<'a>(
+    stack: &mut Vec<Frame<'a>>,
+    e: &'a TExpr,
+    frame: PlaceFrame<'a>,
+) -> Result<Control<'a>, Ending>
+    ensures { (n : Code) (w : World) (here : Context) (k : List waiting.Frame) (now : State) → Stacked k stack.old.items w here
+        → IsNow n now → Stands n stack.new.items w here now result (machine.place_first here k e.now (place_of frame.entry) now) }
+{
+    match stack.push(Frame::OnPlace(frame)) {
+        Ok(()) => Ok(Control::Locate(e)),
         Err(_) => Err(Ending::NoMemory),
     }
 }
@@ -63,8 +78,8 @@ pub fn unary_given<'a>(
     e: &'a TExpr,
     v: Value,
 ) -> Result<Control<'a>, Ending>
-    ensures { (w : World) (here : Context) (k : List waiting.Frame) (frames : List Frame) (now : State) → IsHere h.entry here → Stacked k frames w here
-        → IsNow n.old now → Stands n.new frames w here now result
+    ensures { (w : World) (here : Context) (k : List waiting.Frame) (frames : List Frame) (now : State) → IsHere h.entry here
+        → Stacked k frames w here → IsNow n.old now → Stands n.new frames w here now result
         (machine.operand_given enter here k (waiting.Unary operator e.now) v now) }
 {
     match spend(n) {
@@ -84,8 +99,8 @@ pub fn first_given<'a>(
     logical: Logical<'a>,
     v: Value,
 ) -> Result<Control<'a>, Ending>
-    ensures { (w : World) (here : Context) (k : List waiting.Frame) (now : State) → IsHere h.entry here → Stacked k stack.old.items w here
-        → IsNow n.old now → Stands n.new stack.new.items w here now result (machine.operand_given enter here k
+    ensures { (w : World) (here : Context) (k : List waiting.Frame) (now : State) → IsHere h.entry here
+        → Stacked k stack.old.items w here → IsNow n.old now → Stands n.new stack.new.items w here now result (machine.operand_given enter here k
         (waiting.LogicalFirst logical.entry.decides logical.entry.first.now logical.entry.second.now) v now) }
 {
     match spend(n) {
@@ -103,8 +118,8 @@ fn decided<'a>(
     logical: Logical<'a>,
     first: bool,
 ) -> Result<Control<'a>, Ending>
-    ensures { (n : Code) (w : World) (here : Context) (k : List waiting.Frame) (now : State) → Stacked k stack.old.items w here → IsNow n now
-        → Stands n stack.new.items w here now result (either (same_truth first logical.entry.decides)
+    ensures { (n : Code) (w : World) (here : Context) (k : List waiting.Frame) (now : State) → Stacked k stack.old.items w here
+        → IsNow n now → Stands n stack.new.items w here now result (either (same_truth first logical.entry.decides)
         (value here k (number_of_truth logical.entry.decides))
         (machine.operand_first here k logical.entry.second.now (waiting.LogicalSecond logical.entry.second.now)) now) }
 {
@@ -126,8 +141,8 @@ pub fn second_given<'a>(
     e: &'a TExpr,
     v: Value,
 ) -> Result<Control<'a>, Ending>
-    ensures { (w : World) (here : Context) (k : List waiting.Frame) (frames : List Frame) (now : State) → IsHere h.entry here → Stacked k frames w here
-        → IsNow n.old now → Stands n.new frames w here now result
+    ensures { (w : World) (here : Context) (k : List waiting.Frame) (frames : List Frame) (now : State) → IsHere h.entry here
+        → Stacked k frames w here → IsNow n.old now → Stands n.new frames w here now result
         (machine.operand_given enter here k (waiting.LogicalSecond e.now) v now) }
 {
     match second_effect(n, h, e, v) {
@@ -138,8 +153,8 @@ pub fn second_given<'a>(
 
 /// Both operands of a binary operator have their values.
 pub fn both_given<'a>(n: &mut Now, h: Here<'a>, o: Operation<'a>) -> Result<Control<'a>, Ending>
-    ensures { (w : World) (here : Context) (k : List waiting.Frame) (frames : List Frame) (now : State) → IsHere h.entry here → Stacked k frames w here
-        → IsNow n.old now → Stands n.new frames w here now result (spend_then (by (on_values here o.entry.span o.entry.operator
+    ensures { (w : World) (here : Context) (k : List waiting.Frame) (frames : List Frame) (now : State) → IsHere h.entry here
+        → Stacked k frames w here → IsNow n.old now → Stands n.new frames w here now result (spend_then (by (on_values here o.entry.span o.entry.operator
         o.entry.first_type.now o.entry.second_type.now o.entry.first o.entry.second) (value here k)) now) }
 {
     match spend(n) {
@@ -158,8 +173,8 @@ pub fn condition_given<'a>(
     choice: Choice<'a>,
     v: Value,
 ) -> Result<Control<'a>, Ending>
-    ensures { (w : World) (here : Context) (k : List waiting.Frame) (frames : List Frame) (now : State) → IsHere h.entry here → Stacked k frames w here
-        → IsNow n.old now → Stands n.new frames w here now result (machine.operand_given enter here k
+    ensures { (w : World) (here : Context) (k : List waiting.Frame) (frames : List Frame) (now : State) → IsHere h.entry here
+        → Stacked k frames w here → IsNow n.old now → Stands n.new frames w here now result (machine.operand_given enter here k
         (waiting.Condition choice.entry.condition.now choice.entry.first.now choice.entry.second.now) v now) }
 {
     match spend(n) {
