@@ -1,5 +1,8 @@
 -- Answers of the code, and what the definition's runs are in its words.
 pub mod Giving
+pub mod Windows
+pub mod Entering
+pub mod Scopes
 pub mod Comparing
 pub mod Standing
 pub mod Reading

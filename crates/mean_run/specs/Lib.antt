@@ -1,3 +1,4 @@
 pub mod Shown
 pub mod Stacked
+pub mod Entering
 pub mod Laws
