@@ -1,5 +1,5 @@
 -- What the code has where the blocks of locals come and go, and inside of a scope that was entered.
-use Rattle.std.specs.Prelude.{◌≡◌, ◌⊎◌, ℕ, Bool, true, false, List, [], ◌∷◌, take, Option, Some, Result, Ok, Err}
+use Rattle.std.specs.Prelude.{◌≡◌, ◌⊎◌, ℕ, Bool, true, false, List, [], ◌∷◌, ◌++◌, take, Option, Some, Result, Ok, Err}
 use Rattle.block_meaning.specs.Locals.{latest, new_locals, end_locals}
 use Rattle.block_meaning.specs.Running.{Call, Context, State, Goes}
 use Rattle.block_meaning.specs.Running as meaning
@@ -8,11 +8,12 @@ use Rattle.mean_machine.specs.Going.{Stand}
 use Rattle.c_type_base.specs.declared.statement.TStmt.{TStmt}
 use Rattle.block_meaning.specs.Statements.{Heading}
 use Rattle.mean_run.specs.declared.frames.Declarations.{Declarations}
+use Rattle.mean_run.specs.declared.frames.Frame.{Frame}
 use Rattle.mean_run.specs.declared.here.Here.{Here}
 use Rattle.mean_run.specs.declared.now.Ending.{Ending}
 use Rattle.mean_run.specs.declared.now.Now.{Now}
 use Rattle.mean_run.specs.declared.process.Process.{Process}
-use Rattle.mean_run.specs.Shown.{IsNow, IsWindow, Quiet}
+use Rattle.mean_run.specs.Shown.{IsNow, IsWindow, IsNoMemory, Quiet}
 use Rattle.mean_run.specs.Stacked.{World, IsAt, Stacked, IsProcess, Sticks, StopsBy, cleared, outside_scope, world_of}
 
 -- ---- locals
@@ -54,6 +55,11 @@ pub record Closed (h : Here) (o : Origin) (ks : List ℕ) (n : Now) (locals : Li
   pub quiet : Quiet o.start after
 
 -- ---- scopes
+
+-- a frame is pushed, or the host has no memory left
+abbrev pub Pushed : Result (Unit {0}) Ending → Frame → List Frame → List Frame → Type 0
+Pushed (Ok u) f before after = after ≡ before ++ f ∷ []
+Pushed (Err e) f before after = IsNoMemory e
 
 -- whether there is any
 abbrev pub has_any : List ℕ → Bool

@@ -3,6 +3,8 @@ pub mod Giving
 pub mod Windows
 pub mod Entering
 pub mod Scopes
+pub mod Arguments
+pub mod Calls
 pub mod Comparing
 pub mod Standing
 pub mod Reading

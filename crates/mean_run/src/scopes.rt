@@ -9,7 +9,7 @@ ghost use Rattle.c_type_base.specs.declared.statement.TStmt.{out-TStmt};
 ghost use Rattle.mean_machine.specs.Execution as machine;
 ghost use Rattle.mean_machine.specs.Frames as waiting;
 ghost use Rattle.mean_machine.specs.Going.{by, Stand};
-ghost use Rattle.mean_run.specs.Entering.{Behind, Enters, IsInScope, for_first, has_any};
+ghost use Rattle.mean_run.specs.Entering.{Behind, Enters, IsInScope, Pushed, for_first, has_any};
 ghost use Rattle.mean_run.specs.Shown.{IsNow};
 ghost use Rattle.mean_run.specs.Stacked.{World, Stacked, Stands, IsProcess, Moves, numbers_of, flow_of, heading_of};
 ghost use Rattle.mean_run.specs.declared.now.Now.{Now as Code};
@@ -54,6 +54,16 @@ fn declares(d: Declarations) -> bool
     }
 }
 
+/// A frame is pushed.
+pub fn push<'a>(stack: &mut Vec<Frame<'a>>, frame: Frame<'a>) -> Result<(), Ending>
+    ensures { Pushed result frame.entry stack.old.items stack.new.items }
+{
+    match stack.push(frame) {
+        Ok(()) => Ok(()),
+        Err(_) => Err(Ending::NoMemory),
+    }
+}
+
 /// A scope with locals is entered, whose unit of work was spent.
 fn enter_locals<'a>(p: &mut Process<'a>, d: Declarations<'a>) -> Result<(), Ending>
     ensures { (inside : Context → List waiting.Frame → Stand) (here : Context) (k : List waiting.Frame) (now : State) → IsProcess p.old here k now
@@ -62,10 +72,7 @@ fn enter_locals<'a>(p: &mut Process<'a>, d: Declarations<'a>) -> Result<(), Endi
         (λ inner. inside inner (waiting.OnFlow (waiting.Scope here (numbers_of d.entry)) ∷ k)) now) }
 {
     match open(&mut p.now, &mut p.locals, p.here, d) {
-        Ok(()) => match p.stack.push(Frame::OnFlow(FlowFrame::Scope(d))) {
-            Ok(()) => Ok(()),
-            Err(_) => Err(Ending::NoMemory),
-        },
+        Ok(()) => push(&mut p.stack, Frame::OnFlow(FlowFrame::Scope(d))),
         Err(_) => Err(Ending::NoMemory),
     }
 }
@@ -75,12 +82,13 @@ fn enter_scope<'a>(p: &mut Process<'a>, d: Declarations<'a>) -> Result<(), Endin
     ensures { (inside : Context → List waiting.Frame → Stand) (here : Context) (k : List waiting.Frame) (now : State) → IsProcess p.old here k now
         → Enters p.new now result inside (machine.scope here k (numbers_of d.entry) inside now) }
 {
-    if !declares(d) {
-        return Ok(());
-    }
-    match spend(&mut p.now) {
-        Ok(()) => enter_locals(p, d),
-        Err(e) => Err(e),
+    if declares(d) {
+        match spend(&mut p.now) {
+            Ok(()) => enter_locals(p, d),
+            Err(e) => Err(e),
+        }
+    } else {
+        Ok(())
     }
 }
 

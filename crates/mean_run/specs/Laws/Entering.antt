@@ -66,12 +66,12 @@ reached-block {m = m} {h = h} {locals = locals} n' k number b r at same memory w
 
 -- ---- locals that come
 
-on_each : {A B : Type 0} (m : meaning.Result A) (f g : A → Run B) → ((a : A) (now : State) → f a now ≡ g a now) →
+pub on_each : {A B : Type 0} (m : meaning.Result A) (f g : A → Run B) → ((a : A) (now : State) → f a now ≡ g a now) →
     goes_on m f ≡ goes_on m g
 on_each (Goes a now) f g each = each a now
 on_each (Stops why now) f g each = refl
 
-on_both : {A B C : Type 0} (m : meaning.Result A) (f : A → Run B) (g : B → Run C) →
+pub on_both : {A B C : Type 0} (m : meaning.Result A) (f : A → Run B) (g : B → Run C) →
     goes_on m (λ a. and_then (f a) g) ≡ goes_on (goes_on m f) g
 on_both (Goes a now) f g = refl
 on_both (Stops why now) f g = refl

@@ -18,7 +18,7 @@ use Rattle.mean_run.specs.declared.now.Ending.{Ending}
 use Rattle.mean_run.specs.declared.now.Ending.TheVariants as ending
 use Rattle.mean_run.specs.declared.now.Now.{Now}
 use Rattle.mean_run.specs.declared.process.Process.{Process}
-use Rattle.mean_run.specs.Entering.{Origin, Made, Closed, Entered, EntersBy, Enters, has_any}
+use Rattle.mean_run.specs.Entering.{Origin, Made, Closed, Entered, EntersBy, Enters, Pushed, has_any}
 use Rattle.mean_run.specs.Laws.Giving.{quiet-itself, quiet-through, ends_stuck}
 use Rattle.mean_run.specs.Laws.Standing.{stops_later, stops_by, free_by, spend_is, moves-later}
 use Rattle.mean_run.specs.Shown.{IsNow, IsStuck, Quiet, Gives}
@@ -168,6 +168,18 @@ enters-made {h = h} {p = p} {here = here} {now = now} k inside d before front sa
         quiet = r.quiet;
       });
     }
+
+pub enters-pushed : {h : Here} {p : Process} {here : Context} {now : State} (r : Result (Unit {0}) Ending) (k : List machine.Frame)
+    (inside : Inside) (d : Declarations) (before : List (Option ℕ)) (front : List Frame) → p.here ≡ h →
+    Made h (record { here = here; locals = before; start = now }) (numbers_of d) p.now p.locals.items →
+    Pushed r (OnFlow (of_flow.Scope d)) front p.stack.items → IsAt (record { code = h; locals = before }) here →
+    Stacked k front (record { code = h; locals = before }) here → Enters p now r inside
+    (by (new_locals here (numbers_of d)) (λ inner. inside inner (machine.OnFlow (machine.Scope here (numbers_of d)) ∷ k)) now)
+enters-pushed (Ok u) k inside d before front same made pushed at stacked =
+    enters-made k inside d before front same made pushed at stacked
+enters-pushed {p = p} {here = here} {now = now} (Err ending.NoMemory) k inside d before front same made pushed at stacked =
+    enters-free p now inside _
+enters-pushed (Err _) k inside d before front same made pushed at stacked = absurd pushed
 
 -- ---- it runs inside
 
