@@ -1,9 +1,14 @@
 -- How the code stands inside of a scope and behind it, as the machine does.
-use Rattle.std.proofs.Common.{◌≡◌, refl, sym, subst, ap, ◌∙◌, inl, inr, ℕ, true, false, List, [], ◌∷◌, ◌++◌, Option, Some, None, Result, Ok, Err}
+use Rattle.std.proofs.Common.{◌≡◌, refl, sym, subst, ap, inl, inr, ℕ, true, false, List, [], ◌∷◌, ◌++◌, map, Option, Some, None, Result, Ok, Err}
+use Rattle.c_type_base.specs.declared.expr.TExpr.{TExpr}
+use Rattle.c_type_base.specs.declared.statement.TDecl.{TDecl}
+use Rattle.c_type_base.specs.declared.statement.TItem.TheOpen.{TStmt-F}
+use Rattle.c_type_base.specs.declared.statement.TStmt.{TStmt}
+use Rattle.block_meaning.specs.Statements.{local_of}
 use Rattle.block_meaning.specs.Locals.{latest, new_local, new_locals, end_locals}
 use Rattle.block_meaning.specs.Running.{Call, Context, State, Stop, Stuck, Goes, goes_on, with_some, unit_gives}
 use Rattle.block_meaning.specs.Running as meaning
-use Rattle.mean_machine.specs.Execution.{scope}
+use Rattle.mean_machine.specs.Execution.{scope, execute}
 use Rattle.mean_machine.specs.Frames as machine
 use Rattle.mean_machine.specs.Going.{Stand, go_by, by, spend, flow}
 use Rattle.mean_run.specs.declared.frames.Control.{Control}
@@ -18,7 +23,7 @@ use Rattle.mean_run.specs.declared.now.Ending.{Ending}
 use Rattle.mean_run.specs.declared.now.Ending.TheVariants as ending
 use Rattle.mean_run.specs.declared.now.Now.{Now}
 use Rattle.mean_run.specs.declared.process.Process.{Process}
-use Rattle.mean_run.specs.Entering.{Origin, Made, Closed, Entered, EntersBy, Enters, Pushed, has_any}
+use Rattle.mean_run.specs.Entering.{Made, Closed, EntersBy, Enters, Pushed, for_first, has_any}
 use Rattle.mean_run.specs.Laws.Giving.{quiet-itself, quiet-through, ends_stuck}
 use Rattle.mean_run.specs.Laws.Standing.{stops_later, stops_by, free_by, spend_is, moves-later}
 use Rattle.mean_run.specs.Shown.{IsNow, IsStuck, Quiet, Gives}
@@ -245,3 +250,15 @@ moves-left {h = h} {p = p} {here = here} {outer = outer} {now = now} k d f befor
         };
       });
     }
+
+-- ---- a `for`
+
+-- by its parts
+pub moves-for : {p : Process} {r : Result Control Ending} {ds ds' : List TDecl} {a a' b b' c c' : Option TExpr} {s s' : TStmt}
+    (here : Context) (k : List machine.Frame) (now : State) → ds ≡ ds' → a ≡ a' → b ≡ b' → c ≡ c' → s ≡ s' →
+    Moves p now r (scope here k (map local_of ds)
+        (for_first (record { declared = ds; first = a; condition = b; next = c }) s) now) →
+    Moves p now r (execute here k (TStmt-F.For ds' a' b' c' s') now)
+moves-for {p = p} {r = r} here k now decls first condition next body moves = subst (Moves p now r)
+    (λ i. scope here k (map local_of (decls i))
+        (for_first (record { declared = decls i; first = first i; condition = condition i; next = next i }) (body i)) now) moves

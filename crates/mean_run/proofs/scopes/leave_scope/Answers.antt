@@ -1,10 +1,12 @@
-use Rattle.std.proofs.Common.{refl}
+use Rattle.std.proofs.Common.{refl, sym, subst, []}
+use Rattle.mean_run.specs.Entering.{Origin, Closed}
 use Rattle.mean_run.specs.Laws.Scopes.{closed-none, moves-left}
 use Rattle.mean_run.proofs.scopes.leave_scope.Goals as goal
 
 pub returns-in-Ok : goal.returns-in-Ok
 returns-in-Ok c = λ here b inside.
-    let before = c.args.p.now.locals.items in
-    moves-left b.frames c.args.d c.args.flow before refl
-    (c.in-Ok.ensures (record { here = here; locals = before; start = b.now }) (closed-none inside.at inside.shown))
+    let p = c.args.p.now in
+    let o : Origin = record { here = here; locals = p.locals.items; start = b.now } in
+    moves-left b.frames c.args.d c.args.flow p.locals.items refl
+    (c.in-Ok.ensures o (subst (Closed p.here o [] p.now) (sym c.deref_mut.ensures.value) (closed-none inside.at inside.shown)))
     inside.outside inside.stack
