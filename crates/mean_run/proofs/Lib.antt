@@ -1,2 +1,4 @@
 pub mod Computed
 pub mod Modulo
+pub mod ScopeTurns
+pub mod CallTurns

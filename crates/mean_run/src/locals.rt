@@ -132,12 +132,7 @@ pub fn open(
 }
 
 /// Ends the block of a local.
-fn close_local(
-    n: &mut Now,
-    locals: &mut [Option<u64>],
-    h: Here,
-    k: u32,
-) -> Result<(), AllocError>
+fn close_local(n: &mut Now, locals: &mut [Option<u64>], h: Here, k: u32) -> Result<(), AllocError>
     ensures { OnOk result ((o : Origin) (ks : List ℕ) → Closed h.entry o ks n.old locals.old
         → Closed h.entry o (k ∷ ks) n.new locals.new) }
 {

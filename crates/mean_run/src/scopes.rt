@@ -119,11 +119,7 @@ fn declare_for<'a>(
 }
 
 /// A `for`, which is a scope of its own.
-fn for_loop<'a>(
-    p: &mut Process<'a>,
-    h: Heading<'a>,
-    body: &'a TStmt,
-) -> Result<Control<'a>, Ending>
+fn for_loop<'a>(p: &mut Process<'a>, h: Heading<'a>, body: &'a TStmt) -> Result<Control<'a>, Ending>
     ensures { (here : Context) (k : List waiting.Frame) (now : State) → IsProcess p.old here k now → Moves p.new now result
         (machine.scope here k (map local_of h.entry.declared.now) (for_first (heading_of h.entry) body.now) now) }
 {

@@ -28,23 +28,24 @@ parameters_more : (here : Context) (j : ℕ) (ls : List LocalInfo) (vs : List Va
     ≡ goes_on (with_arguments here j ls vs now) (λ inner. new_parameter inner (j + length ls) l v)
 parameters_more here j [] [] l v now same =
     one (new_parameter here j l v now) ∙ ap (λ k. new_parameter here k l v now) (none j) where
-  one : (m : meaning.Result Context) → goes_on m (λ inner. gives inner) ≡ m
-  one (Goes inner after) = refl
-  one (Stops why after) = refl
-  none : (j : ℕ) → j ≡ j + 0
-  none j = omega arith
+      one : (m : meaning.Result Context) → goes_on m (λ inner. gives inner) ≡ m
+      one (Goes inner after) = refl
+      one (Stops why after) = refl
+
+      none : (j : ℕ) → j ≡ j + 0
+      none j = omega arith
 parameters_more here j [] (w ∷ vs) l v now same = absurd (omega (arith, same))
 parameters_more here j (x ∷ ls) [] l v now same = absurd (omega (arith, same))
 parameters_more here j (x ∷ ls) (w ∷ vs) l v now same =
     let m = new_parameter here j x w now in
     let last : ℕ → Context → Run Context = λ k inner. new_parameter inner k l v in
     on_each m (λ inner. with_arguments inner (j + 1) (ls ++ l ∷ []) (vs ++ v ∷ []))
-        (λ inner. and_then (with_arguments inner (j + 1) ls vs) (last (j + 1 + length ls)))
-        (λ inner after. parameters_more inner (j + 1) ls vs l v after (omega (arith, same)))
+    (λ inner. and_then (with_arguments inner (j + 1) ls vs) (last (j + 1 + length ls)))
+    (λ inner after. parameters_more inner (j + 1) ls vs l v after (omega (arith, same)))
     ∙ on_both m (λ inner. with_arguments inner (j + 1) ls vs) (last (j + 1 + length ls))
     ∙ ap (λ k. goes_on (goes_on m (λ inner. with_arguments inner (j + 1) ls vs)) (last k)) (along j ls x) where
-  along : (j : ℕ) (ls : List LocalInfo) (x : LocalInfo) → j + 1 + length ls ≡ j + length (x ∷ ls)
-  along j ls x = omega arith
+      along : (j : ℕ) (ls : List LocalInfo) (x : LocalInfo) → j + 1 + length ls ≡ j + length (x ∷ ls)
+      along j ls x = omega arith
 
 one_parameter : (inner : Context) (after : State) (c : Call) (k : ℕ) (l : LocalInfo) (v : Value) → latest inner.open_calls ≡ Some c →
     new_parameter inner k l v after ≡ new_block inner k (block_of (Local c.number k) (cells_of l.ty v)) after
@@ -66,16 +67,16 @@ passed-more {h = h} {o = o} {locals = locals} n' k number cells ls vs l v first 
     let done = pushed r.after.blocks r.shown.memory in
     let m = with_arguments o.here 0 ls vs o.start in
     let same : b ≡ block_of (Local r.call.number k) (cells_of l.ty v) =
-        ap (λ x. block_of (Local x k) cells) c.number ∙ ap (block_of (Local r.call.number k)) filled in
+    ap (λ x. block_of (Local x k) cells) c.number ∙ ap (block_of (Local r.call.number k)) filled in
     let place : 0 + length ls ≡ k = omega (arith, first) in
     let one : goes_on m (λ inner. new_block inner k b)
-        ≡ with_arguments o.here 0 (ls ++ l ∷ []) (vs ++ v ∷ []) o.start =
-        ap (λ x. goes_on x (λ inner. new_block inner k b)) r.is
-        ∙ ap (λ x. new_block r.inner k x r.after) same
-        ∙ sym (one_parameter r.inner r.after r.call k l v r.runs)
-        ∙ sym (ap (λ x. goes_on x (λ inner. new_parameter inner k l v)) r.is)
-        ∙ sym (ap (λ j. goes_on m (λ inner. new_parameter inner j l v)) place)
-        ∙ sym (parameters_more o.here 0 ls vs l v o.start (first ∙ sym second)) in
+    ≡ with_arguments o.here 0 (ls ++ l ∷ []) (vs ++ v ∷ []) o.start =
+    ap (λ x. goes_on x (λ inner. new_block inner k b)) r.is
+    ∙ ap (λ x. new_block r.inner k x r.after) same
+    ∙ sym (one_parameter r.inner r.after r.call k l v r.runs)
+    ∙ sym (ap (λ x. goes_on x (λ inner. new_parameter inner k l v)) r.is)
+    ∙ sym (ap (λ j. goes_on m (λ inner. new_parameter inner j l v)) place)
+    ∙ sym (parameters_more o.here 0 ls vs l v o.start (first ∙ sym second)) in
     record {
       reached = subst (λ x. Reached x o.start n' (record { code = h; locals = slice_set locals (h.base + k) (Some number) })) one
           (reached-block n' k number b r at done.0 done.1 work calls);
@@ -114,5 +115,5 @@ passed-none {e = e} {here = here} {f = f} {n = n} {now = now} {before = before} 
       };
       kept = take-append-le e.here.base before (replicate count None) (omega (arith, i.base));
     } where
-  one_more : (cs : List Call) (c : Call) → length cs + 1 ≡ length (cs ++ c ∷ [])
-  one_more cs c = sym (length-append cs (c ∷ []))
+      one_more : (cs : List Call) (c : Call) → length cs + 1 ≡ length (cs ++ c ∷ [])
+      one_more cs c = sym (length-append cs (c ∷ []))

@@ -85,8 +85,8 @@ pub function-linked : (h : Here) (here : Context) (n : Now) (now : State) (span 
 function-linked h here n now span file number x of_here shown at linked =
     let units = here.program.units in
     let is : IsLinked x units here.unit number =
-        subst (λ u. IsLinked x units u number) of_here.unit
-        (subst (λ y. IsExtern y units h.unit number) linked ((file_at h here h.unit file of_here at).externs number)) in
+    subst (λ u. IsLinked x units u number) of_here.unit
+    (subst (λ y. IsExtern y units h.unit number) linked ((file_at h here h.unit file of_here at).externs number)) in
     subst (λ y. Gives n now (called_answer h.unit span x.called) (with_some y (extern_function here span) now)) (sym is.is)
     (defined_by n here now span h.unit is.info x.called (definition_of units (Some is.info)) of_here.unit shown is.called)
 
@@ -114,7 +114,7 @@ entry-at h here file e f bytes calls first of_here at function frame place below
     let of_file = file_at h here f.unit file of_here at in
     let found : function_named program.units f ≡ Some e.function.now = ap (λ x. function_in x f.number) of_file.typed ∙ function in
     let total : h.place + bytes ≡ open_bytes here.open_calls + bytes =
-        ap (λ x. x + bytes) (open_place h here here.open_calls of_here.runs_in) in
+    ap (λ x. x + bytes) (open_place h here here.open_calls of_here.runs_in) in
     record {
       bytes = bytes;
       found = found;
@@ -149,14 +149,15 @@ entry-deep h here file f g bytes k vs now of_here at function frame over =
     let deep : leb place program.stack ≡ false = above place program.stack (omega (arith, over, total, of_here.stack)) in
     let inner : TFunction → ℕ → Run Entry = λ x b. entered here f vs x b in
     subst (λ x. StopsBy now ending.Deep (go_by (with_some x gives now) (λ y. by (with_some (frame_bytes program f) gives)
-        (λ b. by (inner y b) (start_body here k y.result))))) (sym found)
+    (λ b. by (inner y b) (start_body here k y.result))))) (sym found)
     (subst (λ x. StopsBy now ending.Deep (go_by (with_some x gives now) (λ b. by (inner g b) (start_body here k g.result)))) (sym sized)
     (subst (λ x. StopsBy now ending.Deep (go_by (choice_by x) (start_body here k g.result))) (sym deep) (quiet-itself now))) where
-  above : (a b : ℕ) → b < a → leb a b ≡ false
-  above a b less = lt-leb a b less
-  choice_by : Bool → meaning.Result Entry
-  choice_by b = meaning.choice b (and_then (new_call here f (open_bytes here.open_calls + bytes))
-      (λ ins. with_some (latest ins.open_calls) (entered_call vs g ins))) (meaning.stops meaning.Deep) now
+      above : (a b : ℕ) → b < a → leb a b ≡ false
+      above a b less = lt-leb a b less
+
+      choice_by : Bool → meaning.Result Entry
+      choice_by b = meaning.choice b (and_then (new_call here f (open_bytes here.open_calls + bytes))
+          (λ ins. with_some (latest ins.open_calls) (entered_call vs g ins))) (meaning.stops meaning.Deep) now
 
 -- ---- the call was entered
 
@@ -175,7 +176,7 @@ entry_by e here f vs items now bytes ready inner middle after fits body args loc
     let place = open_bytes here.open_calls + bytes in
     let last : Context → Run Entry = λ x. gives (record { call = c; inner = x; items = items }) in
     ap (λ b. meaning.choice b (and_then (new_call here f place) (λ ins. with_some (latest ins.open_calls) (entered_call vs g ins)))
-        (meaning.stops meaning.Deep) now) fits
+    (meaning.stops meaning.Deep) now) fits
     ∙ ap (λ x. goes_on x (λ r. entered_body c r (out-TStmt g.body))) args
     ∙ ap (λ s. entered_body c ready s middle) body
     ∙ ap (λ x. goes_on x last) locals
@@ -194,9 +195,9 @@ started-from {e = e} {here = here} {f = f} {vs = vs} {items = items} {n = n} {no
     let g = e.function.now in
     let r = made.reached in
     let again : (x : ℕ) → x ≡ calls → with_arguments (inside here (next_call here f x i.bytes)) 0 (take g.params g.locals) vs
-        (record now { calls = now.calls ++ next_call here f x i.bytes ∷ [] }) ≡ Goes p.reached.inner p.reached.after =
-        λ x is. subst (λ y. with_arguments (inside here (next_call here f y i.bytes)) 0 (take g.params g.locals) vs
-        (record now { calls = now.calls ++ next_call here f y i.bytes ∷ [] }) ≡ Goes p.reached.inner p.reached.after) (sym is) p.reached.is in
+    (record now { calls = now.calls ++ next_call here f x i.bytes ∷ [] }) ≡ Goes p.reached.inner p.reached.after =
+    λ x is. subst (λ y. with_arguments (inside here (next_call here f y i.bytes)) 0 (take g.params g.locals) vs
+    (record now { calls = now.calls ++ next_call here f y i.bytes ∷ [] }) ≡ Goes p.reached.inner p.reached.after) (sym is) p.reached.is in
     record {
       bytes = i.bytes;
       found = i.found;
@@ -213,8 +214,8 @@ started-from {e = e} {here = here} {f = f} {vs = vs} {items = items} {n = n} {no
       shown = r.shown;
       quiet = quiet-through (record { input = p.reached.quiet.input; output = p.reached.quiet.output }) r.quiet;
     } where
-  take-whole : {A : Type 0} (xs : List A) → take (length xs) xs ≡ xs
-  take-whole xs = take_all (length xs) xs (omega arith)
+      take-whole : {A : Type 0} (xs : List A) → take (length xs) xs ≡ xs
+      take-whole xs = take_all (length xs) xs (omega arith)
 
 -- the frame of the call waits, and the body runs
 pub moves-started : {p : Process} {r : Result Control Ending} {e : code.Entry} {q : Request} {before locals : List (Option ℕ)} {n : Now}
@@ -225,12 +226,12 @@ moves-started {p = p} {r = r} {e = e} {q = q} k s moves =
     let g = e.function.now in
     let inner : TFunction → ℕ → Run Entry = λ x b. entered q.here q.function q.values x b in
     moves-later s.quiet moved where
-  moved : Moves p s.after r (enter q.here k q.function q.values q.now)
-  moved = subst (λ x. Moves p s.after r (go_by (with_some x gives q.now) (λ y. by (with_some (frame_bytes q.here.program q.function) gives)
+      moved : Moves p s.after r (enter q.here k q.function q.values q.now)
+      moved = subst (λ x. Moves p s.after r (go_by (with_some x gives q.now) (λ y. by (with_some (frame_bytes q.here.program q.function) gives)
           (λ b. by (entered q.here q.function q.values y b) (start_body q.here k y.result))))) (sym s.found)
-      (subst (λ x. Moves p s.after r (go_by (with_some x gives q.now)
+          (subst (λ x. Moves p s.after r (go_by (with_some x gives q.now)
           (λ b. by (entered q.here q.function q.values e.function.now b) (start_body q.here k e.function.now.result)))) (sym s.frame)
-      (subst (λ x. Moves p s.after r (go_by x (start_body q.here k e.function.now.result))) (sym s.is) moves))
+          (subst (λ x. Moves p s.after r (go_by x (start_body q.here k e.function.now.result))) (sym s.is) moves))
 
 -- the frame of a call on the stack
 pub call-waits : {e : code.Entry} {q : Request} {before locals : List (Option ℕ)} {n : Now} {outside : Here} {frames : List Frame}

@@ -92,7 +92,7 @@ one_local : (inner : Context) (after : State) (c : Call) (l : LocalInfo) (k : �
 one_local inner after c l k runs at =
     ap (λ x. goes_on (with_some x (new_local inner k) after) (λ i. new_locals i [])) runs
     ∙ ap (λ x. goes_on (with_some x (λ i. new_block inner k (fresh (Local c.number k) (bytes_of inner i.ty))) after)
-        (λ i. new_locals i [])) at
+    (λ i. new_locals i [])) at
 
 -- the code made one more
 pub made-more : {h : Here} {o : Origin} {ks : List ℕ} {n : Now} {locals : List (Option ℕ)} (n' : Now) (k number bytes : ℕ) (l : LocalInfo)
@@ -107,14 +107,14 @@ made-more {h = h} {o = o} {ks = ks} {n = n} {locals = locals} n' k number bytes 
     let done = pushed r.after.blocks r.shown.memory in
     let last : Context → Run Context = λ inner. new_locals inner (k ∷ []) in
     let same : b ≡ fresh (Local r.call.number k) (bytes_of r.inner l.ty) =
-        ap (λ x. fresh (Local x k) bytes) c.number
-        ∙ ap (λ x. fresh (Local r.call.number k) x) (sized ∙ ap (λ s. size s l.ty) r.at.code.structs) in
+    ap (λ x. fresh (Local x k) bytes) c.number
+    ∙ ap (λ x. fresh (Local r.call.number k) x) (sized ∙ ap (λ s. size s l.ty) r.at.code.structs) in
     let one : goes_on (new_locals o.here ks o.start) (λ inner. new_block inner k b) ≡ new_locals o.here (ks ++ k ∷ []) o.start =
-        ap (λ x. goes_on x (λ inner. new_block inner k b)) r.is
-        ∙ ap (λ x. new_block r.inner k x r.after) same
-        ∙ sym (one_local r.inner r.after r.call l k r.runs (c.locals k ∙ info))
-        ∙ sym (ap (λ x. goes_on x last) r.is)
-        ∙ sym (new_locals_more o.here ks k o.start) in
+    ap (λ x. goes_on x (λ inner. new_block inner k b)) r.is
+    ∙ ap (λ x. new_block r.inner k x r.after) same
+    ∙ sym (one_local r.inner r.after r.call l k r.runs (c.locals k ∙ info))
+    ∙ sym (ap (λ x. goes_on x last) r.is)
+    ∙ sym (new_locals_more o.here ks k o.start) in
     record {
       reached = subst (λ x. Reached x o.start n' (record { code = h; locals = slice_set locals (h.base + k) (Some number) })) one
           (reached-block n' k number b r at done.0 done.1 work calls);
@@ -180,8 +180,8 @@ pub closed-more : {h : Here} {o : Origin} {ks : List ℕ} {n : Now} {locals : Li
     n'.calls ≡ n.calls → Closed h o (k ∷ ks) n' (slice_set locals (h.base + k) None)
 closed-more {h = h} {o = o} {ks = ks} {n = n} {locals = locals} n' k b c at popped work calls =
     let there : o.here.local k ≡ Some b =
-        c.window.each k ∙ ap block_at (cleared-some h.base ks o.locals (h.base + k) b
-        (ap (λ l. slice_get l (h.base + k)) (sym c.cleared) ∙ at)) in
+    c.window.each k ∙ ap block_at (cleared-some h.base ks o.locals (h.base + k) b
+    (ap (λ l. slice_get l (h.base + k)) (sym c.cleared) ∙ at)) in
     record {
       after = without b c.after;
       window = c.window;

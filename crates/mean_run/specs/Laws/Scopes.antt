@@ -73,17 +73,19 @@ pub enters-spent : {middle : Now} {p : Process} {start : State} {first r : Resul
 enters-spent {middle = middle} {p = p} {start = start} {r = r} {u = u} inside next is first each =
     subst (Enters p start r inside) (sym (spend_is start.work next start))
     (by_unit (unit_gives tt start) (subst (λ x. Gives middle start x (unit_gives tt start)) is first)) where
-  by_unit : (m : meaning.Result (Unit {0})) → Gives middle start (Ok u) m → Enters p start r inside (go_by m (λ v. next))
-  by_unit (meaning.Goes v after) g = record { told = later_by p start after r inside (next after) g.told.quiet (each after g.told.shown).told }
-  by_unit (meaning.Stops Stuck after) g = enters_stuck p start r inside after
-  by_unit (meaning.Stops why after) g = absurd g.told
+      by_unit : (m : meaning.Result (Unit {0})) → Gives middle start (Ok u) m → Enters p start r inside (go_by m (λ v. next))
+      by_unit (meaning.Goes v after) g = record { told = later_by p start after r inside (next after) g.told.quiet (each after g.told.shown).told }
+      by_unit (meaning.Stops Stuck after) g = enters_stuck p start r inside after
+      by_unit (meaning.Stops why after) g = absurd g.told
 
 pub enters-unspent : {middle : Now} {p : Process} {start : State} {first : Result (Unit {0}) Ending} {e : Ending} (inside : Inside)
     (next : Stand) → first ≡ Err e → Gives middle start first (unit_gives tt start) → Enters p start (Err e) inside (spend next start)
 enters-unspent {middle = middle} {p = p} {start = start} {e = e} inside next is first =
     subst (Enters p start (Err e) inside) (sym (spend_is start.work next start))
-    (record { told = stops_by middle start e (unit_gives tt start) (λ v. next)
-        (subst (λ x. Gives middle start x (unit_gives tt start)) is first).told })
+    (record {
+      told = stops_by middle start e (unit_gives tt start) (λ v. next)
+          (subst (λ x. Gives middle start x (unit_gives tt start)) is first).told;
+    })
 
 -- ---- by its locals
 
@@ -158,16 +160,16 @@ enters-made {h = h} {p = p} {here = here} {now = now} k inside d before front sa
           at = subst (λ x. IsAt (record { code = x; locals = p.locals.items }) r.inner) (sym same) r.at;
           stack = subst (λ x. Stacked (machine.OnFlow (machine.Scope here ns) ∷ k) p.stack.items
               (record { code = x; locals = p.locals.items }) r.inner) (sym same) (record {
-            front = front;
-            top = OnFlow (of_flow.Scope d);
-            is = pushed;
-            shown = record {
-              outer = here;
-              is = refl;
-              outside = subst (λ l. IsAt (record { code = h; locals = l }) here) (sym made.back) at;
-              shown = subst (λ l. Stacked k front (record { code = h; locals = l }) here) (sym made.back) stacked;
-            };
-          });
+                front = front;
+                top = OnFlow (of_flow.Scope d);
+                is = pushed;
+                shown = record {
+                  outer = here;
+                  is = refl;
+                  outside = subst (λ l. IsAt (record { code = h; locals = l }) here) (sym made.back) at;
+                  shown = subst (λ l. Stacked k front (record { code = h; locals = l }) here) (sym made.back) stacked;
+                };
+              });
           shown = r.shown;
         };
         quiet = r.quiet;
@@ -257,8 +259,8 @@ moves-left {h = h} {p = p} {here = here} {outer = outer} {now = now} k d f befor
 pub moves-for : {p : Process} {r : Result Control Ending} {ds ds' : List TDecl} {a a' b b' c c' : Option TExpr} {s s' : TStmt}
     (here : Context) (k : List machine.Frame) (now : State) → ds ≡ ds' → a ≡ a' → b ≡ b' → c ≡ c' → s ≡ s' →
     Moves p now r (scope here k (map local_of ds)
-        (for_first (record { declared = ds; first = a; condition = b; next = c }) s) now) →
+    (for_first (record { declared = ds; first = a; condition = b; next = c }) s) now) →
     Moves p now r (execute here k (TStmt-F.For ds' a' b' c' s') now)
 moves-for {p = p} {r = r} here k now decls first condition next body moves = subst (Moves p now r)
     (λ i. scope here k (map local_of (decls i))
-        (for_first (record { declared = decls i; first = first i; condition = condition i; next = next i }) (body i)) now) moves
+    (for_first (record { declared = decls i; first = first i; condition = condition i; next = next i }) (body i)) now) moves
