@@ -1,6 +1,8 @@
 -- Lists with one more, and frames that are pushed.
 use Rattle.std.proofs.Common.{◌≡◌, sym, ap, ◌∙◌, arith, ℕ, ◌+◌, ◌<◌, List, [], ◌∷◌, ◌++◌, take, get_or, length}
-use Rattle.std.proofs.Common.{subst, Result, Ok, Err}
+use Rattle.std.proofs.Common.{subst, Some, Result, Ok, Err}
+use Rattle.std.proofs.lemmas.Option.{slice_get_within, get_or_from_slice_get}
+use Rattle.std.specs.Prelude.{slice_get}
 use Rattle.std.proofs.lemmas.List.{take_more, length-take-le}
 use Rattle.block_meaning.specs.Running.{State}
 use Rattle.mean_machine.specs.Frames.{Machine}
@@ -15,6 +17,10 @@ use Rattle.mean_run.specs.Stacked.{Moves}
 
 pub one_more : {A : Type 0} (xs : List A) (i : ℕ) (x : A) → i < length xs → x ≡ get_or xs i x → take i xs ++ x ∷ [] ≡ take (i + 1) xs
 one_more xs i x below at = ap (λ y. take i xs ++ y ∷ []) at ∙ sym (take_more xs i x below)
+
+pub one_there : {A : Type 0} (xs : List A) (i : ℕ) (x : A) → slice_get xs i ≡ Some x → take i xs ++ x ∷ [] ≡ take (i + 1) xs
+one_there xs i x there =
+    one_more xs i x (slice_get_within xs i x there) (sym (get_or_from_slice_get xs i x x there))
 
 pub so_many : {A : Type 0} (xs : List A) (i : ℕ) → i < length xs → length (take i xs) ≡ i
 so_many xs i below = length-take-le i xs (omega arith)

@@ -7,7 +7,7 @@ use Rattle.block_meaning.specs.declared.value.Value.{Value}
 use Rattle.block_meaning.specs.Linkage.{function_of, function_named}
 use Rattle.block_meaning.specs.Meaning.{frame_bytes, open_bytes, inside}
 use Rattle.block_meaning.specs.Running.{Function, Call, Context, State, Goes}
-use Rattle.mean_machine.specs.Execution.{entered}
+use Rattle.mean_machine.specs.Execution.{enter, entered}
 use Rattle.mean_machine.specs.Frames as machine
 use Rattle.mean_start.specs.declared.file.Called.{Called}
 use Rattle.mean_start.specs.declared.file.Called.TheVariants as called
@@ -20,7 +20,7 @@ use Rattle.mean_run.specs.declared.now.Now.{Now}
 use Rattle.mean_run.specs.declared.process.Process.{Process}
 use Rattle.mean_run.specs.Entering.{Origin, Behind}
 use Rattle.mean_run.specs.Shown.{IsNow, IsHere, Quiet}
-use Rattle.mean_run.specs.Stacked.{IsAt, Stacked, outside_call, world_of}
+use Rattle.mean_run.specs.Stacked.{IsAt, Stacked, StopsBy, outside_call, world_of}
 
 -- ---- which function
 
@@ -51,6 +51,11 @@ pub record IsEntry (e : Entry) (here : Context) (f : Function) (calls first : �
   pub fits : leb (open_bytes here.open_calls + bytes) here.program.stack ≡ true
   pub code : IsHere e.here (inside here (next_call here f calls bytes))
   pub base : e.here.base ≡ first
+
+-- that, or why it is not entered
+abbrev pub EntryAnswer : Result Entry Ending → Context → Function → ℕ → ℕ → Type 0
+EntryAnswer (Ok e) here f calls first = IsEntry e here f calls first
+EntryAnswer (Err e) here f calls first = (k : List machine.Frame) (vs : List Value) (now : State) → StopsBy now e (enter here k f vs now)
 
 -- where the locals of a call come, which is made in a state
 abbrev pub origin_of : Context → Call → List (Option ℕ) → State → Origin

@@ -15,6 +15,7 @@ use crate::now::Now;
 use block_meaning::{Cell, Kind, Value};
 use c_type_base::{LocalInfo, TFunction, Ty, int_size};
 use mean_memory::put_value;
+use sqlite_items::at;
 use std::alloc::{AllocError, Global};
 
 /// The parameters of a function.
@@ -95,8 +96,8 @@ fn put_block(
     number: usize,
     cells: Vec<Cell>,
 ) -> Result<(), AllocError>
-    ensures { OnOk result ((o : Origin) (ls : List Info) (vs : List Argument) (l : Info) (v : Argument) → length ls ≡ number → length vs ≡ number
-        → cells.items ≡ values.cells_of l.ty v → Passed h.entry o (with_arguments o.here 0 ls vs o.start) n.old locals.old
+    ensures { OnOk result ((o : Origin) (ls : List Info) (vs : List Argument) (l : Info) (v : Argument)
+        → length ls ≡ number → length vs ≡ number → cells.items ≡ values.cells_of l.ty v → Passed h.entry o (with_arguments o.here 0 ls vs o.start) n.old locals.old
         → Passed h.entry o (with_arguments o.here 0 (ls ++ l ∷ []) (vs ++ v ∷ []) o.start) n.new locals.new) }
 {
     let k = small(number)?;
@@ -119,7 +120,10 @@ pub fn pass(
 {
     let alloc = *locals.allocator();
     for k in 0..parameters.len() {
-        let cells = cells_of(alloc, &parameters[k].ty, values[k])?;
+        let Some(v) = at(values, k) else {
+            return Err(AllocError);
+        };
+        let cells = cells_of(alloc, &parameters[k].ty, *v)?;
         put_block(n, locals, h, k, cells)?;
     }
     Ok(())

@@ -1,18 +1,17 @@
 //! Calls: how they are entered and left.
 
-ghost use Rattle.std.specs.Prelude.{◌≡◌, ◌<◌, ◌≤◌, ◌+◌, ◌∷◌, ℕ, List, Option, length, IfOk, IfErr, OnOk, MatchOption};
+ghost use Rattle.std.specs.Prelude.{◌≡◌, ◌<◌, ◌≤◌, ◌+◌, ◌∷◌, ℕ, List, Option, length, OnOk, MatchOption};
 ghost use Rattle.block_meaning.specs.Meaning as spec;
 ghost use Rattle.block_meaning.specs.Running.{Function, Call, Context, State};
-ghost use Rattle.block_meaning.specs.declared.value.Value.{Value as Argument};
 ghost use Rattle.c_type_base.specs.declared.statement.TItem.TheOpen.{TStmt-F};
 ghost use Rattle.c_type_base.specs.declared.statement.TStmt.{out-TStmt};
 ghost use Rattle.mean_machine.specs.Evaluation as evaluation;
 ghost use Rattle.mean_machine.specs.Execution as machine;
 ghost use Rattle.mean_machine.specs.Frames as waiting;
-ghost use Rattle.mean_run.specs.Calling.{IsEntry, IsInCall, Request, Started, function_answer, function_by};
+ghost use Rattle.mean_run.specs.Calling.{EntryAnswer, IsEntry, IsInCall, Request, Started, function_answer, function_by};
 ghost use Rattle.mean_run.specs.Entering.{Behind};
 ghost use Rattle.mean_run.specs.Shown.{IsNow, IsHere, Gives};
-ghost use Rattle.mean_run.specs.Stacked.{IsAt, IsProcess, Moves, Stacked, StopsBy, flow_of};
+ghost use Rattle.mean_run.specs.Stacked.{IsAt, IsProcess, Moves, Stacked, flow_of};
 ghost use Rattle.mean_run.specs.declared.now.Now.{Now as Code};
 
 use crate::arguments::{count_call, parameters, pass};
@@ -44,10 +43,9 @@ fn place_of(h: Here, bytes: u64) -> Option<u64>
 }
 
 /// The function that a call enters, and where its body runs.
+#[tactic(auto, using(crate::specs::Laws::Calls::entry_free))]
 fn entry<'a>(h: Here<'a>, next: NextCall, f: FunctionId) -> Result<Entry<'a>, Ending>
-    ensures is { IfOk result (λ e. (here : Context) → IsHere h.entry here → IsEntry e here (function_by f) next.calls next.base) }
-    ensures deep { IfErr result (λ e. (here : Context) (k : List waiting.Frame) (vs : List Argument) (now : State) → IsHere h.entry here
-        → StopsBy now e (machine.enter here k (function_by f) vs now)) }
+    ensures { (here : Context) → IsHere h.entry here → EntryAnswer result here (function_by f) next.calls next.base }
 {
     let Some(file) = at(h.files, f.unit as usize) else {
         return Err(Ending::NoMemory);

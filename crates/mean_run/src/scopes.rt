@@ -66,8 +66,8 @@ pub fn push<'a>(stack: &mut Vec<Frame<'a>>, frame: Frame<'a>) -> Result<(), Endi
 
 /// A scope with locals is entered, whose unit of work was spent.
 fn enter_locals<'a>(p: &mut Process<'a>, d: Declarations<'a>) -> Result<(), Ending>
-    ensures { (inside : Context → List waiting.Frame → Stand) (here : Context) (k : List waiting.Frame) (now : State) → IsProcess p.old here k now
-        → has_any (numbers_of d.entry) ≡ true
+    ensures { (inside : Context → List waiting.Frame → Stand) (here : Context) (k : List waiting.Frame) (now : State)
+        → IsProcess p.old here k now → has_any (numbers_of d.entry) ≡ true
         → Enters p.new now result inside (by (new_locals here (numbers_of d.entry))
         (λ inner. inside inner (waiting.OnFlow (waiting.Scope here (numbers_of d.entry)) ∷ k)) now) }
 {
@@ -79,8 +79,8 @@ fn enter_locals<'a>(p: &mut Process<'a>, d: Declarations<'a>) -> Result<(), Endi
 
 /// A scope is entered. One without locals spends nothing.
 fn enter_scope<'a>(p: &mut Process<'a>, d: Declarations<'a>) -> Result<(), Ending>
-    ensures { (inside : Context → List waiting.Frame → Stand) (here : Context) (k : List waiting.Frame) (now : State) → IsProcess p.old here k now
-        → Enters p.new now result inside (machine.scope here k (numbers_of d.entry) inside now) }
+    ensures { (inside : Context → List waiting.Frame → Stand) (here : Context) (k : List waiting.Frame) (now : State)
+        → IsProcess p.old here k now → Enters p.new now result inside (machine.scope here k (numbers_of d.entry) inside now) }
 {
     if declares(d) {
         match spend(&mut p.now) {
@@ -109,8 +109,8 @@ fn declare_for<'a>(
     h: Heading<'a>,
     body: &'a TStmt,
 ) -> Result<Control<'a>, Ending>
-    ensures { (n : Code) (w : World) (here : Context) (k : List waiting.Frame) (now : State) → Stacked k stack.old.items w here → IsNow n now
-        → Stands n stack.new.items w here now result (for_first (heading_of h.entry) body.now here k now) }
+    ensures { (n : Code) (w : World) (here : Context) (k : List waiting.Frame) (now : State)
+        → Stacked k stack.old.items w here → IsNow n now → Stands n stack.new.items w here now result (for_first (heading_of h.entry) body.now here k now) }
 {
     match stack.push(Frame::OnDone(DoneFrame::ForDeclared(h, body))) {
         Ok(()) => Ok(Control::Declare(h.declared)),

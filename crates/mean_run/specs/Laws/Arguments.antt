@@ -1,5 +1,6 @@
 -- The parameters of a call, one after another.
-use Rattle.std.proofs.Common.{◌≡◌, refl, sym, subst, ap, ◌∙◌, arith, ℕ, ◌+◌, List, [], ◌∷◌, ◌++◌, length, replicate, take, Option, Some, None}
+use Rattle.std.proofs.Common.{◌≡◌, refl, sym, subst, ap, ◌∙◌, arith, ℕ, ◌+◌, List, [], ◌∷◌, ◌++◌, length, replicate, take, Option}
+use Rattle.std.proofs.Common.{Some, None}
 use Rattle.std.proofs.lemmas.List.{take-append-le, length-append}
 use Rattle.std.specs.Prelude.{slice_get, slice_set}
 use Rattle.c_type_base.specs.declared.typed.LocalInfo.{LocalInfo}

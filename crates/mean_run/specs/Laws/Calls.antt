@@ -45,9 +45,9 @@ use Rattle.mean_run.specs.declared.here.Here.{Here}
 use Rattle.mean_run.specs.declared.now.Ending.{Ending}
 use Rattle.mean_run.specs.declared.now.Ending.TheVariants as ending
 use Rattle.mean_run.specs.declared.now.Now.{Now}
-use Rattle.mean_run.specs.Calling.{IsEntry, IsInCall, Request, Started, called_answer, next_call, origin_of}
+use Rattle.mean_run.specs.Calling.{EntryAnswer, IsEntry, IsInCall, Request, Started, called_answer, next_call, origin_of}
 use Rattle.mean_run.specs.Entering.{Behind, Made, Passed}
-use Rattle.mean_run.specs.Laws.Standing.{moves-later}
+use Rattle.mean_run.specs.Laws.Standing.{free_by, moves-later}
 use Rattle.mean_run.specs.Laws.Giving.{quiet-itself, quiet-through, gives-free, gives-value, gives-stuck}
 use Rattle.mean_run.specs.Laws.Windows.{take-put, take-cleared, window-fresh}
 use Rattle.mean_run.specs.Shown.{IsNow, IsHere, IsCall, RunsIn, Quiet, Gives}
@@ -134,6 +134,10 @@ entry-at h here file e f bytes calls first of_here at function frame place below
       base = ap (λ x. x.base) is;
     }
 
+-- want of memory is free
+pub entry_free : (here : Context) (f : Function) (calls first : ℕ) → EntryAnswer (Err ending.NoMemory) here f calls first
+entry_free here f calls first = λ k vs now. free_by now (enter here k f vs now)
+
 -- where it does not fit
 pub entry-deep : (h : Here) (here : Context) (file : File) (f : Function) (g : TFunction) (bytes : ℕ) (k : List machine.Frame)
     (vs : List Value) (now : State) → IsHere h here → slice_get h.files.now f.unit ≡ Some file →
@@ -161,7 +165,8 @@ entry-deep h here file f g bytes k vs now of_here at function frame over =
 
 -- ---- the call was entered
 
-entry_by : (e : code.Entry) (here : Context) (f : Function) (vs : List Value) (items : List TItem) (now : State) (bytes : ℕ) (ready inner : Context)
+entry_by : (e : code.Entry) (here : Context) (f : Function) (vs : List Value) (items : List TItem) (now : State) (bytes : ℕ)
+    (ready inner : Context)
     (middle after : State) → leb (open_bytes here.open_calls + bytes) here.program.stack ≡ true →
     out-TStmt e.function.now.body ≡ TStmt-F.Block items →
     (let c = next_call here f (length now.calls) bytes in
@@ -227,7 +232,8 @@ moves-started {p = p} {r = r} {e = e} {q = q} k s moves =
     let inner : TFunction → ℕ → Run Entry = λ x b. entered q.here q.function q.values x b in
     moves-later s.quiet moved where
       moved : Moves p s.after r (enter q.here k q.function q.values q.now)
-      moved = subst (λ x. Moves p s.after r (go_by (with_some x gives q.now) (λ y. by (with_some (frame_bytes q.here.program q.function) gives)
+      moved = subst (λ x. Moves p s.after r (go_by (with_some x gives q.now)
+          (λ y. by (with_some (frame_bytes q.here.program q.function) gives)
           (λ b. by (entered q.here q.function q.values y b) (start_body q.here k y.result))))) (sym s.found)
           (subst (λ x. Moves p s.after r (go_by (with_some x gives q.now)
           (λ b. by (entered q.here q.function q.values e.function.now b) (start_body q.here k e.function.now.result)))) (sym s.frame)
@@ -238,7 +244,8 @@ pub call-waits : {e : code.Entry} {q : Request} {before locals : List (Option �
     (front : List Frame) (k : List machine.Frame) (s : Started e q before n locals) (t : Bor Ty) → t.now ≡ e.function.now.result →
     frames ≡ front ++ OnFlow (of_flow.Called outside t) ∷ [] → IsAt (record { code = outside; locals = before }) q.here →
     Stacked k front (record { code = outside; locals = before }) q.here →
-    Stacked (machine.OnFlow (machine.Called q.here s.call e.function.now.result) ∷ k) frames (record { code = e.here; locals = locals }) s.inner
+    Stacked (machine.OnFlow (machine.Called q.here s.call e.function.now.result) ∷ k) frames
+    (record { code = e.here; locals = locals }) s.inner
 call-waits {e = e} {q = q} {locals = locals} {outside = outside} front k s t same pushed at stacked =
     let there : List (Option ℕ) → World = λ l. record { code = outside; locals = l } in
     record {

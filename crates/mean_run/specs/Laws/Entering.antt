@@ -160,7 +160,8 @@ abbrev end_after : Context → List ℕ → Option ℕ → State → meaning.Res
 end_after here ks x now = goes_on (with_some x (λ b. with_blocks (with_block b ended)) now) (λ u. end_locals here ks)
 
 abbrev Later : Context → List ℕ → ℕ → Type 0
-Later here ks b = (now after : State) → end_locals here ks now ≡ Goes tt after → end_locals here ks (without b now) ≡ Goes tt (without b after)
+Later here ks b = (now after : State) → end_locals here ks now ≡ Goes tt after →
+    end_locals here ks (without b now) ≡ Goes tt (without b after)
 
 end_by : (here : Context) (ks : List ℕ) (x : Option ℕ) (b : ℕ) (now after : State) → Later here ks b →
     end_after here ks x now ≡ Goes tt after → end_after here ks x (without b now) ≡ Goes tt (without b after)

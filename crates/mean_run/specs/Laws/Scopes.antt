@@ -1,9 +1,12 @@
 -- How the code stands inside of a scope and behind it, as the machine does.
-use Rattle.std.proofs.Common.{◌≡◌, refl, sym, subst, ap, inl, inr, ℕ, true, false, List, [], ◌∷◌, ◌++◌, map, Option, Some, None, Result, Ok, Err}
+use Rattle.std.proofs.Common.{◌≡◌, refl, sym, subst, ap, ◌∙◌, inl, inr, ℕ, true, false, List, [], ◌∷◌, ◌++◌, map, Option}
+use Rattle.std.proofs.Common.{Some, None, Result, Ok, Err}
 use Rattle.c_type_base.specs.declared.expr.TExpr.{TExpr}
 use Rattle.c_type_base.specs.declared.statement.TDecl.{TDecl}
 use Rattle.c_type_base.specs.declared.statement.TItem.TheOpen.{TStmt-F}
-use Rattle.c_type_base.specs.declared.statement.TStmt.{TStmt}
+use Rattle.c_type_base.specs.declared.statement.TItem.{TItem}
+use Rattle.c_type_base.specs.declared.statement.TStmt.{TStmt, Block, For, out-TStmt, out-roll-TStmt}
+use Rattle.c_type_base.specs.Laws.Opened.{given_typed}
 use Rattle.block_meaning.specs.Statements.{local_of}
 use Rattle.block_meaning.specs.Locals.{latest, new_local, new_locals, end_locals}
 use Rattle.block_meaning.specs.Running.{Call, Context, State, Stop, Stuck, Goes, goes_on, with_some, unit_gives}
@@ -27,7 +30,7 @@ use Rattle.mean_run.specs.Entering.{Made, Closed, EntersBy, Enters, Pushed, for_
 use Rattle.mean_run.specs.Laws.Giving.{quiet-itself, quiet-through, ends_stuck}
 use Rattle.mean_run.specs.Laws.Standing.{stops_later, stops_by, free_by, spend_is, moves-later}
 use Rattle.mean_run.specs.Shown.{IsNow, IsStuck, Quiet, Gives}
-use Rattle.mean_run.specs.Stacked.{World, IsAt, Stacked, IsProcess, Moves, numbers_of, flow_of, outside_scope, world_of, cleared, StopsBy, MovesBy}
+use Rattle.mean_run.specs.Stacked.{World, IsAt, Stacked, IsProcess, Sticks, Moves, MovesBy, numbers_of, flow_of, outside_scope}
 
 abbrev Inside : Type 0
 Inside = Context → List machine.Frame → Stand
@@ -74,7 +77,8 @@ enters-spent {middle = middle} {p = p} {start = start} {r = r} {u = u} inside ne
     subst (Enters p start r inside) (sym (spend_is start.work next start))
     (by_unit (unit_gives tt start) (subst (λ x. Gives middle start x (unit_gives tt start)) is first)) where
       by_unit : (m : meaning.Result (Unit {0})) → Gives middle start (Ok u) m → Enters p start r inside (go_by m (λ v. next))
-      by_unit (meaning.Goes v after) g = record { told = later_by p start after r inside (next after) g.told.quiet (each after g.told.shown).told }
+      by_unit (meaning.Goes v after) g =
+          record { told = later_by p start after r inside (next after) g.told.quiet (each after g.told.shown).told }
       by_unit (meaning.Stops Stuck after) g = enters_stuck p start r inside after
       by_unit (meaning.Stops why after) g = absurd g.told
 
@@ -196,7 +200,7 @@ entered_by : (p middle : Process) (a : State) (r : Result Control Ending) (insid
 entered_by p middle a r inside m u (inl e) each =
     subst (Moves p a r) (sym e.is) (moves-later e.quiet (each e.inner e.frames e.after e.process))
 entered_by p middle a r inside m u (inr sticks) each = record { told = sticks_by p a r m sticks } where
-  sticks_by : (p : Process) (a : State) (r : Result Control Ending) (m : machine.Machine) → Rattle.mean_run.specs.Stacked.Sticks m → MovesBy p a r m
+  sticks_by : (p : Process) (a : State) (r : Result Control Ending) (m : machine.Machine) → Sticks m → MovesBy p a r m
   sticks_by p a (Ok c) m sticks = inr sticks
   sticks_by p a (Err e) (machine.Runs c there k after) sticks = absurd sticks
   sticks_by p a (Err e) (machine.Ended Stuck after) sticks = ends_stuck e a after
@@ -264,3 +268,22 @@ pub moves-for : {p : Process} {r : Result Control Ending} {ds ds' : List TDecl} 
 moves-for {p = p} {r = r} here k now decls first condition next body moves = subst (Moves p now r)
     (λ i. scope here k (map local_of (decls i))
     (for_first (record { declared = decls i; first = first i; condition = condition i; next = next i }) (body i)) now) moves
+
+-- ---- the statements that open a scope
+
+out_block : (items : List TItem) → out-TStmt (Block items) ≡ TStmt-F.Block items
+unfolding given_typed
+out_block items = out-roll-TStmt (TStmt-F.Block items)
+
+out_for : (ds : List TDecl) (first condition next : Option TExpr) (body : TStmt) →
+    out-TStmt (For ds first condition next body) ≡ TStmt-F.For ds first condition next body
+unfolding given_typed
+out_for ds first condition next body = refl
+
+pub block-opened : {s : TStmt} {items : List TItem} → s ≡ Block items → out-TStmt s ≡ TStmt-F.Block items
+block-opened {items = items} is = ap out-TStmt is ∙ out_block items
+
+pub for-opened : {s body : TStmt} {ds : List TDecl} {first condition next : Option TExpr} → s ≡ For ds first condition next body →
+    out-TStmt s ≡ TStmt-F.For ds first condition next body
+for-opened {body = body} {ds = ds} {first = first} {condition = condition} {next = next} is =
+    ap out-TStmt is ∙ out_for ds first condition next body

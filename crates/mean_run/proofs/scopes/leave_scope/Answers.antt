@@ -1,4 +1,6 @@
 use Rattle.std.proofs.Common.{refl, sym, subst, []}
+use Rattle.std.specs.Vec.{with_items}
+use Rattle.mean_run.specs.declared.process.Process.{Process}
 use Rattle.mean_run.specs.Entering.{Origin, Closed}
 use Rattle.mean_run.specs.Laws.Scopes.{closed-none, moves-left}
 use Rattle.mean_run.proofs.scopes.leave_scope.Goals as goal
@@ -7,6 +9,7 @@ pub returns-in-Ok : goal.returns-in-Ok
 returns-in-Ok c = λ here b inside.
     let p = c.args.p.now in
     let o : Origin = record { here = here; locals = p.locals.items; start = b.now } in
-    moves-left b.frames c.args.d c.args.flow p.locals.items refl
+    let after : Process = record { now = c.close.new.n; locals = with_items p.locals c.close.new.locals; stack = p.stack; here = p.here } in
+    moves-left {p = after} b.frames c.args.d c.args.flow p.locals.items refl
     (c.in-Ok.ensures o (subst (Closed p.here o [] p.now) (sym c.deref_mut.ensures.value) (closed-none inside.at inside.shown)))
     inside.outside inside.stack
