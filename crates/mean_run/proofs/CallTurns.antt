@@ -25,15 +25,15 @@ one_there xs i x there =
 pub so_many : {A : Type 0} (xs : List A) (i : ℕ) → i < length xs → length (take i xs) ≡ i
 so_many xs i below = length-take-le i xs (omega arith)
 
-pub pushed_there : {r : Result (Unit {0}) Ending} {u : Unit {0}} {f : Frame} {before after : List Frame} → r ≡ Ok u →
+pub pushed_there : {r : Result (Unit {0}) Ending} {u : Unit {0}} (f : Frame) (before after : List Frame) → r ≡ Ok u →
     Pushed r f before after → after ≡ before ++ f ∷ []
-pushed_there {f = f} {before = before} {after = after} is pushed = subst (λ x. Pushed x f before after) is pushed
+pushed_there f before after is pushed = subst (λ x. Pushed x f before after) is pushed
 
 no_memory : (p : Process) (a : State) (e : Ending) (m : Machine) → IsNoMemory e → Moves p a (Err e) m
 no_memory p a ending.NoMemory m is = moves-free p a m
 no_memory p a _ m is = absurd is
 
-pub not_pushed : {p : Process} {a : State} {m : Machine} {r : Result (Unit {0}) Ending} {e : Ending} {f : Frame}
-    {before after : List Frame} → r ≡ Err e → Pushed r f before after → Moves p a (Err e) m
-not_pushed {p = p} {a = a} {m = m} {e = e} {f = f} {before = before} {after = after} is pushed =
+pub not_pushed : {p : Process} {a : State} {m : Machine} {r : Result (Unit {0}) Ending} {e : Ending} (f : Frame)
+    (before after : List Frame) → r ≡ Err e → Pushed r f before after → Moves p a (Err e) m
+not_pushed {p = p} {a = a} {m = m} {e = e} f before after is pushed =
     no_memory p a e m (subst (λ x. Pushed x f before after) is pushed)

@@ -179,6 +179,29 @@ pub fn enter<'a>(
     }
 }
 
+/// What is called is entered, where it is a function of the program.
+fn enter_callee<'a>(
+    p: &mut Process<'a>,
+    span: Span,
+    callee: Callee,
+    values: &[Value],
+) -> Result<Control<'a>, Ending>
+    ensures { (here : Context) (k : List waiting.Frame) (now : State) → IsProcess p.old here k now
+        → Moves p.new now result (evaluation.call machine.enter here k span callee values.now now) }
+{
+    match callee {
+        Callee::Function(number) => {
+            let unit = p.here.unit;
+            enter(p, FunctionId { unit, number }, values)
+        }
+        Callee::Extern(number) => match function_called(p.here, span, number) {
+            Ok(f) => enter(p, f, values),
+            Err(e) => Err(e),
+        },
+        _ => Err(Ending::NoMemory),
+    }
+}
+
 /// A call, whose unit of work was spent, of a function of the program.
 pub fn call<'a>(
     p: &mut Process<'a>,
@@ -189,17 +212,7 @@ pub fn call<'a>(
     ensures { (here : Context) (k : List waiting.Frame) (now : State) → IsProcess p.old here k now
         → Moves p.new now result (evaluation.call machine.enter here k span callee values.items now) }
 {
-    match callee {
-        Callee::Function(number) => {
-            let unit = p.here.unit;
-            enter(p, FunctionId { unit, number }, &values)
-        }
-        Callee::Extern(number) => match function_called(p.here, span, number) {
-            Ok(f) => enter(p, f, &values),
-            Err(e) => Err(e),
-        },
-        _ => Err(Ending::NoMemory),
-    }
+    enter_callee(p, span, callee, &values)
 }
 
 /// The value of a call that returned one; of none it is 0 or the null pointer.

@@ -1,9 +1,10 @@
-use Rattle.std.proofs.Common.{sym, subst, []}
+use Rattle.std.proofs.Common.{sym, subst, [], Err}
 use Rattle.block_meaning.specs.Meaning.{outside_of_calls}
 use Rattle.block_meaning.specs.Running.{gives, with_some}
 use Rattle.mean_machine.specs.Execution.{enter}
 use Rattle.mean_machine.specs.Going.{go_by}
 use Rattle.mean_machine.specs.Steps.{begin_with}
+use Rattle.mean_run.specs.declared.process.Process.{Process}
 use Rattle.mean_run.specs.Calling.{function_by}
 use Rattle.mean_run.specs.Laws.Standing.{moves-spent, moves-unspent}
 use Rattle.mean_run.specs.Stacked.{Moves}
@@ -18,5 +19,7 @@ returns-in-Ok c = λ program now process is.
 
 pub returns-in-Err : goal.returns-in-Err
 returns-in-Err c = λ program now process is.
-    subst (λ d. Moves _ now _ (go_by (with_some d gives now) (begin_with program))) (sym is)
+    let p = c.args.p.now in
+    let after : Process = record { now = c.spend.new.n; locals = p.locals; stack = p.stack; here = p.here } in
+    subst (λ d. Moves after now (Err c.in-Err.e) (go_by (with_some d gives now) (begin_with program))) (sym is)
     (moves-unspent (enter (outside_of_calls program) [] (function_by c.args.main) []) c.in-Err.is (c.spend.ensures now process.shown))

@@ -12,7 +12,7 @@ returns-in-Ok c = λ q before k s at stacked.
     let w : World = record { code = c.args.e.here; locals = p.locals.items } in
     let after : Process = record { now = p.now; locals = p.locals; stack = c.sequence.new.stack; here = c.args.e.here } in
     moves-here {p = after} s.at (c.sequence.ensures p.now w s.inner _ s.after
-    (call-waits p.stack.items k s _ refl (pushed_there c.in-Ok.is c.push.ensures) at stacked) s.shown)
+    (call-waits p.stack.items k s _ refl (pushed_there _ _ _ c.in-Ok.is c.push.ensures) at stacked) s.shown)
 
 pub returns-in-Err : goal.returns-in-Err
-returns-in-Err c = λ q before k s at stacked. not_pushed c.in-Err.is c.push.ensures
+returns-in-Err c = λ q before k s at stacked. not_pushed _ _ _ c.in-Err.is c.push.ensures

@@ -1,7 +1,8 @@
-use Rattle.std.proofs.Common.{refl, sym, subst, ◌∷◌, []}
+use Rattle.std.proofs.Common.{refl, sym, ◌∙◌, subst, ◌∷◌, []}
 use Rattle.block_meaning.specs.Running.{Context}
 use Rattle.mean_machine.specs.Frames.{OnFlow, Scope}
 use Rattle.mean_machine.specs.Going.{Stand}
+use Rattle.std.proofs.lemmas.List.{with_items_is}
 use Rattle.std.specs.Vec.{with_items}
 use Rattle.mean_run.specs.declared.process.Process.{Process}
 use Rattle.mean_run.specs.Entering.{Origin, Made}
@@ -19,5 +20,7 @@ returns-in-Ok c = λ inside here k now process any.
         record { now = c.open.new.n; locals = with_items p.locals c.open.new.locals; stack = c.push.new.stack; here = p.here } in
     enters-in-call after now c.push.result inside here ns f any (λ call runs.
     enters-pushed {p = after} c.push.result k inside c.args.d p.locals.items p.stack.items refl
-    (c.in-Ok.ensures o (subst (Made p.here o [] p.now) (sym c.deref_mut.ensures.value) (made-none call process.at runs process.shown)))
+    (subst (Made p.here o ns c.open.new.n)
+    (sym (with_items_is p.locals c.open.new.locals (c.open.auto.locals ∙ c.deref_mut.ensures.len)))
+    (c.in-Ok.ensures o (subst (Made p.here o [] p.now) (sym c.deref_mut.ensures.value) (made-none call process.at runs process.shown))))
     c.push.ensures process.at process.stack)
