@@ -5,7 +5,6 @@ pub mod Entering
 pub mod Scopes
 pub mod Arguments
 pub mod Calls
-pub mod Beginning
 pub mod Comparing
 pub mod Standing
 pub mod Reading
