@@ -19,7 +19,7 @@ use Rattle.mean_run.specs.Stacked.{World, Stacked, Stood, Sticks, StopsBy, Stand
 
 -- ---- from an earlier state
 
-stops_later : (a b : State) (e : Ending) (m : machine.Machine) → Quiet a b → StopsBy b e m → StopsBy a e m
+pub stops_later : (a b : State) (e : Ending) (m : machine.Machine) → Quiet a b → StopsBy b e m → StopsBy a e m
 stops_later a b e (machine.Runs d there k after) first stops = stops
 stops_later a b e (machine.Ended why after) first stops = ends_later e why a b after first stops
 
@@ -47,7 +47,7 @@ stands-later {n = n} {frames = frames} {w = w} {here = here} {a = a} {b = b} {r 
 
 -- ---- what is free
 
-stuck_by : (n : Now) (frames : List Frame) (w : World) (here : Context) (a : State) (r : Result Control Ending) (why : Stop)
+pub stuck_by : (n : Now) (frames : List Frame) (w : World) (here : Context) (a : State) (r : Result Control Ending) (why : Stop)
     (after : State) → IsStuck why → StandsBy n frames w here a r (machine.Ended why after)
 stuck_by n frames w here a (Ok c) why after stuck = inr stuck
 stuck_by n frames w here a (Err e) Stuck after stuck = ends_stuck e a after
@@ -80,10 +80,10 @@ stands-then {middle = middle} {n = n} {frames = frames} {w = w} {here = here} {s
     stands-later done.quiet (subst (λ x. Stands n frames w here after r (f x after)) done.same (each after done.shown))
 stands-then {middle = middle} {n = n} {frames = frames} {w = w} {here = here} {start = start} {r = r} (meaning.Stops why after) f is first
     each = record {
-  told = stuck_by n frames w here start r why after (subst (λ x. Gives middle start x (meaning.Stops why after)) is first).told;
-}
+      told = stuck_by n frames w here start r why after (subst (λ x. Gives middle start x (meaning.Stops why after)) is first).told;
+    }
 
-stops_by : {A : Type 0} (middle : Now) (start : State) (e : Ending) (m : meaning.Result A) (f : A → Stand) →
+pub stops_by : {A : Type 0} (middle : Now) (start : State) (e : Ending) (m : meaning.Result A) (f : A → Stand) →
     GivesBy middle start (Err e) m → StopsBy start e (go_by m f)
 stops_by middle start ending.NoMemory (meaning.Goes b after) f told = free_by start (f b after)
 stops_by middle start _ (meaning.Goes b after) f told = absurd told
@@ -96,7 +96,7 @@ pub stands-stop : {A : Type 0} {middle n : Now} {frames : List Frame} {w : World
 stands-stop {middle = middle} {start = start} {e = e} m f is first =
     record { told = stops_by middle start e m f (subst (λ x. Gives middle start x m) is first).told }
 
-spend_is : (work : ℕ) (next : Stand) (now : State) → spend_of work next now ≡
+pub spend_is : (work : ℕ) (next : Stand) (now : State) → spend_of work next now ≡
     go_by (one_of work (gives {A = Unit {0}} tt) now) (λ u. next)
 spend_is zero next now = refl
 spend_is (suc rest) next now = refl

@@ -1,0 +1,18 @@
+//! Where a call's body runs.
+
+use crate::here::Here;
+use c_type_base::TFunction;
+
+/// A function that is called, and where its body runs.
+#[derive(Clone, Copy)]
+pub struct Entry<'a> {
+    pub function: &'a TFunction,
+    pub here: Here<'a>,
+}
+
+/// How many calls there were, and where the locals of the next one begin.
+#[derive(Clone, Copy)]
+pub struct NextCall {
+    pub calls: u64,
+    pub base: usize,
+}
