@@ -23,7 +23,7 @@ fn body_first<'a>(
 ) -> Result<Control<'a>, Ending>
     ensures { (n : Code) (w : World) (here : Context) (k : List waiting.Frame) (now : State) → Stacked k stack.old.items w here → IsNow n now
         → Stands n stack.new.items w here now result
-        (waiting.Runs (waiting.Execute s.now) here (waiting.OnFlow (waiting.Body (loop_of l)) ∷ k) now) }
+        (waiting.Runs (waiting.Execute s.now) here (waiting.OnFlow (waiting.Body (loop_of l.entry)) ∷ k) now) }
 {
     match stack.push(Frame::OnFlow(FlowFrame::Body(l))) {
         Ok(()) => Ok(Control::Execute(s)),
@@ -39,8 +39,8 @@ fn test_or_body<'a>(
 ) -> Result<Control<'a>, Ending>
     ensures { (n : Code) (w : World) (here : Context) (k : List waiting.Frame) (now : State) → Stacked k stack.old.items w here → IsNow n now
         → Stands n stack.new.items w here now result
-        (machine.test here k (waiting.For (heading_of h) s.now) (heading_of h).condition
-        (waiting.Runs (waiting.Execute s.now) here (waiting.OnFlow (waiting.Body (waiting.For (heading_of h) s.now)) ∷ k)) now) }
+        (machine.test here k (waiting.For (heading_of h.entry) s.now) (heading_of h.entry).condition
+        (waiting.Runs (waiting.Execute s.now) here (waiting.OnFlow (waiting.Body (waiting.For (heading_of h.entry) s.now)) ∷ k)) now) }
 {
     match h.condition {
         Some(e) => value_first(stack, e, ValueFrame::Test(Loop::For(h, s), e)),
@@ -51,7 +51,7 @@ fn test_or_body<'a>(
 /// What comes first in a turn, after its unit.
 fn turn_begun<'a>(stack: &mut Vec<Frame<'a>>, l: Loop<'a>) -> Result<Control<'a>, Ending>
     ensures { (n : Code) (w : World) (here : Context) (k : List waiting.Frame) (now : State) → Stacked k stack.old.items w here → IsNow n now
-        → Stands n stack.new.items w here now result (turn_after here k (loop_of l) now) }
+        → Stands n stack.new.items w here now result (turn_after here k (loop_of l.entry) now) }
 {
     match l {
         Loop::While(e, _) => value_first(stack, e, ValueFrame::Test(l, e)),

@@ -24,7 +24,7 @@ pub fn value_first<'a>(
     frame: ValueFrame<'a>,
 ) -> Result<Control<'a>, Ending>
     ensures { (n : Code) (w : World) (here : Context) (k : List waiting.Frame) (now : State) → Stacked k stack.old.items w here → IsNow n now
-        → Stands n stack.new.items w here now result (machine.value_first here k e.now (value_frame_of frame) now) }
+        → Stands n stack.new.items w here now result (machine.value_first here k e.now (value_frame_of frame.entry) now) }
 {
     match stack.push(Frame::OnValue(frame)) {
         Ok(()) => Ok(Control::Evaluate(e.span, e)),
