@@ -12,6 +12,6 @@ pub file-there : {h : Here} {here : Context} {file : File} → IsHere h here →
 file-there {h = h} {here = here} {file = file} of_here is_file = subst (λ unit. IsFile file here.program unit) of_here.unit
     (subst (λ x. IsFileAt x here.program h.unit) is_file (of_here.program.each h.unit))
 
-pub text-there : {here : Context} {file : File} {text : List ℕ} (number : ℕ) → IsFile file here.program here.unit →
+pub text-there : (here : Context) {file : File} {text : List ℕ} (number : ℕ) → IsFile file here.program here.unit →
     slice_get file.typed.now.texts number ≡ Some text → text_at here number ≡ Some text
-text-there number is is_text = ap (λ u. text_of u number) is.typed ∙ is_text
+text-there here number is is_text = ap (λ u. text_of u number) is.typed ∙ is_text

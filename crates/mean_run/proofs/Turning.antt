@@ -11,9 +11,9 @@ use Rattle.mean_run.specs.declared.now.Now.{Now}
 use Rattle.mean_run.specs.declared.frames.Control.{Control}
 use Rattle.mean_run.specs.declared.frames.Frame.{Frame}
 
-pub stands-turn : {n : Now} {frames : List Frame} {w : World} {here : Context} {k : List machine.Frame} {start : State}
-    {r : Result Control Ending} (l : machine.Loop) → Stands n frames w here start r (spend (turn_after here k l) start) →
+pub stands-turn : {n : Now} {frames : List Frame} {w : World} {here : Context} {start : State} {r : Result Control Ending}
+    (k : List machine.Frame) (l : machine.Loop) → Stands n frames w here start r (spend (turn_after here k l) start) →
     Stands n frames w here start r (turn here k l start)
-stands-turn (machine.While e s) stands = stands
-stands-turn (machine.DoWhile s e) stands = stands
-stands-turn (machine.For h s) stands = stands
+stands-turn k (machine.While e s) stands = stands
+stands-turn k (machine.DoWhile s e) stands = stands
+stands-turn k (machine.For h s) stands = stands

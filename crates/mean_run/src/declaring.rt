@@ -1,6 +1,6 @@
 //! Declarations of locals, and what their initialisers begin with.
 
-ghost use Rattle.std.specs.Prelude.{◌≡◌, ◌∷◌, ◌||◌, List, Some, Unit};
+ghost use Rattle.std.specs.Prelude.{◌≡◌, ◌∷◌, ◌||◌, List, Some};
 ghost use Rattle.block_meaning.specs.Locals.{is_list};
 ghost use Rattle.block_meaning.specs.Running.{Context, State};
 ghost use Rattle.c_type_base.specs.Types as types;
@@ -28,7 +28,7 @@ use sqlite_items::at;
 #[derive(Clone, Copy)]
 pub struct Initialised<'a> {
     pub declaration: &'a TDecl,
-    pub with: &'a TInit,
+    pub init: &'a TInit,
     pub rest: &'a [TDecl],
 }
 
@@ -102,11 +102,11 @@ fn zero_then_fill<'a>(
 ) -> Result<Control<'a>, Ending>
     ensures { (w : World) (here : Context) (k : List waiting.Frame) (now : State) → IsHere h.entry here → Stacked k stack.old.items w here
         → IsNow n.old now → Stands n.new stack.new.items w here now result
-        (by (machine.zeroed here (object_of o.entry) i.entry.with.now) (λ (u : Unit {0}). waiting.Runs
-        (waiting.Fill (object_of o.entry) i.entry.with.now) here (waiting.OnDone (waiting.Declared i.entry.rest.now) ∷ k)) now) }
+        (by (machine.zeroed here (object_of o.entry) i.entry.init.now) (λ (u : Unit {0}). waiting.Runs
+        (waiting.Fill (object_of o.entry) i.entry.init.now) here (waiting.OnDone (waiting.Declared i.entry.rest.now) ∷ k)) now) }
 {
-    match zeroed(n, h, o, i.with) {
-        Ok(()) => fill_first(stack, o, i.with, DoneFrame::Declared(i.rest)),
+    match zeroed(n, h, o, i.init) {
+        Ok(()) => fill_first(stack, o, i.init, DoneFrame::Declared(i.rest)),
         Err(e) => Err(e),
     }
 }
@@ -121,7 +121,7 @@ fn initialise<'a>(
 ) -> Result<Control<'a>, Ending>
     ensures { (w : World) (here : Context) (k : List waiting.Frame) (now : State) → IsHere h.entry here → IsWindow locals.now h.entry here
         → Stacked k stack.old.items w here → IsNow n.old now → Stands n.new stack.new.items w here now result
-        (machine.declare_with here k i.entry.declaration.now i.entry.rest.now (Some i.entry.with.now) now) }
+        (machine.declare_with here k i.entry.declaration.now i.entry.rest.now (Some i.entry.init.now) now) }
 {
     match spend(n) {
         Ok(()) => match declared_object(h, locals, i.declaration) {
@@ -147,8 +147,12 @@ pub fn declare<'a>(
     match declarations {
         [] => Ok(Control::Finished),
         [declaration, rest @ ..] => match &declaration.init {
-            Some(with) => {
-                let i = Initialised { declaration, with, rest };
+            Some(init) => {
+                let i = Initialised {
+                    declaration,
+                    init,
+                    rest,
+                };
                 initialise(n, stack, h, locals, i)
             }
             None => Ok(Control::Declare(rest)),

@@ -65,7 +65,7 @@ pub struct Tested<'a> {
 }
 
 /// A loop goes on where its condition holds, and else ends.
-fn tested<'a>(
+fn after_test<'a>(
     n: &mut Now,
     stack: &mut Vec<Frame<'a>>,
     l: Loop<'a>,
@@ -95,7 +95,7 @@ fn test_given<'a>(
         (machine.value_given here k (waiting.Test (loop_of t.entry.of) t.entry.condition.now) v now) }
 {
     match is_true(n, h, t.condition.span, v) {
-        Ok(holds) => tested(n, stack, t.of, holds),
+        Ok(holds) => after_test(n, stack, t.of, holds),
         Err(e) => Err(e),
     }
 }

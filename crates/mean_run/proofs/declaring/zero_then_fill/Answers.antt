@@ -10,13 +10,13 @@ pub returns-in-Ok : goal.returns-in-Ok
 returns-in-Ok c = λ w here k now of_here stacked of_now.
     let o = object_of c.args.o in
     let i = c.args.i in
-    let next : Unit {0} → Stand = λ u. Runs (Fill o i.with.now) here (OnDone (Declared i.rest.now) ∷ k) in
-    stands-then (zeroed here o i.with.now now) next c.in-Ok.is (c.zeroed.ensures here now of_here of_now) (λ after shown.
+    let next : Unit {0} → Stand = λ u. Runs (Fill o i.init.now) here (OnDone (Declared i.rest.now) ∷ k) in
+    stands-then (zeroed here o i.init.now now) next c.in-Ok.is (c.zeroed.ensures here now of_here of_now) (λ after shown.
     c.fill_first.ensures c.zeroed.new.n w here k after stacked shown)
 
 pub returns-in-Err : goal.returns-in-Err
 returns-in-Err c = λ w here k now of_here stacked of_now.
     let o = object_of c.args.o in
     let i = c.args.i in
-    let next : Unit {0} → Stand = λ u. Runs (Fill o i.with.now) here (OnDone (Declared i.rest.now) ∷ k) in
-    stands-stop (zeroed here o i.with.now now) next c.in-Err.is (c.zeroed.ensures here now of_here of_now)
+    let next : Unit {0} → Stand = λ u. Runs (Fill o i.init.now) here (OnDone (Declared i.rest.now) ∷ k) in
+    stands-stop (zeroed here o i.init.now now) next c.in-Err.is (c.zeroed.ensures here now of_here of_now)

@@ -11,7 +11,7 @@ returns-in-Ok c = λ w here k frames now of_here stacked of_now.
     let b = c.args.b in
     let next : Bool → Stand = λ holds. either holds (Runs (Execute b.then.now) here k) (else_part here k (option_copied b.other)) in
     stands-then (is_true here b.condition.now.span c.args.v now) next c.in-Ok.is (c.is_true.ensures here now of_here of_now)
-    (λ after shown. stands-at k (c.branch.ensures here k after) stacked shown)
+    (λ after shown. stands-at k (c.branch-b.ensures here k after) stacked shown)
 
 pub returns-in-Err : goal.returns-in-Err
 returns-in-Err c = λ w here k frames now of_here stacked of_now.

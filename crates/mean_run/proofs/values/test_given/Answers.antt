@@ -12,7 +12,7 @@ returns-in-Ok c = λ w here k now of_here stacked of_now.
     let t = c.args.t in
     let next : Bool → Stand = λ holds. either holds (holding here k (loop_of t.of)) (flow here k Next) in
     stands-then (is_true here t.condition.now.span c.args.v now) next c.in-Ok.is (c.is_true.ensures here now of_here of_now)
-    (λ after shown. c.tested.ensures w here k after stacked shown)
+    (λ after shown. c.after_test.ensures w here k after stacked shown)
 
 pub returns-in-Err : goal.returns-in-Err
 returns-in-Err c = λ w here k now of_here stacked of_now.
