@@ -5,3 +5,6 @@ pub mod Alike
 pub mod Blocks
 pub mod ScopeTurns
 pub mod CallTurns
+pub mod Turning
+pub mod Declared
+pub mod Texts

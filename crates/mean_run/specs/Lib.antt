@@ -5,3 +5,5 @@ pub mod Effects
 pub mod Entering
 pub mod Calling
 pub mod Laws
+pub mod Objects
+pub mod Turns
