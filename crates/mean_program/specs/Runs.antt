@@ -1,0 +1,1 @@
+-- How the code of a program's run stands to what the program means.
