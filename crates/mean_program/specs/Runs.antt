@@ -1,1 +1,0 @@
--- How the code of a program's run stands to what the program means.
