@@ -6,3 +6,4 @@ pub mod Execution
 pub mod Programs
 pub mod Resting
 pub mod Putting
+pub mod PuttingOn

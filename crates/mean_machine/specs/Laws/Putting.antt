@@ -1,4 +1,4 @@
--- No step takes back what was put: what a machine has put is a prefix of what it has put when it ends.
+-- No step in an expression takes back what was put.
 use Rattle.std.proofs.Common.{◌≡◌, refl, sym, subst, ap, ◌∙◌, ℕ, zero, suc, ◌+◌, ◌*◌, Bool, true, false, List, [], ◌∷◌, ◌++◌, map, Option, Some, None}
 use Rattle.std.specs.Prelude.{not, ◌||◌, ◌%◌, ◌^◌, take, slice_get, codes}
 use Rattle.c_ast.specs.declared.token.Span.{Span}
@@ -94,7 +94,7 @@ puts-nowhere = record { puts = λ now. begins-itself now.output }
 
 -- ---- expressions
 
-abbrev EnterPuts : Enter → Type 0
+abbrev pub EnterPuts : Enter → Type 0
 EnterPuts enter = (here : Context) (k : List Frame) (f : Function) (vs : List Value) → Puts (enter here k f vs)
 
 unary_next : (here : Context) (k : List Frame) (o : UnaryOperator) (e : TExpr) → Puts (evaluate_unary here k o e)
@@ -123,7 +123,7 @@ call_puts enters here k span (callee.Extern n) vs = puts-by (called_steady here 
 call_puts enters here k span callee.Putchar vs = puts-by {f = value here k} (put_steady (first_number vs)) (λ v. puts-at _ _ _)
 call_puts enters here k span callee.Getchar vs = puts-by {f = value here k} take_steady (λ v. puts-at _ _ _)
 
-arguments_put : {enter : Enter} → EnterPuts enter → (here : Context) (k : List Frame) (span : Span) (f : Callee) (done : List Value)
+pub arguments_put : {enter : Enter} → EnterPuts enter → (here : Context) (k : List Frame) (span : Span) (f : Callee) (done : List Value)
     (es : List TExpr) → Puts (arguments enter here k span f done es)
 arguments_put enters here k span f done [] = puts-spend (call_puts enters here k span f done)
 arguments_put enters here k span f done (e ∷ es) = puts-at _ _ _
@@ -131,7 +131,7 @@ arguments_put enters here k span f done (e ∷ es) = puts-at _ _ _
 unit_puts : {A : Type 0} (a : A) {f : A → Stand} → ((b : A) → Puts (f b)) → Puts (by (unit_gives a) f)
 unit_puts a each = puts-by (steady-unit (steady-gives a)) each
 
-evaluate_puts : {enter : Enter} → EnterPuts enter → (here : Context) (k : List Frame) (around : Span) (e : TExpr) (n : NodeLayer) →
+pub evaluate_puts : {enter : Enter} → EnterPuts enter → (here : Context) (k : List Frame) (around : Span) (e : TExpr) (n : NodeLayer) →
     Puts (evaluate enter here k around e n)
 evaluate_puts enters here k around e (TNode-F.Constant n s) = unit_puts _ (λ v. puts-at _ _ _)
 evaluate_puts enters here k around e (TNode-F.Paren a) = puts-at _ _ _
@@ -150,7 +150,7 @@ evaluate_puts enters here k around e (TNode-F.Convert a) = puts-at _ _ _
 evaluate_puts enters here k around e (TNode-F.Member a member) = puts-at _ _ _
 evaluate_puts enters here k around e _ = puts-nowhere
 
-locate_puts : (here : Context) (k : List Frame) (e : TExpr) (n : NodeLayer) → Puts (locate here k e n)
+pub locate_puts : (here : Context) (k : List Frame) (e : TExpr) (n : NodeLayer) → Puts (locate here k e n)
 locate_puts here k e (TNode-F.Text n) = unit_puts _ (λ p. puts-at _ _ _)
 locate_puts here k e (TNode-F.Local n) = puts-by (starts_steady (here.local n)) (λ p. puts-at _ _ _)
 locate_puts here k e (TNode-F.Global n) = unit_puts _ (λ p. puts-at _ _ _)
@@ -168,7 +168,7 @@ unary_effect_steady : (here : Context) (o : UnaryOperator) (e : TExpr) (v : Valu
 unary_effect_steady here unary.Not e v = steady-then (truth_steady here e.span v) (λ b. steady-gives _)
 unary_effect_steady here o e v = number_steady (unary_value o (int_in e.ty) (number_in v))
 
-operand_puts : {enter : Enter} → EnterPuts enter → (here : Context) (k : List Frame) (f : OperandFrame) (v : Value) →
+pub operand_puts : {enter : Enter} → EnterPuts enter → (here : Context) (k : List Frame) (f : OperandFrame) (v : Value) →
     Puts (operand_given enter here k f v)
 operand_puts enters here k (Unary o e) v = puts-spend (puts-by (unary_effect_steady here o e v) (λ w. puts-at _ _ _))
 operand_puts enters here k (LogicalFirst decides a b) v = puts-spend (puts-by (truth_steady here a.span v) (λ first.
@@ -196,7 +196,7 @@ step_steady : (here : Context) (s : Step) (e : TExpr) (p : Pointer) → Steady (
 step_steady here s e p = steady-then (scalar_steady here e.span (object e.ty p)) (λ v.
     steady-then (write_steady here e.span (object e.ty p) (stepped here s e.ty v)) (λ _. steady-gives _))
 
-place_puts : (here : Context) (k : List Frame) (f : PlaceFrame) (p : Pointer) → Puts (place_given here k f p)
+pub place_puts : (here : Context) (k : List Frame) (f : PlaceFrame) (p : Pointer) → Puts (place_given here k f p)
 place_puts here k Addressed p = unit_puts _ (λ v. puts-at _ _ _)
 place_puts here k (AssignLeft span o a b) p = puts-at _ _ _
 place_puts here k (Stepped s e) p = puts-spend (puts-by (step_steady here s e p) (λ v. puts-at _ _ _))
