@@ -1,3 +1,3 @@
 -- From what a run keeps to what it gives.
-pub mod Putting
 pub mod Turns
+pub mod Outside
