@@ -20,7 +20,7 @@ use Rattle.mean_machine.specs.Laws.Putting.{put_by}
 use Rattle.mean_machine.specs.Laws.PuttingOn.{leads-puts}
 use Rattle.mean_machine.specs.Laws.Resting.{leads-rests}
 use Rattle.mean_run.specs.Shown.{IsNow}
-use Rattle.mean_run.specs.Stacked.{IsProcess, Stacked, World, standing}
+use Rattle.mean_run.specs.Stacked.{IsProcess, Stacked, World, world_of, standing}
 use Rattle.mean_run.specs.declared.frames.Control.{Control}
 use Rattle.mean_run.specs.declared.frames.Control.TheVariants as control
 use Rattle.mean_run.specs.declared.process.Process.{Process}
@@ -77,7 +77,8 @@ turn-puts aim p span vs input output after holds puts =
 -- what of one byte the sink took
 took_part : (count b : ℕ) (xs : List ℕ) → Begins (xs ++ take count (b ∷ [])) (xs ++ b ∷ [])
 took_part zero b xs = record { rest = b ∷ []; is = ap (λ x. x ++ b ∷ []) (sym (append-nil xs)) }
-took_part (suc count) b xs = record { rest = []; is = sym (append-nil (xs ++ b ∷ [])) }
+took_part (suc zero) b xs = record { rest = []; is = sym (append-nil (xs ++ b ∷ [])) }
+took_part (suc (suc count)) b xs = record { rest = []; is = sym (append-nil (xs ++ b ∷ [])) }
 
 begins_on : {xs ys zs : List ℕ} → Begins xs ys → Begins ys zs → Begins xs zs
 begins_on {xs = xs} first second = record {
@@ -192,8 +193,8 @@ pub turn-done : (aim : Aim) (p : Process) (v : Value) (input output : Option (Li
     Holds aim p (control.GivesValue v) input output →
     MeanGives aim.before (outcome_of aim.result) (Ok (end.Done (number_in v % 256))) input output
 turn-done aim p v input output empty holds =
-    let none : holds.waiting ≡ [] = nothing_waits holds.waiting _ holds.here
-        (subst (λ x. Stacked holds.waiting x _ holds.here) empty holds.is.stack) in
+    let none : holds.waiting ≡ [] = nothing_waits holds.waiting (world_of p) holds.here
+        (subst (λ x. Stacked holds.waiting x (world_of p) holds.here) empty holds.is.stack) in
     let rests : Leads (Runs (GivesValue v) holds.here [] holds.now) (last aim.program aim.result) =
         subst (λ k. Leads (Runs (GivesValue v) holds.here k holds.now) (last aim.program aim.result)) none holds.leads in
     done_so aim aim.result holds.here v holds.now input output (leads-rests refl rests) holds.left holds.taken
