@@ -116,7 +116,7 @@ called_steady here span n = steady-some (extern_at here.program.units here.unit 
     steady-some (definition_of here.program.units (Some e)) (λ d.
     known_steady here span (called_as here.program.units here.unit e d)))
 
-call_puts : {enter : Enter} → EnterPuts enter → (here : Context) (k : List Frame) (span : Span) (f : Callee) (vs : List Value) →
+pub call_puts : {enter : Enter} → EnterPuts enter → (here : Context) (k : List Frame) (span : Span) (f : Callee) (vs : List Value) →
     Puts (call enter here k span f vs)
 call_puts enters here k span (callee.Function n) vs = enters here k _ vs
 call_puts enters here k span (callee.Extern n) vs = puts-by (called_steady here span n) (λ f. enters here k f vs)

@@ -89,7 +89,7 @@ entered_steady here f vs g bytes =
     steady-then (arguments_steady inside 0 (take g.params g.locals) vs) (λ ready. body_steady c ready (out-TStmt g.body)))))
     steady-deep
 
-enter_puts : (here : Context) (k : List Frame) (f : Function) (vs : List Value) → Puts (enter here k f vs)
+pub enter_puts : (here : Context) (k : List Frame) (f : Function) (vs : List Value) → Puts (enter here k f vs)
 enter_puts here k f vs =
     puts-by (some_steady (function_named here.program.units f)) (λ g.
     puts-by (some_steady (frame_bytes here.program f)) (λ bytes.

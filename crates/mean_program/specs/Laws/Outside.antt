@@ -39,7 +39,7 @@ last_puts : (program : Program) (r : Result Value) → put_by (last program r) �
 last_puts program (Goes v now) = refl
 last_puts program (Stops why now) = refl
 
-begins_so : {xs ys : List ℕ} → steady.Begins xs ys → Begins xs ys
+pub begins_so : {xs ys : List ℕ} → steady.Begins xs ys → Begins xs ys
 begins_so begins = record { rest = begins.rest; is = begins.is }
 
 pub leads-begins : (aim : Aim) (m : Machine) → Leads m (last aim.program aim.result) → Begins (put_by m) (outcome_of aim.result).output
@@ -80,7 +80,7 @@ took_part zero b xs = record { rest = b ∷ []; is = ap (λ x. x ++ b ∷ []) (s
 took_part (suc zero) b xs = record { rest = []; is = sym (append-nil (xs ++ b ∷ [])) }
 took_part (suc (suc count)) b xs = record { rest = []; is = sym (append-nil (xs ++ b ∷ [])) }
 
-begins_on : {xs ys zs : List ℕ} → Begins xs ys → Begins ys zs → Begins xs zs
+pub begins_on : {xs ys zs : List ℕ} → Begins xs ys → Begins ys zs → Begins xs zs
 begins_on {xs = xs} first second = record {
   rest = first.rest ++ second.rest;
   is = second.is ∙ ap (λ l. l ++ second.rest) first.is ∙ append_assoc xs first.rest second.rest;
