@@ -5,3 +5,5 @@ pub mod Declarations
 pub mod Execution
 pub mod Programs
 pub mod Resting
+pub mod Putting
+pub mod PuttingOn

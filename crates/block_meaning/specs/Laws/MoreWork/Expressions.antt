@@ -48,7 +48,7 @@ record SteadySite (at : Site) : Type 0 where
 abbrev of_value : {at : Site} → SteadySite at → (e : TExpr) → Steady (value_of at.parts e)
 of_value of e = of.parts.value e.span e
 
-number_steady : (n : Option ℕ) → Steady (number_known n)
+pub number_steady : (n : Option ℕ) → Steady (number_known n)
 number_steady None = steady-stuck
 number_steady (Some n) = steady-gives _
 
@@ -82,7 +82,7 @@ assigned_steady : (at : Site) (a b : TExpr) (p : Pointer) (v : Value) → Steady
 assigned_steady at a b p (Struct q) = steady-then (copy_steady at.here _) (λ _. steady-gives _)
 assigned_steady at a b p v = written_steady at a.span (object a.ty p) v
 
-effect_steady : (at : Site) (o : Option AssignOperator) (a b : TExpr) (p : Pointer) (v : Value) → Steady (assign_effect at o a b p v)
+pub effect_steady : (at : Site) (o : Option AssignOperator) (a b : TExpr) (p : Pointer) (v : Value) → Steady (assign_effect at o a b p v)
 effect_steady at None a b p v = assigned_steady at a b p v
 effect_steady at (Some o) a b p w = steady-then (scalar_steady at.here a.span (object a.ty p)) (λ v.
     steady-then (combined_values at.here at.span (binary_of o) a.ty b.ty v w) (λ r. written_steady at a.span (object a.ty p) r))
@@ -105,10 +105,10 @@ take_grows : (input : List ℕ) (more : ℕ) (now : State) →
 take_grows [] more now = refl
 take_grows (b ∷ bs) more now = refl
 
-take_steady : Steady take_byte
+pub take_steady : Steady take_byte
 take_steady = record { puts = λ now. take_puts now.input now; grows = λ more now. take_grows now.input more now }
 
-put_steady : (n : ℕ) → Steady (put_byte n)
+pub put_steady : (n : ℕ) → Steady (put_byte n)
 put_steady n = record { puts = λ now. record { rest = n % 256 ∷ []; is = refl }; grows = λ more now. refl }
 
 agrees_steady : {at : Site} → SteadySite at → (vs : List Value) (f : Option Function) → Steady (if_agrees at vs f)
@@ -126,10 +126,10 @@ call_effect_steady of callee.Getchar vs = take_steady
 call_steady : {at : Site} → SteadySite at → (f : Callee) (es : List TExpr) → Steady (call_node at f es)
 call_steady of f es = steady-then (steady-all (of_value of) es) (λ vs. steady-unit (call_effect_steady of f vs))
 
-starts_steady : (block : Option ℕ) → Steady (starts block)
+pub starts_steady : (block : Option ℕ) → Steady (starts block)
 starts_steady block = steady-unit (steady-some block (λ b. steady-gives _))
 
-member_of_steady : (here : Context) (t : Option Ty) (member : ℕ) (p : Pointer) → Steady (member_of here t member p)
+pub member_of_steady : (here : Context) (t : Option Ty) (member : ℕ) (p : Pointer) → Steady (member_of here t member p)
 member_of_steady here None member p = steady-stuck
 member_of_steady here (Some t) member p = steady-some (member_in here (struct_of t) member) (λ m. steady-gives _)
 

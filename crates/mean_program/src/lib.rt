@@ -1,0 +1,8 @@
+//! The run of a program's files: what it means, over a source and a sink.
+#![tactic(auto)]
+
+mod end;
+mod turn;
+
+pub use end::{MeanEnd, MeanFault};
+pub use turn::{Turn, turn};

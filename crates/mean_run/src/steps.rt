@@ -1,0 +1,91 @@
+//! The step of a run: what is next is done, or what was done is given to what waits for it.
+
+ghost use Rattle.std.specs.Prelude.{◌≡◌, List};
+ghost use Rattle.block_meaning.specs.Running.{Context, State};
+ghost use Rattle.mean_machine.specs.Frames as waiting;
+ghost use Rattle.mean_machine.specs.Steps as machine;
+ghost use Rattle.mean_run.specs.Stacked.{IsProcess, Moves, standing};
+ghost use Rattle.mean_run.specs.Calling.{IsCall};
+
+use crate::calls::flow_given;
+use crate::declaring::declare;
+use crate::done::done_given;
+use crate::evaluate::evaluate;
+use crate::frames::{Control, DoneFrame, Flow, Frame};
+use crate::initialising::fill;
+use crate::locate::locate;
+use crate::now::Ending;
+use crate::operands::operand_given;
+use crate::places::place_given;
+use crate::process::Process;
+use crate::scopes::execute;
+use crate::values::value_given;
+use block_meaning::{Pointer, Value};
+
+/// A value is given to what waits for it.
+fn give_value<'a>(p: &mut Process<'a>, v: Value) -> Result<Control<'a>, Ending>
+    ensures { (here : Context) (k : List waiting.Frame) (now : State) → IsProcess p.old here k now
+        → Moves p.new now result (machine.step (waiting.Runs (waiting.GivesValue v) here k now)) }
+{
+    match p.stack.pop() {
+        Some(Frame::OnOperand(frame)) => operand_given(&mut p.now, &mut p.stack, p.here, frame, v),
+        Some(Frame::OnValue(frame)) => value_given(&mut p.now, &mut p.stack, p.here, frame, v),
+        _ => Err(Ending::NoMemory),
+    }
+}
+
+/// A place is given to what waits for it.
+fn give_place<'a>(p: &mut Process<'a>, at: Pointer) -> Result<Control<'a>, Ending>
+    ensures { (here : Context) (k : List waiting.Frame) (now : State) → IsProcess p.old here k now
+        → Moves p.new now result (machine.step (waiting.Runs (waiting.GivesPlace at) here k now)) }
+{
+    match p.stack.pop() {
+        Some(Frame::OnPlace(frame)) => place_given(&mut p.now, &mut p.stack, p.here, frame, at),
+        _ => Err(Ending::NoMemory),
+    }
+}
+
+/// The end of a statement is given to what waits for it.
+fn give_flow<'a>(p: &mut Process<'a>, flow: Flow) -> Result<Control<'a>, Ending>
+    ensures { (here : Context) (k : List waiting.Frame) (now : State) → IsProcess p.old here k now
+        → Moves p.new now result (machine.step (waiting.Runs (waiting.GivesFlow (flow_of flow)) here k now)) }
+{
+    match p.stack.pop() {
+        Some(Frame::OnFlow(frame)) => flow_given(p, frame, flow),
+        _ => Err(Ending::NoMemory),
+    }
+}
+
+/// What waits goes on after a declaration or an initialiser.
+fn give_end<'a>(p: &mut Process<'a>) -> Result<Control<'a>, Ending>
+    ensures { (here : Context) (k : List waiting.Frame) (now : State) → IsProcess p.old here k now
+        → Moves p.new now result (machine.step (waiting.Runs waiting.Finished here k now)) }
+{
+    match p.stack.pop() {
+        Some(Frame::OnDone(frame)) => done_given(&mut p.now, &mut p.stack, p.here, frame),
+        _ => Err(Ending::NoMemory),
+    }
+}
+
+/// Does one step, but for a call.
+pub fn step<'a>(p: &mut Process<'a>, control: Control<'a>) -> Result<Control<'a>, Ending>
+    ensures { (here : Context) (k : List waiting.Frame) (now : State) → IsProcess p.old here k now → IsNoCall control.entry
+        → Moves p.new now result (machine.step (standing control.entry here k now)) }
+{
+    match control {
+        Control::Evaluate(around, e) => evaluate(&mut p.now, &mut p.stack, p.here, around, e),
+        Control::Locate(e) => {
+            locate(&mut p.now, &mut p.stack, p.here, p.locals.as_slice(), e)
+        }
+        Control::Execute(s) => execute(p, s),
+        Control::Declare(declarations) => {
+            declare(&mut p.now, &mut p.stack, p.here, p.locals.as_slice(), declarations)
+        }
+        Control::Fill(o, i) => fill(&mut p.now, &mut p.stack, p.here, o, i),
+        Control::GivesValue(v) => give_value(p, v),
+        Control::GivesPlace(at) => give_place(p, at),
+        Control::GivesFlow(flow) => give_flow(p, flow),
+        Control::Finished => give_end(p),
+        Control::Call(_, _, _) => Err(Ending::NoMemory),
+    }
+}
