@@ -11,7 +11,6 @@ ghost use Rattle.mean_run.specs.Shown.{IsNow, IsHere, Gives};
 ghost use Rattle.mean_run.specs.declared.now.Now.{Now as Code};
 
 use crate::access::read_scalar;
-use crate::arithmetic::binary_value;
 use crate::copying::{Copy, copy_struct};
 use crate::here::Here;
 use crate::now::{Ending, Now};
@@ -20,7 +19,7 @@ use crate::operators::{Operation, int_in, on_values};
 use crate::writing::write;
 use block_meaning::{Pointer, Value};
 use c_ast::{AssignOperator, BinaryOperator, IntType, Span};
-use c_type_base::{TExpr, Ty, promoted, wrap};
+use c_type_base::{TExpr, Ty, binary_value, promoted, wrap};
 use mean_memory::converted_to;
 
 /// An assignment: its operator, if it is a compound one, its sides, and where the left one stands.

@@ -24,7 +24,7 @@ use c_type_base::{TExpr, TNode};
 use sqlite_items::at;
 
 /// The block of a local, if it is alive.
-fn local_block(h: Here, locals: &[Option<u64>], number: u32) -> Option<u64>
+pub fn local_block(h: Here, locals: &[Option<u64>], number: u32) -> Option<u64>
     ensures { (here : Context) → IsWindow locals.now h.entry here → IfSome result (λ block. here.local number ≡ Some block) }
 {
     match h.base.checked_add(number as usize) {

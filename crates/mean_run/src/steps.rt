@@ -4,10 +4,9 @@ ghost use Rattle.std.specs.Prelude.{◌≡◌, List};
 ghost use Rattle.block_meaning.specs.Running.{Context, State};
 ghost use Rattle.mean_machine.specs.Frames as waiting;
 ghost use Rattle.mean_machine.specs.Steps as machine;
-ghost use Rattle.mean_run.specs.Stacked.{IsProcess, Moves, standing};
-ghost use Rattle.mean_run.specs.Calling.{IsCall};
+ghost use Rattle.mean_run.specs.Stacked.{IsProcess, Moves, standing, flow_of};
 
-use crate::calls::flow_given;
+use crate::flows::flow_given;
 use crate::declaring::declare;
 use crate::done::done_given;
 use crate::evaluate::evaluate;
@@ -69,8 +68,8 @@ fn give_end<'a>(p: &mut Process<'a>) -> Result<Control<'a>, Ending>
 
 /// Does one step, but for a call.
 pub fn step<'a>(p: &mut Process<'a>, control: Control<'a>) -> Result<Control<'a>, Ending>
-    ensures { (here : Context) (k : List waiting.Frame) (now : State) → IsProcess p.old here k now → IsNoCall control.entry
-        → Moves p.new now result (machine.step (standing control.entry here k now)) }
+    ensures { (here : Context) (k : List waiting.Frame) (now : State) → IsProcess p.old here k now
+        → Moves p.new now result (machine.step (standing control here k now)) }
 {
     match control {
         Control::Evaluate(around, e) => evaluate(&mut p.now, &mut p.stack, p.here, around, e),
