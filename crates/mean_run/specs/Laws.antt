@@ -10,3 +10,4 @@ pub mod Standing
 pub mod Reading
 pub mod Storing
 pub mod Combining
+pub mod Popping
