@@ -7,7 +7,7 @@ returns-in-Ok c = λ here k now process.
     let f = function_by c.args.f in
     let p = c.args.p.now in
     c.enter_body.ensures here k now f process
-    (subst (λ b. EntryAnswer (Ok c.in-Ok.e) here f p.now.calls b) (c.len.ensures ∙ sym p.locals.ok.0)
+    (subst (λ b. EntryAnswer (Ok c.in-Ok.e) here f p.now.calls b) (c.len.ensures ∙ p.locals.ok.0)
     (subst (λ r. EntryAnswer r here f p.now.calls c.len.result) c.in-Ok.is (c.entry.ensures here process.at.code)))
 
 pub returns-in-Err : goal.returns-in-Err
