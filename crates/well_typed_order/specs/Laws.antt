@@ -31,3 +31,4 @@ pub mod AsDeclared
 pub mod FileTables
 pub mod Mains
 pub mod Programs
+pub mod Relinked
