@@ -30,4 +30,5 @@ pub mod Files
 pub mod AsDeclared
 pub mod FileTables
 pub mod Mains
+pub mod Relinked
 pub mod Programs

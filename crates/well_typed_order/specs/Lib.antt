@@ -1,4 +1,5 @@
 pub mod Bodied
+pub mod Uses
 pub mod Links
 pub mod WellTypedPrograms
 pub mod Laws
