@@ -33,11 +33,7 @@ pub struct Initialised<'a> {
 }
 
 /// The object that a declaration initialises.
-fn declared_object<'a>(
-    h: Here<'a>,
-    locals: &[Option<u64>],
-    d: &TDecl,
-) -> Result<Object<'a>, Ending>
+fn declared_object<'a>(h: Here<'a>, locals: &[Option<u64>], d: &TDecl) -> Result<Object<'a>, Ending>
     ensures { (n : Code) (here : Context) (now : State) → IsHere h.entry here → IsWindow locals.now h.entry here → IsNow n now
         → Gives n now (objects_of result) (machine.declared_object here d.now now) }
 {
@@ -82,8 +78,8 @@ pub fn fill_first<'a>(
     i: &'a TInit,
     frame: DoneFrame<'a>,
 ) -> Result<Control<'a>, Ending>
-    ensures { (n : Code) (w : World) (here : Context) (k : List waiting.Frame) (now : State) → Stacked k stack.old.items w here → IsNow n now
-        → Stands n stack.new.items w here now result
+    ensures { (n : Code) (w : World) (here : Context) (k : List waiting.Frame) (now : State) → Stacked k stack.old.items w here
+        → IsNow n now → Stands n stack.new.items w here now result
         (waiting.Runs (waiting.Fill (object_of o.entry) i.now) here (waiting.OnDone (done_of frame.entry) ∷ k) now) }
 {
     match stack.push(Frame::OnDone(frame)) {

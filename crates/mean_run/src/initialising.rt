@@ -144,7 +144,16 @@ fn fill_one<'a>(
         (machine.fill_one here k (object_of o.entry) e.now (out-Ty o.entry.ty.now) now) }
 {
     match o.ty {
-        Ty::Array(_, count) => fill_array(n, stack, h, Chars { count: *count, at: o.at }, e),
+        Ty::Array(_, count) => fill_array(
+            n,
+            stack,
+            h,
+            Chars {
+                count: *count,
+                at: o.at,
+            },
+            e,
+        ),
         Ty::Struct(_) => fill_struct(stack, o, e),
         _ => value_first(stack, e, ValueFrame::FillScalar(o, e)),
     }
@@ -192,8 +201,8 @@ pub fn members<'a>(
     infos: &'a [MemberInfo],
     list: &'a [TInit],
 ) -> Result<Control<'a>, Ending>
-    ensures { (n : Code) (w : World) (here : Context) (k : List waiting.Frame) (now : State) → Stacked k stack.old.items w here → IsNow n now
-        → Stands n stack.new.items w here now result (machine.members here k p infos.now list.now now) }
+    ensures { (n : Code) (w : World) (here : Context) (k : List waiting.Frame) (now : State) → Stacked k stack.old.items w here
+        → IsNow n now → Stands n stack.new.items w here now result (machine.members here k p infos.now list.now now) }
 {
     match list {
         [] => Ok(Control::Finished),

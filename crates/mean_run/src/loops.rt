@@ -21,8 +21,8 @@ fn body_first<'a>(
     s: &'a TStmt,
     l: Loop<'a>,
 ) -> Result<Control<'a>, Ending>
-    ensures { (n : Code) (w : World) (here : Context) (k : List waiting.Frame) (now : State) → Stacked k stack.old.items w here → IsNow n now
-        → Stands n stack.new.items w here now result
+    ensures { (n : Code) (w : World) (here : Context) (k : List waiting.Frame) (now : State) → Stacked k stack.old.items w here
+        → IsNow n now → Stands n stack.new.items w here now result
         (waiting.Runs (waiting.Execute s.now) here (waiting.OnFlow (waiting.Body (loop_of l.entry)) ∷ k) now) }
 {
     match stack.push(Frame::OnFlow(FlowFrame::Body(l))) {
@@ -37,8 +37,8 @@ fn test_or_body<'a>(
     h: Heading<'a>,
     s: &'a TStmt,
 ) -> Result<Control<'a>, Ending>
-    ensures { (n : Code) (w : World) (here : Context) (k : List waiting.Frame) (now : State) → Stacked k stack.old.items w here → IsNow n now
-        → Stands n stack.new.items w here now result
+    ensures { (n : Code) (w : World) (here : Context) (k : List waiting.Frame) (now : State) → Stacked k stack.old.items w here
+        → IsNow n now → Stands n stack.new.items w here now result
         (machine.test here k (waiting.For (heading_of h.entry) s.now) (heading_of h.entry).condition
         (waiting.Runs (waiting.Execute s.now) here (waiting.OnFlow (waiting.Body (waiting.For (heading_of h.entry) s.now)) ∷ k)) now) }
 {
@@ -50,8 +50,8 @@ fn test_or_body<'a>(
 
 /// What comes first in a turn, after its unit.
 fn turn_begun<'a>(stack: &mut Vec<Frame<'a>>, l: Loop<'a>) -> Result<Control<'a>, Ending>
-    ensures { (n : Code) (w : World) (here : Context) (k : List waiting.Frame) (now : State) → Stacked k stack.old.items w here → IsNow n now
-        → Stands n stack.new.items w here now result (turn_after here k (loop_of l.entry) now) }
+    ensures { (n : Code) (w : World) (here : Context) (k : List waiting.Frame) (now : State) → Stacked k stack.old.items w here
+        → IsNow n now → Stands n stack.new.items w here now result (turn_after here k (loop_of l.entry) now) }
 {
     match l {
         Loop::While(e, _) => value_first(stack, e, ValueFrame::Test(l, e)),
@@ -61,11 +61,7 @@ fn turn_begun<'a>(stack: &mut Vec<Frame<'a>>, l: Loop<'a>) -> Result<Control<'a>
 }
 
 /// A turn of a loop begins.
-pub fn turn<'a>(
-    n: &mut Now,
-    stack: &mut Vec<Frame<'a>>,
-    l: Loop<'a>,
-) -> Result<Control<'a>, Ending>
+pub fn turn<'a>(n: &mut Now, stack: &mut Vec<Frame<'a>>, l: Loop<'a>) -> Result<Control<'a>, Ending>
     ensures { (w : World) (here : Context) (k : List waiting.Frame) (now : State) → Stacked k stack.old.items w here → IsNow n.old now
         → Stands n.new stack.new.items w here now result (machine.turn here k (loop_of l.entry) now) }
 {

@@ -23,8 +23,8 @@ pub fn value_first<'a>(
     e: &'a TExpr,
     frame: ValueFrame<'a>,
 ) -> Result<Control<'a>, Ending>
-    ensures { (n : Code) (w : World) (here : Context) (k : List waiting.Frame) (now : State) → Stacked k stack.old.items w here → IsNow n now
-        → Stands n stack.new.items w here now result (machine.value_first here k e.now (value_frame_of frame.entry) now) }
+    ensures { (n : Code) (w : World) (here : Context) (k : List waiting.Frame) (now : State) → Stacked k stack.old.items w here
+        → IsNow n now → Stands n stack.new.items w here now result (machine.value_first here k e.now (value_frame_of frame.entry) now) }
 {
     match stack.push(Frame::OnValue(frame)) {
         Ok(()) => Ok(Control::Evaluate(e.span, e)),
@@ -34,8 +34,8 @@ pub fn value_first<'a>(
 
 /// A part of a block.
 fn item<'a>(stack: &mut Vec<Frame<'a>>, i: &'a TItem) -> Result<Control<'a>, Ending>
-    ensures { (n : Code) (w : World) (here : Context) (k : List waiting.Frame) (now : State) → Stacked k stack.old.items w here → IsNow n now
-        → Stands n stack.new.items w here now result (machine.item here k (out-TItem i.now) now) }
+    ensures { (n : Code) (w : World) (here : Context) (k : List waiting.Frame) (now : State) → Stacked k stack.old.items w here
+        → IsNow n now → Stands n stack.new.items w here now result (machine.item here k (out-TItem i.now) now) }
 {
     match i {
         TItem::Local(declarations) => {
@@ -50,8 +50,8 @@ fn item<'a>(stack: &mut Vec<Frame<'a>>, i: &'a TItem) -> Result<Control<'a>, End
 
 /// The parts of a block, in order.
 pub fn sequence<'a>(stack: &mut Vec<Frame<'a>>, items: &'a [TItem]) -> Result<Control<'a>, Ending>
-    ensures { (n : Code) (w : World) (here : Context) (k : List waiting.Frame) (now : State) → Stacked k stack.old.items w here → IsNow n now
-        → Stands n stack.new.items w here now result (machine.sequence here k items.now now) }
+    ensures { (n : Code) (w : World) (here : Context) (k : List waiting.Frame) (now : State) → Stacked k stack.old.items w here
+        → IsNow n now → Stands n stack.new.items w here now result (machine.sequence here k items.now now) }
 {
     match items {
         [] => Ok(Control::GivesFlow(Flow::Next)),
@@ -103,8 +103,8 @@ pub fn after_item<'a>(
     items: &'a [TItem],
     flow: Flow,
 ) -> Result<Control<'a>, Ending>
-    ensures { (n : Code) (w : World) (here : Context) (k : List waiting.Frame) (now : State) → Stacked k stack.old.items w here → IsNow n now
-        → Stands n stack.new.items w here now result (machine.after_item here k items.now (flow_of flow) now) }
+    ensures { (n : Code) (w : World) (here : Context) (k : List waiting.Frame) (now : State) → Stacked k stack.old.items w here
+        → IsNow n now → Stands n stack.new.items w here now result (machine.after_item here k items.now (flow_of flow) now) }
 {
     match flow {
         Flow::Next => sequence(stack, items),

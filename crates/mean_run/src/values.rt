@@ -174,7 +174,16 @@ pub fn value_given<'a>(
         ValueFrame::Effect => Ok(Control::GivesFlow(Flow::Next)),
         ValueFrame::Drop => Ok(Control::Finished),
         ValueFrame::IfTest(condition, then, other) => {
-            if_given(n, h, Branches { condition, then, other }, v)
+            if_given(
+                n,
+                h,
+                Branches {
+                    condition,
+                    then,
+                    other,
+                },
+                v,
+            )
         }
         ValueFrame::Test(of, condition) => test_given(n, stack, h, Tested { of, condition }, v),
         ValueFrame::ThenTurn(l) => turn(n, stack, l),

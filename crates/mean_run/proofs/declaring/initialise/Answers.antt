@@ -12,7 +12,7 @@ returns-in-Ok-declared_object c = λ w here k now of_here window stacked of_now.
     let i = c.args.i in
     let run = declared_object here i.declaration.now in
     let next : Object → Stand = λ o.
-      by (zeroed here o i.init.now) (λ u. Runs (Fill o i.init.now) here (OnDone (Declared i.rest.now) ∷ k)) in
+    by (zeroed here o i.init.now) (λ u. Runs (Fill o i.init.now) here (OnDone (Declared i.rest.now) ∷ k)) in
     stands-spent (by run next) c.in-Ok.is (c.spend.ensures now of_now) (λ after shown.
     stands-then (run after) next (ap objects_of c.in-Ok-declared_object.is)
     (c.declared_object.ensures c.spend.new.n here after of_here window shown) (λ last shown'.
@@ -23,7 +23,7 @@ returns-in-Err-declared_object c = λ w here k now of_here window stacked of_now
     let i = c.args.i in
     let run = declared_object here i.declaration.now in
     let next : Object → Stand = λ o.
-      by (zeroed here o i.init.now) (λ u. Runs (Fill o i.init.now) here (OnDone (Declared i.rest.now) ∷ k)) in
+    by (zeroed here o i.init.now) (λ u. Runs (Fill o i.init.now) here (OnDone (Declared i.rest.now) ∷ k)) in
     stands-spent (by run next) c.in-Ok.is (c.spend.ensures now of_now) (λ after shown.
     stands-stop (run after) next (ap objects_of c.in-Err-declared_object.is)
     (c.declared_object.ensures c.spend.new.n here after of_here window shown))
