@@ -23,8 +23,8 @@ mod stepping;
 pub use access::{read, read_scalar};
 pub use effects::{comparison, is_true, spend};
 pub use frames::{
-    Control, Declarations, DoneFrame, Flow, FlowFrame, Frame, Heading, Loop, OperandFrame, PlaceFrame,
-    ValueFrame,
+    Control, Declarations, DoneFrame, Flow, FlowFrame, Frame, Heading, Loop, OperandFrame,
+    PlaceFrame, ValueFrame,
 };
 pub use here::Here;
 pub use now::{Ending, Now};

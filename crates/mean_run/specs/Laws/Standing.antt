@@ -80,8 +80,8 @@ stands-then {middle = middle} {n = n} {frames = frames} {w = w} {here = here} {s
     stands-later done.quiet (subst (λ x. Stands n frames w here after r (f x after)) done.same (each after done.shown))
 stands-then {middle = middle} {n = n} {frames = frames} {w = w} {here = here} {start = start} {r = r} (meaning.Stops why after) f is first
     each = record {
-  told = stuck_by n frames w here start r why after (subst (λ x. Gives middle start x (meaning.Stops why after)) is first).told;
-}
+      told = stuck_by n frames w here start r why after (subst (λ x. Gives middle start x (meaning.Stops why after)) is first).told;
+    }
 
 stops_by : {A : Type 0} (middle : Now) (start : State) (e : Ending) (m : meaning.Result A) (f : A → Stand) →
     GivesBy middle start (Err e) m → StopsBy start e (go_by m f)
