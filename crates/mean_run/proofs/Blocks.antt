@@ -19,5 +19,5 @@ pub sum-is : (r : Option ℕ) (P : Type 0) (v b : ℕ) → SomeIff r P v → b �
 sum-is None P v b sum same = tt
 sum-is (Some x) P v b sum same = ap Some (same ∙ sym sum.1)
 
-pub sum-of : {r : Option ℕ} {P : Type 0} {v x : ℕ} → r ≡ Some x → SomeIff r P v → x ≡ v
-sum-of {P = P} {v = v} is sum = (subst (λ o. SomeIff o P v) is sum).1
+pub sum-of : {r : Option ℕ} {v x : ℕ} (P : Type 0) → r ≡ Some x → SomeIff r P v → x ≡ v
+sum-of {v = v} P is sum = (subst (λ o. SomeIff o P v) is sum).1

@@ -100,7 +100,8 @@ pub fn first_given<'a>(
     v: Value,
 ) -> Result<Control<'a>, Ending>
     ensures { (w : World) (here : Context) (k : List waiting.Frame) (now : State) → IsHere h.entry here
-        → Stacked k stack.old.items w here → IsNow n.old now → Stands n.new stack.new.items w here now result (machine.operand_given enter here k
+        → Stacked k stack.old.items w here → IsNow n.old now → Stands n.new stack.new.items w here now result
+        (machine.operand_given enter here k
         (waiting.LogicalFirst logical.entry.decides logical.entry.first.now logical.entry.second.now) v now) }
 {
     match spend(n) {
@@ -154,8 +155,8 @@ pub fn second_given<'a>(
 /// Both operands of a binary operator have their values.
 pub fn both_given<'a>(n: &mut Now, h: Here<'a>, o: Operation<'a>) -> Result<Control<'a>, Ending>
     ensures { (w : World) (here : Context) (k : List waiting.Frame) (frames : List Frame) (now : State) → IsHere h.entry here
-        → Stacked k frames w here → IsNow n.old now → Stands n.new frames w here now result (spend_then (by (on_values here o.entry.span o.entry.operator
-        o.entry.first_type.now o.entry.second_type.now o.entry.first o.entry.second) (value here k)) now) }
+        → Stacked k frames w here → IsNow n.old now → Stands n.new frames w here now result
+        (spend_then (by (on_values here o.entry.span o.entry.operator o.entry.first_type.now o.entry.second_type.now o.entry.first o.entry.second) (value here k)) now) }
 {
     match spend(n) {
         Ok(()) => match on_values(n, h, o) {

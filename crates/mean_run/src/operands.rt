@@ -9,6 +9,7 @@ ghost use Rattle.mean_machine.specs.Going.{spend as spend_then};
 ghost use Rattle.mean_run.specs.Shown.{IsNow, IsHere};
 ghost use Rattle.mean_run.specs.Stacked.{World, Stacked, Stands, operand_of};
 
+use crate::assigning::{Assignment, assign_effect};
 use crate::effects::spend;
 use crate::evaluation::{
     Choice, Logical, both_given, condition_given, first_given, operand_first, second_given,
@@ -18,7 +19,6 @@ use crate::frames::{Control, Frame, OperandFrame};
 use crate::here::Here;
 use crate::now::{Ending, Now};
 use crate::operators::Operation;
-use crate::assigning::{Assignment, assign_effect};
 use crate::places::{element_at, member_place};
 use block_meaning::Value;
 use c_ast::Span;
@@ -40,11 +40,7 @@ fn call_next<'a>(n: &mut Now, calling: Calling) -> Result<Control<'a>, Ending>
         (spend_then (machine.call enter here k calling.span calling.callee calling.done.items) now) }
 {
     match spend(n) {
-        Ok(()) => Ok(Control::Call(
-            calling.span,
-            calling.callee,
-            calling.done,
-        )),
+        Ok(()) => Ok(Control::Call(calling.span, calling.callee, calling.done)),
         Err(e) => Err(e),
     }
 }

@@ -1,8 +1,12 @@
-use Rattle.std.proofs.Common.{refl, ap, ◌∙◌, ◌%◌, ◌^◌}
+use Rattle.std.proofs.Common.{refl, sym, ap, ◌∙◌, ◌%◌, ◌^◌}
 use Rattle.block_meaning.specs.Running.{unit_gives}
 use Rattle.block_meaning.specs.declared.value.Value.TheVariants.{Number}
 use Rattle.c_type_base.specs.Laws.Opened.{given_typed}
+use Rattle.c_type_base.specs.declared.expr.TNode.{out-roll-TNode}
+use Rattle.c_type_base.specs.declared.expr.TNode.TheOpen.{TNode-F}
 use Rattle.c_type_base.specs.Sizes.{size}
+use Rattle.mean_machine.specs.Evaluation.{arguments, evaluate}
+use Rattle.mean_machine.specs.Execution.{enter}
 use Rattle.mean_machine.specs.Going.{by, value}
 use Rattle.mean_run.specs.Laws.Standing.{stands-at, stands-free}
 use Rattle.mean_run.proofs.Alike.{machine-is}
@@ -68,7 +72,14 @@ returns-in-SizeofName c = λ w here k now of_here stacked of_now.
     (c.unit_value-in-SizeofName.ensures w here k c.args.stack.now.items now stacked of_now))
 
 pub returns-in-Call : goal.returns-in-Call
-returns-in-Call c = ?
+unfolding given_typed
+returns-in-Call c = λ w here k now of_here stacked of_now.
+    let e = c.args.e.now in
+    as-value k c.args.around e c.in-Call.is c.get.ensures
+    (machine-is (sym (ap (λ level. evaluate enter here k c.args.around e level now)
+    (out-roll-TNode (TNode-F.Call c.in-Call.callee c.in-Call.left))))
+    (machine-is (λ i. arguments enter here k e.span c.in-Call.callee (c.new.ensures.items i) (c.as_slice.ensures i) now)
+    (c.arguments.ensures w here k now stacked of_now)))
 
 pub returns-in-Step : goal.returns-in-Step
 unfolding given_typed

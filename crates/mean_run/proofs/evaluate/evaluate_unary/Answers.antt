@@ -7,7 +7,8 @@ use Rattle.mean_run.proofs.evaluate.evaluate_unary.Goals as goal
 
 pub returns-in-AddressOf : goal.returns-in-AddressOf
 returns-in-AddressOf c = λ n w here k now stacked of_now.
-    machine-is (ap (λ o. evaluate_unary here k o c.args.e.now now) (sym c.in-AddressOf.is)) (c.place_first.ensures n w here k now stacked of_now)
+    machine-is (ap (λ o. evaluate_unary here k o c.args.e.now now) (sym c.in-AddressOf.is))
+    (c.place_first.ensures n w here k now stacked of_now)
 
 pub returns-in-Dereference : goal.returns-in-Dereference
 returns-in-Dereference c = λ n w here k now stacked of_now.

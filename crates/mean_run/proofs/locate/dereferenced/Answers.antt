@@ -7,7 +7,8 @@ use Rattle.mean_run.proofs.locate.dereferenced.Goals as goal
 
 pub returns-in-Dereference : goal.returns-in-Dereference
 returns-in-Dereference c = λ n w here k e now stacked of_now.
-    subst (λ o. Stands n c.operand_first.new.stack.items w here now c.operand_first.result (locate here k e (TNode-F.Unary o c.args.a.now) now))
+    subst (λ o. Stands n c.operand_first.new.stack.items w here now c.operand_first.result
+    (locate here k e (TNode-F.Unary o c.args.a.now) now))
     (sym c.in-Dereference.is) (c.operand_first.ensures n w here k now stacked of_now)
 
 pub returns-in_default : goal.returns-in_default

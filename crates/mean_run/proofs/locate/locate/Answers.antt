@@ -23,7 +23,8 @@ pub returns-in-Global : goal.returns-in-Global
 unfolding given_typed
 returns-in-Global c = λ w here k now of_here of_window stacked of_now.
     as-located k c.args.e.now c.in-Global.is c.get.ensures
-    (c.starts-in-Global.ensures w here k c.args.stack.now.items now (Some (linkage.object_block here.program.units here.unit c.in-Global.number))
+    (c.starts-in-Global.ensures w here k c.args.stack.now.items now
+    (Some (linkage.object_block here.program.units here.unit c.in-Global.number))
     (c.object_block.ensures here of_here) stacked of_now)
 
 pub returns-in-Extern : goal.returns-in-Extern

@@ -39,7 +39,8 @@ returns-in-Condition c = λ w here k now of_here stacked of_now.
 
 pub returns-in-CastTo : goal.returns-in-CastTo
 returns-in-CastTo c = λ w here k now of_here stacked of_now.
-    as-operand k c.args.v c.in-CastTo.is (machine-is (ap (λ v. by (unit_gives v) (value here k) now) c.converted_to.ensures)
+    as-operand k c.args.v c.in-CastTo.is
+    (machine-is (ap (λ v. by (unit_gives v) (value here k) now) c.converted_to.ensures)
     (c.unit_value.ensures w here k c.args.stack.now.items now stacked of_now))
 
 pub returns-in-ConvertTo : goal.returns-in-ConvertTo
@@ -56,7 +57,8 @@ returns-in-PointerIn c = λ w here k now of_here stacked of_now.
 
 pub returns-in-Dereferenced : goal.returns-in-Dereferenced
 returns-in-Dereferenced c = λ w here k now of_here stacked of_now.
-    as-operand k c.args.v c.in-Dereferenced.is (machine-is (ap (λ p. by (unit_gives p) (place here k) now) c.pointer_in-in-Dereferenced.ensures)
+    as-operand k c.args.v c.in-Dereferenced.is
+    (machine-is (ap (λ p. by (unit_gives p) (place here k) now) c.pointer_in-in-Dereferenced.ensures)
     (c.unit_place.ensures w here k c.args.stack.now.items now stacked of_now))
 
 pub returns-in-IndexLeft : goal.returns-in-IndexLeft
@@ -65,11 +67,15 @@ returns-in-IndexLeft c = λ w here k now of_here stacked of_now.
 
 pub returns-in-IndexRight : goal.returns-in-IndexRight
 returns-in-IndexRight c = λ w here k now of_here stacked of_now.
-    as-operand k c.args.v c.in-IndexRight.is (machine-is (ap (λ p. by (unit_gives p) (place here k) now) (c.element_at.ensures (bytes_of here c.in-IndexRight.t.now)
+    as-operand k c.args.v c.in-IndexRight.is
+    (machine-is (ap (λ p. by (unit_gives p) (place here k) now)
+    (c.element_at.ensures (bytes_of here c.in-IndexRight.t.now)
     (c.wrapped_size.ensures ∙ ap (λ structs. size structs c.in-IndexRight.t.now % 2 ^ 64) of_here.structs)))
     (c.unit_place-in-IndexRight.ensures w here k c.args.stack.now.items now stacked of_now))
 
 pub returns-in-ArrowTo : goal.returns-in-ArrowTo
 returns-in-ArrowTo c = λ w here k now of_here stacked of_now.
-    as-operand k c.args.v c.in-ArrowTo.is (machine-is (λ i. spend (by (member_of here (c.target_of.ensures i) c.in-ArrowTo.member (c.pointer_in-in-ArrowTo.ensures i)) (place here k)) now)
+    as-operand k c.args.v c.in-ArrowTo.is
+    (machine-is (λ i. spend (by (member_of here (c.target_of.ensures i) c.in-ArrowTo.member (c.pointer_in-in-ArrowTo.ensures i))
+    (place here k)) now)
     (c.member_place.ensures w here k c.args.stack.now.items now of_here stacked of_now))
