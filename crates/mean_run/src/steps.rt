@@ -69,7 +69,7 @@ fn give_end<'a>(p: &mut Process<'a>) -> Result<Control<'a>, Ending>
 /// Does one step, but for a call.
 pub fn step<'a>(p: &mut Process<'a>, control: Control<'a>) -> Result<Control<'a>, Ending>
     ensures { (here : Context) (k : List waiting.Frame) (now : State) → IsProcess p.old here k now
-        → Moves p.new now result (machine.step (standing control here k now)) }
+        → Moves p.new now result (machine.step (standing control.entry here k now)) }
 {
     match control {
         Control::Evaluate(around, e) => evaluate(&mut p.now, &mut p.stack, p.here, around, e),
