@@ -23,9 +23,8 @@ mod sizes;
 
 pub use access::{read, read_scalar};
 pub use beginning::{before, begin};
-pub use calls::{call, enter, leave_call};
+pub use calls::call;
 pub use effects::{comparison, is_true, spend};
-pub use entry::{Entry, NextCall};
 pub use evaluation::{
     Choice, Logical, both_given, condition_given, first_given, operand_first, second_given,
     unary_given, unit_place, unit_value,
@@ -41,5 +40,5 @@ pub use object::Object;
 pub use operators::{Both, Operation, on_values, second_effect, unary_effect};
 pub use places::{element_at, read_given};
 pub use process::Process;
-pub use scopes::{execute, leave_scope};
+pub use scopes::execute;
 pub use sizes::{exact_size, target_size};
