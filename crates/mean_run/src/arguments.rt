@@ -97,7 +97,8 @@ fn put_block(
     cells: Vec<Cell>,
 ) -> Result<(), AllocError>
     ensures { OnOk result ((o : Origin) (ls : List Info) (vs : List Argument) (l : Info) (v : Argument)
-        → length ls ≡ number → length vs ≡ number → cells.items ≡ values.cells_of l.ty v → Passed h.entry o (with_arguments o.here 0 ls vs o.start) n.old locals.old
+        → length ls ≡ number → length vs ≡ number → cells.items ≡ values.cells_of l.ty v
+        → Passed h.entry o (with_arguments o.here 0 ls vs o.start) n.old locals.old
         → Passed h.entry o (with_arguments o.here 0 (ls ++ l ∷ []) (vs ++ v ∷ []) o.start) n.new locals.new) }
 {
     let k = small(number)?;

@@ -110,7 +110,8 @@ fn declare_for<'a>(
     body: &'a TStmt,
 ) -> Result<Control<'a>, Ending>
     ensures { (n : Code) (w : World) (here : Context) (k : List waiting.Frame) (now : State)
-        → Stacked k stack.old.items w here → IsNow n now → Stands n stack.new.items w here now result (for_first (heading_of h.entry) body.now here k now) }
+        → Stacked k stack.old.items w here → IsNow n now
+        → Stands n stack.new.items w here now result (for_first (heading_of h.entry) body.now here k now) }
 {
     match stack.push(Frame::OnDone(DoneFrame::ForDeclared(h, body))) {
         Ok(()) => Ok(Control::Declare(h.declared)),

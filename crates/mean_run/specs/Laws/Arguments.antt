@@ -1,5 +1,5 @@
 -- The parameters of a call, one after another.
-use Rattle.std.proofs.Common.{◌≡◌, refl, sym, subst, ap, ◌∙◌, arith, ℕ, ◌+◌, List, [], ◌∷◌, ◌++◌, length, replicate, take, Option}
+use Rattle.std.proofs.Common.{◌≡◌, refl, sym, subst, ap, ◌∙◌, arith, ℕ, ◌+◌, List, [], ◌∷◌, ◌++◌, length, replicate, Option}
 use Rattle.std.proofs.Common.{Some, None}
 use Rattle.std.proofs.lemmas.List.{take-append-le, length-append}
 use Rattle.std.specs.Prelude.{slice_get, slice_set}
@@ -21,8 +21,7 @@ use Rattle.mean_run.specs.Calling.{IsEntry, next_call, origin_of}
 use Rattle.mean_run.specs.Entering.{Origin, Reached, Passed}
 use Rattle.mean_run.specs.Laws.Entering.{call-of, reached-block, on_each, on_both}
 use Rattle.mean_run.specs.Laws.Windows.{take-put, window-fresh}
-use Rattle.mean_run.specs.Shown.{IsNow, IsHere, IsCall, block_at}
-use Rattle.mean_run.specs.Stacked.{IsAt}
+use Rattle.mean_run.specs.Shown.{IsNow, IsCall, block_at}
 
 parameters_more : (here : Context) (j : ℕ) (ls : List LocalInfo) (vs : List Value) (l : LocalInfo) (v : Value) (now : State) →
     length ls ≡ length vs → with_arguments here j (ls ++ l ∷ []) (vs ++ v ∷ []) now

@@ -8,19 +8,15 @@ use Rattle.c_ast.specs.declared.token.Span.{Span}
 use Rattle.c_type_base.specs.declared.statement.TItem.TheOpen.{TStmt-F}
 use Rattle.c_type_base.specs.declared.statement.TStmt.{out-TStmt}
 use Rattle.c_type_base.specs.declared.typed.ExternInfo.{ExternInfo}
-use Rattle.c_type_base.specs.declared.typed.LocalInfo.{LocalInfo}
 use Rattle.c_type_base.specs.declared.typed.TFunction.{TFunction}
-use Rattle.block_meaning.specs.declared.cell.Cell.{Cell}
-use Rattle.block_meaning.specs.declared.kind.Kind.TheVariants.{Local}
 use Rattle.block_meaning.specs.declared.value.Value.{Value}
 use Rattle.block_meaning.specs.Blocks.{Block}
-use Rattle.block_meaning.specs.Linkage.{Definition, called_as, definition_of, extern_at, function_in, function_named, structs_in}
+use Rattle.block_meaning.specs.Linkage.{Definition, called_as, definition_of, function_in, function_named, structs_in}
 use Rattle.block_meaning.specs.Locals.{latest, local_in, new_locals}
 use Rattle.block_meaning.specs.Meaning.{frame_in, frame_bytes, open_bytes, inside, new_call, end_call, result_of, with_arguments}
 use Rattle.block_meaning.specs.Running.{Function, Call, Context, State, Goes, Run, and_then, gives, goes_on, with_some, with_blocks}
 use Rattle.block_meaning.specs.Running as meaning
 use Rattle.block_meaning.specs.Statements.{declared}
-use Rattle.block_meaning.specs.Values.{cells_of}
 use Rattle.mean_machine.specs.Evaluation.{extern_function, if_known}
 use Rattle.mean_machine.specs.Evaluation as evaluation
 use Rattle.mean_machine.specs.Execution.{Entry, enter, entered, entered_body, entered_call, sequence, start_body}
@@ -48,9 +44,9 @@ use Rattle.mean_run.specs.declared.now.Now.{Now}
 use Rattle.mean_run.specs.Calling.{EntryAnswer, IsEntry, IsInCall, Request, Started, called_answer, next_call, origin_of}
 use Rattle.mean_run.specs.Entering.{Behind, Made, Passed}
 use Rattle.mean_run.specs.Laws.Standing.{free_by, moves-later}
-use Rattle.mean_run.specs.Laws.Giving.{quiet-itself, quiet-through, gives-free, gives-value, gives-stuck}
-use Rattle.mean_run.specs.Laws.Windows.{take-put, take-cleared, window-fresh}
-use Rattle.mean_run.specs.Shown.{IsNow, IsHere, IsCall, RunsIn, Quiet, Gives}
+use Rattle.mean_run.specs.Laws.Giving.{quiet-itself, quiet-through, gives-free, gives-value}
+use Rattle.mean_run.specs.Laws.Windows.{take-cleared}
+use Rattle.mean_run.specs.Shown.{IsNow, IsHere, RunsIn, Gives}
 use Rattle.mean_run.specs.Stacked.{World, IsAt, Stacked, StopsBy, Moves, flow_of}
 
 -- ---- which function

@@ -1,5 +1,5 @@
 -- Locals one after another: as they come, and as they go.
-use Rattle.std.proofs.Common.{◌≡◌, refl, sym, ap, ◌∙◌, subst, arith, ℕ, zero, suc, ◌+◌, List, [], ◌∷◌, ◌++◌, length, map, take, drop}
+use Rattle.std.proofs.Common.{◌≡◌, refl, sym, ap, ◌∙◌, subst, ℕ, zero, suc, ◌+◌, List, [], ◌∷◌, ◌++◌, length}
 use Rattle.std.proofs.Common.{Option, Some, None}
 use Rattle.std.specs.Prelude.{slice_get, slice_set, nat_eq, if◌then◌else◌}
 use Rattle.c_type_base.specs.Sizes.{size}
@@ -14,11 +14,10 @@ use Rattle.mean_memory.specs.Laws.Places.{none_not_some, some_same}
 use Rattle.mean_memory.specs.Standing.{IsMemory}
 use Rattle.mean_run.specs.declared.here.Here.{Here}
 use Rattle.mean_run.specs.declared.now.Now.{Now}
-use Rattle.mean_run.specs.Entering.{Origin, Reached, Made, Passed, Closed}
-use Rattle.mean_run.specs.Laws.Giving.{quiet-itself, quiet-through}
-use Rattle.mean_run.specs.Laws.Windows.{cleared-set, cleared-opened, cleared-some, take-put, window-put}
-use Rattle.mean_run.specs.Shown.{IsNow, IsHere, IsCall, IsWindow, RunsIn, Quiet, block_at}
-use Rattle.mean_run.specs.Stacked.{World, IsAt, cleared}
+use Rattle.mean_run.specs.Entering.{Origin, Reached, Made, Closed}
+use Rattle.mean_run.specs.Laws.Giving.{quiet-through}
+use Rattle.mean_run.specs.Laws.Windows.{cleared-set, cleared-opened, cleared-some, window-put}
+use Rattle.mean_run.specs.Shown.{IsCall, RunsIn, block_at}
 
 -- ---- the call that runs
 

@@ -29,7 +29,7 @@ use Rattle.mean_run.specs.declared.process.Process.{Process}
 use Rattle.mean_run.specs.Entering.{Made, Closed, EntersBy, Enters, Pushed, for_first, has_any}
 use Rattle.mean_run.specs.Laws.Giving.{quiet-itself, quiet-through, ends_stuck}
 use Rattle.mean_run.specs.Laws.Standing.{stops_later, stops_by, free_by, spend_is, moves-later}
-use Rattle.mean_run.specs.Shown.{IsNow, IsStuck, Quiet, Gives}
+use Rattle.mean_run.specs.Shown.{IsNow, Quiet, Gives}
 use Rattle.mean_run.specs.Stacked.{World, IsAt, Stacked, IsProcess, Sticks, Moves, MovesBy, numbers_of, flow_of, outside_scope}
 
 abbrev Inside : Type 0

@@ -1,4 +1,4 @@
-use Rattle.std.proofs.Common.{sym, ◌∙◌, subst, Ok}
+use Rattle.std.proofs.Common.{◌∙◌, subst, Ok}
 use Rattle.mean_run.specs.Calling.{EntryAnswer, function_by}
 use Rattle.mean_run.proofs.calls.enter.Goals as goal
 

@@ -1,4 +1,4 @@
-use Rattle.std.proofs.Common.{subst, arith, ◌<◌, ◌++◌, take, length}
+use Rattle.std.proofs.Common.{subst, arith, ◌++◌, take}
 use Rattle.block_meaning.specs.Statements.{declared}
 use Rattle.mean_run.specs.Entering.{Made}
 use Rattle.mean_run.proofs.ScopeTurns.{items_next}

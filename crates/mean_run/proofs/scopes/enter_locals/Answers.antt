@@ -17,7 +17,7 @@ returns-in-Ok c = λ inside here k now process any.
     let ns = numbers_of c.args.d in
     let f : Context → Stand = λ inner. inside inner (OnFlow (Scope here ns) ∷ k) in
     let after : Process =
-        record { now = c.open.new.n; locals = with_items p.locals c.open.new.locals; stack = c.push.new.stack; here = p.here } in
+    record { now = c.open.new.n; locals = with_items p.locals c.open.new.locals; stack = c.push.new.stack; here = p.here } in
     enters-in-call after now c.push.result inside here ns f any (λ call runs.
     enters-pushed {p = after} c.push.result k inside c.args.d p.locals.items p.stack.items refl
     (subst (Made p.here o ns c.open.new.n)

@@ -1,9 +1,9 @@
-use Rattle.std.proofs.Common.{refl, sym, ◌∙◌, subst, ◌∷◌}
+use Rattle.std.proofs.Common.{sym, ◌∙◌, subst, ◌∷◌}
 use Rattle.block_meaning.specs.Locals.{new_locals}
 use Rattle.mean_machine.specs.Frames.{OnFlow, Scope}
 use Rattle.mean_machine.specs.Going.{Stand, by}
 use Rattle.mean_run.specs.Entering.{Enters}
-use Rattle.mean_run.specs.Laws.Scopes.{enters-spent, enters-unspent, enters-at, scope-with, scope-without}
+use Rattle.mean_run.specs.Laws.Scopes.{enters-spent, scope-with}
 use Rattle.mean_run.specs.Stacked.{numbers_of}
 use Rattle.mean_run.proofs.scopes.enter_scope.Goals as goal
 
