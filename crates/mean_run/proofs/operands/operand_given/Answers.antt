@@ -1,4 +1,4 @@
-use Rattle.std.proofs.Common.{refl, ap, ◌∙◌, ◌%◌, ◌^◌}
+use Rattle.std.proofs.Common.{ap, ◌∙◌, ◌%◌, ◌^◌}
 use Rattle.block_meaning.specs.Expressions.{element_at, member_of}
 use Rattle.block_meaning.specs.Memory.{bytes_of}
 use Rattle.block_meaning.specs.Running.{unit_gives}
