@@ -156,7 +156,8 @@ pub fn second_given<'a>(
 pub fn both_given<'a>(n: &mut Now, h: Here<'a>, o: Operation<'a>) -> Result<Control<'a>, Ending>
     ensures { (w : World) (here : Context) (k : List waiting.Frame) (frames : List Frame) (now : State) → IsHere h.entry here
         → Stacked k frames w here → IsNow n.old now → Stands n.new frames w here now result
-        (spend_then (by (on_values here o.entry.span o.entry.operator o.entry.first_type.now o.entry.second_type.now o.entry.first o.entry.second) (value here k)) now) }
+        (spend_then (by (on_values here o.entry.span o.entry.operator o.entry.first_type.now o.entry.second_type.now
+        o.entry.first o.entry.second) (value here k)) now) }
 {
     match spend(n) {
         Ok(()) => match on_values(n, h, o) {
