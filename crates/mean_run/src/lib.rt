@@ -29,8 +29,8 @@ pub use evaluation::{
     unary_given, unit_place, unit_value,
 };
 pub use frames::{
-    Control, Declarations, DoneFrame, Flow, FlowFrame, Frame, Heading, Loop, OperandFrame, PlaceFrame,
-    ValueFrame,
+    Control, Declarations, DoneFrame, Flow, FlowFrame, Frame, Heading, Loop, OperandFrame,
+    PlaceFrame, ValueFrame,
 };
 pub use here::Here;
 pub use initialising::fill;
