@@ -1,6 +1,6 @@
 //! Initialisers of locals: what each begins with.
 
-ghost use Rattle.std.specs.Prelude.{◌≡◌, ◌∷◌, ℕ, ◌*◌, List, Some, IfSome, slice_get};
+ghost use Rattle.std.specs.Prelude.{◌≡◌, ℕ, ◌*◌, List, Some, IfSome, slice_get};
 ghost use Rattle.block_meaning.specs.Blocks as blocks;
 ghost use Rattle.block_meaning.specs.Locals.{text_at};
 ghost use Rattle.block_meaning.specs.Memory.{bytes_of, structs_at};

@@ -1,6 +1,6 @@
 //! Loops. A turn spends a unit of work at its start.
 
-ghost use Rattle.std.specs.Prelude.{◌≡◌, ◌∷◌, List, option_copied};
+ghost use Rattle.std.specs.Prelude.{◌∷◌, List, option_copied};
 ghost use Rattle.mean_run.specs.Turns.{turn_after};
 ghost use Rattle.block_meaning.specs.Running.{Context, State};
 ghost use Rattle.mean_machine.specs.Execution as machine;
