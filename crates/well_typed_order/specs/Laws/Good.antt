@@ -1,5 +1,5 @@
 -- Judgements in order: what is known without a fault has a property, where the names in scope mean what is there.
-use Rattle.std.proofs.Common.{sym, ◌≡◌, refl, ◌∙◌, ap, subst, ℕ, zero, suc, ◌+◌, arith, false, ◌||◌, List, [], ◌∷◌, ◌++◌, length, ◌<◌}
+use Rattle.std.proofs.Common.{◌≡◌, refl, ◌∙◌, ap, subst, ℕ, zero, suc, ◌+◌, arith, false, ◌||◌, List, [], ◌∷◌, ◌++◌, length, ◌<◌}
 use Rattle.std.proofs.Common.{slice_get, Option, Some, None}
 use Rattle.std.specs.List.{AllByRecursion}
 use Rattle.c_type_base.specs.declared.expr.Callee.{Callee}
@@ -155,7 +155,8 @@ on_silent a f env silent each (Some v) = none-after (f v (behind a env)).names a
 pub silent-on : {A B : Type 0} (p : Judged A) (f : A → Judged B) → Silent p → ((v : A) → Silent (f v)) → Silent (on p f)
 silent-on p f first each env = on_silent (p env) f env (first env) each (p env).known
 
-on_holds : {A B : Type 0} {M : List StructInfo → Type 0} (s : Scope) (P : A → Type 0) (Q : B → Type 0) (a : Outcome A) (f : A → Judged B) (env : Env) → Inside M env s →
+on_holds : {A B : Type 0} {M : List StructInfo → Type 0} (s : Scope) (P : A → Type 0) (Q : B → Type 0) (a : Outcome A) (f : A →
+    Judged B) (env : Env) → Inside M env s →
     a.names ≡ [] → (a.faults ≡ [] → TextsIn s env.texts a.texts → There a.known P) → ((v : A) → P v → GoodIf M s Q (f v)) → (o : Option A) →
     a.known ≡ o → (continued a o f env).faults ≡ [] → TextsIn s env.texts (continued a o f env).texts → There (continued a o f env).known Q
 on_holds s P Q a f env inside silent first each None is kept texts = absurd (none-is P a.known is (first kept texts))
@@ -165,7 +166,8 @@ on_holds s P Q a f env inside silent first each (Some v) is kept texts =
     (each v holds).holds (behind a env) (env-behind s env a silent inside) (back a.faults b.faults kept)
     (texts-back s env.texts a.texts b.texts texts)
 
-pub good-on : {A B : Type 0} {M : List StructInfo → Type 0} {s : Scope} {P : A → Type 0} {Q : B → Type 0} (p : Judged A) (f : A → Judged B) → GoodIf M s P p →
+pub good-on : {A B : Type 0} {M : List StructInfo → Type 0} {s : Scope} {P : A → Type 0} {Q : B → Type 0} (p : Judged A) (f : A →
+    Judged B) → GoodIf M s P p →
     ((v : A) → Silent (f v)) → ((v : A) → P v → GoodIf M s Q (f v)) → GoodIf M s Q (on p f)
 good-on {s = s} {P = P} {Q = Q} p f first silent each = record {
   silent = silent-on p f first.silent silent;
@@ -185,7 +187,8 @@ pair-holds P Q (Some a) (Some b) first second = (first, second)
 abbrev pub Pair : {A B : Type 0} → (A → Type 0) → (B → Type 0) → A × B → Type 0
 Pair P Q x = P x.0 × Q x.1
 
-pub good-both : {A B : Type 0} {M : List StructInfo → Type 0} {s : Scope} {P : A → Type 0} {Q : B → Type 0} (p : Judged A) (q : Judged B) → GoodIf M s P p → GoodIf M s Q q →
+pub good-both : {A B : Type 0} {M : List StructInfo → Type 0} {s : Scope} {P : A → Type 0} {Q : B →
+    Type 0} (p : Judged A) (q : Judged B) → GoodIf M s P p → GoodIf M s Q q →
     GoodIf M s (Pair P Q) (both p q)
 good-both {s = s} {P = P} {Q = Q} p q first second = record {
   silent = silent-both p q first.silent second.silent;
@@ -209,7 +212,8 @@ good-sure a holds = record { silent = λ env. refl; holds = λ env inside kept t
 pub good-none : {A : Type 0} {M : List StructInfo → Type 0} {s : Scope} {P : A → Type 0} → GoodIf M s (AllByRecursion P) (each [])
 good-none = record { silent = λ env. refl; holds = λ env inside kept texts. tt }
 
-pub good-more : {A : Type 0} {M : List StructInfo → Type 0} {s : Scope} {P : A → Type 0} (p : Judged A) (ps : List (Judged A)) → GoodIf M s P p →
+pub good-more : {A : Type 0} {M : List StructInfo → Type 0} {s : Scope} {P : A → Type 0} (p : Judged A) (ps : List (Judged A)) →
+    GoodIf M s P p →
     GoodIf M s (AllByRecursion P) (each ps) → GoodIf M s (AllByRecursion P) (each (p ∷ ps))
 good-more {s = s} {P = P} p ps first rest = record {
   silent = λ env. none-after (each ps (behind (p env) env)).names (p env).names (rest.silent (behind (p env) env)) (first.silent env);
@@ -235,13 +239,15 @@ there_any P None holds = holds
 there_any P (Some a) holds = tt
 
 -- where nothing is asked of what is known
-pub good-any : {A : Type 0} {M : List StructInfo → Type 0} {s : Scope} {P : A → Type 0} (p : Judged A) → GoodIf M s P p → GoodIf M s (λ (a : A). Unit {0}) p
+pub good-any : {A : Type 0} {M : List StructInfo → Type 0} {s : Scope} {P : A → Type 0} (p : Judged A) → GoodIf M s P p →
+    GoodIf M s (λ (a : A). Unit {0}) p
 good-any {P = P} p good = record {
   silent = good.silent;
   holds = λ env inside kept texts. there_any P (p env).known (good.holds env inside kept texts);
 }
 
-either_holds : {A B : Type 0} {M : List StructInfo → Type 0} (s : Scope) (P : A → Type 0) (Q : B → Type 0) (a : Outcome A) (q : Judged B) (f : A → Judged B) (env : Env) →
+either_holds : {A B : Type 0} {M : List StructInfo → Type 0} (s : Scope) (P : A → Type 0) (Q : B →
+    Type 0) (a : Outcome A) (q : Judged B) (f : A → Judged B) (env : Env) →
     Inside M env s → a.names ≡ [] → (a.faults ≡ [] → TextsIn s env.texts a.texts → There a.known P) →
     ((v : A) → P v → GoodIf M s Q (f v)) → (o : Option A) → a.known ≡ o → (met a o q f env).faults ≡ [] →
     TextsIn s env.texts (met a o q f env).texts → There (met a o q f env).known Q
@@ -254,7 +260,8 @@ either_holds s P Q a q f env inside silent first each (Some v) is kept texts =
     (each v holds).holds (behind a env) (env-behind s env a silent inside) (back a.faults b.faults kept)
     (texts-back s env.texts a.texts b.texts texts)
 
-pub good-either : {A B : Type 0} {M : List StructInfo → Type 0} {s : Scope} {P : A → Type 0} {Q : B → Type 0} (p : Judged A) (q : Judged B) (f : A → Judged B) →
+pub good-either : {A B : Type 0} {M : List StructInfo → Type 0} {s : Scope} {P : A → Type 0} {Q : B →
+    Type 0} (p : Judged A) (q : Judged B) (f : A → Judged B) →
     GoodIf M s P p → Silent q → ((v : A) → Silent (f v)) → ((v : A) → P v → GoodIf M s Q (f v)) → GoodIf M s Q (either p q f)
 good-either {s = s} {P = P} {Q = Q} p q f first other silent each = record {
   silent = silent-either p q f first.silent other silent;
@@ -263,7 +270,8 @@ good-either {s = s} {P = P} {Q = Q} p q f first other silent each = record {
 }
 
 -- what breaks a rule has each property where it breaks none
-pub good-never : {A : Type 0} {M : List StructInfo → Type 0} {s : Scope} {P : A → Type 0} (p : Judged A) → Silent p → ((env : Env) → (p env).faults ≡ [] → ⊥) →
+pub good-never : {A : Type 0} {M : List StructInfo → Type 0} {s : Scope} {P : A → Type 0} (p : Judged A) → Silent p → ((env : Env) →
+    (p env).faults ≡ [] → ⊥) →
     GoodIf M s P p
 good-never {P = P} p silent breaks = record {
   silent = silent;

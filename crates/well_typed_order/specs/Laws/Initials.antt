@@ -40,13 +40,13 @@ use Rattle.c_type_base.specs.declared.known.Fixed.{Fixed}
 use Rattle.c_type_base.specs.declared.known.Known.{Known}
 use Rattle.c_type_base.specs.declared.known.Written.{Written}
 use Rattle.c_type_base.specs.Known.{value, assignable, is_value, is_null}
-use Rattle.c_type_base.specs.Types.{TyLayer, is_there, element_of_level, struct_of_level, is_char_type, is_scalar}
+use Rattle.c_type_base.specs.Types.{TyLayer, element_of_level, struct_of_level, is_char_type, is_scalar}
 use Rattle.c_type_base.specs.Types.{is_integer, is_pointer, is_struct, is_array, same_type, element_of, struct_of}
 use Rattle.c_type_expr.specs.Environment.{Env}
 use Rattle.c_type_expr.specs.Expressions.{node_step, expr_step, expression}
 use Rattle.c_type_expr.specs.Faults.{rule, fault}
 use Rattle.c_type_expr.specs.Operators.{breaks}
-use Rattle.c_type_expr.specs.Outcomes.{Judged, continued, ruled, listed, each, behind, sure, not_known, both, on, either, asked}
+use Rattle.c_type_expr.specs.Outcomes.{Judged, continued, listed, each, behind, sure, not_known, both, on, either, asked}
 use Rattle.c_type_expr.specs.Said.{Said, NodeSaid, type_step, text}
 use Rattle.c_type_stmt.specs.declared.fitted.Fitted.{Fitted}
 use Rattle.c_type_stmt.specs.declared.initial.Slot.{Slot}
@@ -61,8 +61,10 @@ use Rattle.block_meaning.specs.StatementsInOrder as order
 use Rattle.block_meaning.specs.StatementsInOrder.{Initialises, Elements, Members}
 use Rattle.well_typed_order.specs.Laws.Binary.{never-kept, kept-first, kept-rest}
 use Rattle.well_typed_order.specs.Laws.Expressions.{expression-good}
-use Rattle.well_typed_order.specs.Laws.Good.{EnvIn, TextsIn, Silent, Inside, NoMore, GoodIf, Good, good-if, good-from, good-on, good-both, good-sure}
-use Rattle.well_typed_order.specs.Laws.Good.{good-either, good-never, good-none, good-more, none-after, silent-on, silent-both, front, texts-front}
+use Rattle.well_typed_order.specs.Laws.Good.{EnvIn, TextsIn, Silent, NoMore, GoodIf, Good, good-if, good-from, good-on, good-both}
+use Rattle.well_typed_order.specs.Laws.Good.{good-sure}
+use Rattle.well_typed_order.specs.Laws.Good.{good-either, good-never, good-none, good-more, none-after, silent-on, silent-both, front}
+use Rattle.well_typed_order.specs.Laws.Good.{texts-front}
 use Rattle.well_typed_order.specs.Laws.Postfix.{TableIn}
 use Rattle.well_typed_order.specs.Laws.Known.{There, TargetIn, AddressIn, FixedIn, ValueIn, Into, assignable-in, value-in}
 use Rattle.well_typed_order.specs.Laws.Types.{and_first, and_second}
@@ -288,9 +290,11 @@ module _ (s : Scope) where
       (good-both (i.fitted b x.ty) (fit_all slot b (k + 1) is)
       (good-from (λ structs. is_complete structs x.ty ≡ true) (Wholes slot) (i.fitted b x.ty) (λ env inside whole. whole k x same)
       (good.fits b x.ty)) rest) (λ v env. refl)
-      (λ v known. good-sure (moved_fitted x.offset v.0 ∷ v.1)
-      (subst (λ o. SlotFits o (moved_fitted x.offset v.0)) (sym same)
-      (record { tree = known.0.tree; pieces = moved_in x.offset v.0.pieces known.0.pieces }), known.1))
+      (λ v known. good-sure (moved_fitted x.offset v.0 ∷ v.1) (
+        subst (λ o. SlotFits o (moved_fitted x.offset v.0)) (sym same)
+            (record { tree = known.0.tree; pieces = moved_in x.offset v.0.pieces known.0.pieces }),
+        known.1,
+      ))
 
   all_good : (slot : ℕ → Option Slot) (b : Bool) (k : ℕ) (is : List InitSaid) → AllByRecursion InitGood is →
       GoodIf (Wholes slot) s (FitsFrom slot k) (fit_all slot b k is)

@@ -1,20 +1,18 @@
 -- Parts of functions, which may declare locals: what is known of one that breaks no rule has a property, and the names that it adds mean
 -- what is there.
-use Rattle.std.proofs.Common.{◌≡◌, refl, sym, ◌∙◌, ap, subst, ℕ, zero, suc, ◌+◌, arith, Bool, true, false, List, [], ◌∷◌, ◌++◌, length}
+use Rattle.std.proofs.Common.{◌≡◌, refl, sym, ◌∙◌, ap, subst, ℕ, ◌+◌, arith, Bool, true, false, List, [], ◌∷◌, ◌++◌, length}
 use Rattle.std.proofs.Common.{slice_get, Option, Some, None}
 use Rattle.std.specs.Prelude.{if◌then◌else◌}
-use Rattle.std.specs.List.{AllByRecursion, find}
+use Rattle.std.specs.List.{AllByRecursion}
 use Rattle.std.specs.Str.{bytes_eq}
 use Rattle.std.proofs.lemmas.Option.{same_Some}
-use Rattle.c_type_base.specs.Types.{is_void}
 use Rattle.c_type_base.specs.declared.typed.LocalInfo.{LocalInfo}
 use Rattle.c_type_expr.specs.declared.scopes.Binding.{Binding}
 use Rattle.c_type_expr.specs.declared.scopes.Meaning.{Meaning}
 use Rattle.c_type_expr.specs.Environment.{Env, in_scope, in_scopes, or_else, with_innermost}
-use Rattle.c_type_expr.specs.Outcomes.{Outcome, Judged, behind, sure, pair, both, listed, each, present, perhaps, continued, on}
+use Rattle.c_type_expr.specs.Outcomes.{Outcome, Judged, behind, sure, both, each, present, perhaps, continued, on}
 use Rattle.block_meaning.specs.ExpressionsInOrder.{Scope}
 use Rattle.well_typed_order.specs.Laws.Known.{There}
-use Rattle.well_typed_order.specs.Laws.Postfix.{TableIn}
 use Rattle.well_typed_order.specs.Laws.Good.{MeansIn, EnvIn, TextsIn, Good, Pair, front, back, get-front, get-back, texts-front, texts-back}
 use Rattle.well_typed_order.specs.Laws.Good.{some-is, none-is, pair-holds, listed-holds}
 
@@ -84,7 +82,8 @@ pub no-scope : (names : List Binding) → names ++ [] ≡ names
 no-scope [] = refl
 no-scope (x ∷ names) = ap (λ l. x ∷ l) (no-scope names)
 
-pub found-names : (G : Meaning → Type 0) (name : List ℕ) (names : List Binding) (scopes : List (List Binding)) (b : Binding) → Names G names →
+pub found-names : (G : Meaning → Type 0) (name : List ℕ) (names : List Binding) (scopes : List (List Binding)) (b : Binding) →
+    Names G names →
     ((b : Binding) → in_scopes name scopes ≡ Some b → G b.means) → in_scopes name (with_innermost names scopes) ≡ Some b → G b.means
 found-names G name names [] b all old is =
     found_first G name names [] None b all (λ b none. absurd cc)

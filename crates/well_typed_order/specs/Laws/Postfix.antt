@@ -28,7 +28,8 @@ use Rattle.c_type_expr.specs.declared.scopes.Signature.{Signature}
 use Rattle.c_type_expr.specs.Environment.{Env}
 use Rattle.c_type_expr.specs.Faults.{rule}
 use Rattle.c_type_expr.specs.Operators.{Sort, Integer, Points, sort_of}
-use Rattle.c_type_expr.specs.Postfix.{index_fixed_by, element, index_row, member_fixed, member_number, member_at, member_known, member_found, member_in, member_row}
+use Rattle.c_type_expr.specs.Postfix.{index_fixed_by, element, index_row, member_fixed, member_number, member_at, member_known}
+use Rattle.c_type_expr.specs.Postfix.{member_found, member_in, member_row}
 use Rattle.c_type_expr.specs.Postfix.{arrow_known, arrow_found, arrow_in, struct_pointed, arrow_row, passed, all_assignable, all_values}
 use Rattle.c_type_expr.specs.Postfix.{call_made}
 use Rattle.c_type_expr.specs.Postfix.{call_known}
@@ -60,7 +61,8 @@ index_fixed_in s bytes p i fixed = by_path p.path
 element_in : {s : Scope} (span : Span) (n : TNode) (p i : Known) (t : Ty) (env : Env) → FixedIn s p.fixed → Designates s t (out-TNode n) →
     Keeps s (element span n p i t env)
 element_in {s = s} span n p i t env fixed place kept =
-    lvalue-in _ refl refl (index_fixed_in s (size env.structs t) p i fixed) place (complete-object env.structs t (kept-first span 15 (is_complete env.structs t) [] kept))
+    lvalue-in _ refl refl (index_fixed_in s (size env.structs t) p i fixed) place (complete-object env.structs t (kept-first span 15
+    (is_complete env.structs t) [] kept))
 
 pub index-in : {s : Scope} (span : Span) (a i : Known) (env : Env) → ValueIn s a → ValueIn s i → (x y : Sort) → sort_of a ≡ x →
     sort_of i ≡ y → Keeps s (index_row span a i x y env)
