@@ -17,11 +17,11 @@ use Rattle.block_meaning.specs.ExpressionsInOrder.{Scope}
 use Rattle.block_meaning.specs.ProgramsInOrder.{numbered, body_scope, FunctionInOrder}
 use Rattle.block_meaning.specs.Running.{Program}
 use Rattle.block_meaning.specs.StatementsInOrder.{Items}
-use Rattle.well_typed_order.specs.Laws.Good.{MeansIn, TextsIn, EnvIn, get-front, get-back, some-is}
+use Rattle.well_typed_order.specs.Standing.{MeansIn, TextsIn, EnvIn, There, Names, Stands, LocalsIn}
+use Rattle.well_typed_order.specs.Laws.Good.{get-front, get-back, some-is}
 use Rattle.well_typed_order.specs.Laws.Judged.{At, env-like}
-use Rattle.well_typed_order.specs.Laws.Known.{There}
 use Rattle.well_typed_order.specs.Laws.Parameters.{Below, ParametersFine}
-use Rattle.well_typed_order.specs.Laws.Parts.{Names, Stands, LocalsIn, env-named, any-names, no-scope}
+use Rattle.well_typed_order.specs.Laws.Parts.{env-named, any-names, no-scope}
 use Rattle.well_typed_order.specs.Laws.Declared.{names-more}
 use Rattle.well_typed_order.specs.Laws.Scopes.{outside, no_function, env-inside, env-opened, numbered-all, contains-front}
 use Rattle.well_typed_order.specs.Laws.Scopes.{contains-back}

@@ -12,9 +12,9 @@ use Rattle.c_type_expr.specs.Outcomes.{Judged, behind, sure, pair, both, listed,
 use Rattle.c_type_stmt.specs.Declarations.{local}
 use Rattle.block_meaning.specs.ExpressionsInOrder.{Scope}
 use Rattle.block_meaning.specs.Statements.{local_of}
-use Rattle.well_typed_order.specs.Laws.Good.{Silent}
+use Rattle.well_typed_order.specs.Standing.{Silent, Names}
 use Rattle.well_typed_order.specs.Laws.Locals.{local-named}
-use Rattle.well_typed_order.specs.Laws.Parts.{Names, no-names, names-both}
+use Rattle.well_typed_order.specs.Laws.Parts.{no-names, names-both}
 use Rattle.well_typed_order.specs.Laws.Scopes.{HeldIn, contains-front, contains-back}
 
 -- the names that it adds are those of locals with these numbers, where it is known

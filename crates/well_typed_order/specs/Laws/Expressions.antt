@@ -49,11 +49,13 @@ use Rattle.c_type_expr.specs.Said.{variable, text_known, text}
 use Rattle.block_meaning.specs.ExpressionsInOrder as order
 use Rattle.block_meaning.specs.ExpressionsInOrder.{Scope, file_of}
 use Rattle.block_meaning.specs.Locals.{text_of}
+use Rattle.well_typed_order.specs.Standing.{Inside, NoMore, MeansIn, EnvIn, TextsIn, Silent, Good, There, TargetIn, AddressIn, FixedIn}
+use Rattle.well_typed_order.specs.Standing.{KnownIn, ValueIn}
 use Rattle.well_typed_order.specs.Laws.Binary.{Keeps, never-kept, binary-in, int-integer}
-use Rattle.well_typed_order.specs.Laws.Good.{Inside, NoMore, MeansIn, EnvIn, TextsIn, Silent, Good, silent-on, good-on, good-both}
+use Rattle.well_typed_order.specs.Laws.Good.{silent-on, good-on, good-both}
 use Rattle.well_typed_order.specs.Laws.Good.{good-sure}
 use Rattle.well_typed_order.specs.Laws.Good.{get-within, good-none, good-more, good-either, good-never}
-use Rattle.well_typed_order.specs.Laws.Known.{There, TargetIn, AddressIn, FixedIn, KnownIn, ValueIn, known_by, int-plain, value-in}
+use Rattle.well_typed_order.specs.Laws.Known.{known_by, int-plain, value-in}
 use Rattle.well_typed_order.specs.Laws.Postfix.{index-in, member-in, arrow-in, call-in}
 use Rattle.well_typed_order.specs.Laws.Silent.{binary-silent, unary-silent, assign-silent, step-silent, cond-silent, index-silent}
 use Rattle.well_typed_order.specs.Laws.Silent.{member-silent}

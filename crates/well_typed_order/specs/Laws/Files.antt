@@ -15,7 +15,7 @@ use Rattle.block_meaning.specs.Linkage.{structs_of, structs_in}
 use Rattle.block_meaning.specs.Locals.{text_of}
 use Rattle.block_meaning.specs.Running as running
 use Rattle.well_typed_order.specs.Bodied.{Bodied}
-use Rattle.well_typed_order.specs.Laws.Good.{TextsIn}
+use Rattle.well_typed_order.specs.Standing.{TextsIn}
 use Rattle.well_typed_order.specs.Laws.Lookups.{Lookups, lookups-tables}
 use Rattle.well_typed_order.specs.Laws.Scopes.{outside}
 use Rattle.well_typed_order.specs.Laws.Unary.{complete-object}

@@ -1,72 +1,14 @@
 -- Judgements in order: what is known without a fault has a property, where the names in scope mean what is there.
-use Rattle.std.proofs.Common.{◌≡◌, refl, ◌∙◌, ap, subst, ℕ, zero, suc, ◌+◌, arith, false, ◌||◌, List, [], ◌∷◌, ◌++◌, length, ◌<◌}
+use Rattle.std.proofs.Common.{◌≡◌, refl, ◌∙◌, ap, subst, ℕ, zero, suc, ◌+◌, arith, List, [], ◌∷◌, ◌++◌, length, ◌<◌}
 use Rattle.std.proofs.Common.{slice_get, Option, Some, None}
 use Rattle.std.specs.List.{AllByRecursion}
-use Rattle.c_type_base.specs.declared.expr.Callee.{Callee}
-use Rattle.c_type_base.specs.declared.expr.TNode.{out-TNode}
-use Rattle.c_type_base.specs.declared.ty.Ty.{Ty}
 use Rattle.c_type_base.specs.declared.typed.StructInfo.{StructInfo}
-use Rattle.c_type_base.specs.Types.{is_void, is_array, is_struct}
 use Rattle.c_type_expr.specs.declared.scopes.Binding.{Binding}
-use Rattle.c_type_expr.specs.declared.scopes.Place.{Place}
-use Rattle.c_type_expr.specs.declared.scopes.Signature.{Signature}
-use Rattle.c_type_expr.specs.declared.scopes.Meaning.{Meaning}
-use Rattle.c_type_expr.specs.declared.scopes.Meaning.TheVariants as means
-use Rattle.c_type_expr.specs.Environment.{Env, node_at, target_at, in_scopes, with_innermost}
+use Rattle.c_type_expr.specs.Environment.{Env, in_scopes, with_innermost}
 use Rattle.c_type_expr.specs.Outcomes.{Outcome, Judged, behind, sure, pair, both, listed, each, continued, on, met, either}
-use Rattle.block_meaning.specs.ExpressionsInOrder.{Scope, Designates, Callable, file_of}
+use Rattle.block_meaning.specs.ExpressionsInOrder.{Scope, file_of}
 use Rattle.block_meaning.specs.Locals.{text_of}
-use Rattle.well_typed_order.specs.Laws.Known.{There, AddressIn}
-use Rattle.well_typed_order.specs.Laws.Postfix.{TableIn}
-
--- ---- where a construct stands
-
--- an object of a type is there
-pub record ObjectIn (s : Scope) (place : Place) (t : Ty) : Type 0 where
-  pub designates : Designates s t (out-TNode (node_at place))
-  pub object : is_void t ≡ false
-  pub address : AddressIn s (target_at place)
-
--- and a function, which gives a scalar or nothing
-pub record FunctionIn (s : Scope) (f : Callee) (sig : Signature) : Type 0 where
-  pub callable : Callable s f sig.params sig.result
-  pub plain : (is_array sig.result || is_struct sig.result) ≡ false
-
--- what a name means is there, and has a type
-abbrev pub MeansIn : Scope → Meaning → Type 0
-MeansIn s (means.Object place None) = ⊥
-MeansIn s (means.Object place (Some t)) = ObjectIn s place t
-MeansIn s (means.Function f None) = ⊥
-MeansIn s (means.Function f (Some sig)) = FunctionIn s f sig
-MeansIn s means.Eof = Unit {0}
-
-pub record EnvIn (env : Env) (s : Scope) : Type 0 where
-  pub table : TableIn env s
-  pub names : (name : List ℕ) (b : Binding) → in_scopes name env.scopes ≡ Some b → MeansIn s b.means
-
--- these texts are those of the file from a number on
-abbrev pub TextsIn : Scope → ℕ → List (List ℕ) → Type 0
-TextsIn s from texts = (k : ℕ) (bytes : List ℕ) → slice_get texts k ≡ Some bytes → text_of (file_of s) (from + k) ≡ Some bytes
-
--- it adds no name
-abbrev pub Silent : {A : Type 0} → Judged A → Type 0
-Silent p = (env : Env) → (p env).names ≡ []
-
--- a construct stands there, and more holds of the structs that are declared so far
-pub record Inside (More : List StructInfo → Type 0) (env : Env) (s : Scope) : Type 0 where
-  pub here : EnvIn env s
-  pub more : More env.structs
-
-abbrev pub NoMore : List StructInfo → Type 0
-NoMore structs = Unit {0}
-
--- where it breaks no rule, it is known, and has a property
-pub record GoodIf {A : Type 0} (More : List StructInfo → Type 0) (s : Scope) (P : A → Type 0) (p : Judged A) : Type 0 where
-  pub silent : Silent p
-  pub holds : (env : Env) → Inside More env s → (p env).faults ≡ [] → TextsIn s env.texts (p env).texts → There (p env).known P
-
-abbrev pub Good : {A : Type 0} → Scope → (A → Type 0) → Judged A → Type 0
-Good = GoodIf NoMore
+use Rattle.well_typed_order.specs.Standing.{There, EnvIn, TextsIn, Silent, Inside, GoodIf, Good}
 
 pub good-if : {A : Type 0} {M : List StructInfo → Type 0} {s : Scope} {P : A → Type 0} (p : Judged A) → Good s P p → GoodIf M s P p
 good-if p good = record {

@@ -31,7 +31,8 @@ use Rattle.c_types.specs.Units.{struct_judged, object_judged, objects_judged, wi
 use Rattle.c_types.specs.Units.{part_judged, parts_judged}
 use Rattle.c_types.specs.Functions.{result_type}
 use Rattle.block_meaning.specs.ExpressionsInOrder.{Scope}
-use Rattle.well_typed_order.specs.Laws.Good.{TextsIn, front, back, texts-front}
+use Rattle.well_typed_order.specs.Standing.{TextsIn}
+use Rattle.well_typed_order.specs.Laws.Good.{front, back, texts-front}
 
 -- an element of a list
 abbrev pub In : {A : Type 0} → List A → A → Type 0

@@ -21,13 +21,13 @@ use Rattle.block_meaning.specs.ExpressionsInOrder.{Scope}
 use Rattle.block_meaning.specs.Linkage.{type_of_local}
 use Rattle.block_meaning.specs.ProgramsInOrder.{numbered}
 use Rattle.block_meaning.specs.Running.{Program}
+use Rattle.well_typed_order.specs.Standing.{MeansIn, TextsIn, There, LocalsIn}
 use Rattle.well_typed_order.specs.Laws.Binary.{kept-first, kept-rest}
 use Rattle.well_typed_order.specs.Laws.Expressions.{whole-good}
-use Rattle.well_typed_order.specs.Laws.Good.{MeansIn, TextsIn, front, back, texts-front, none-is, some-is}
+use Rattle.well_typed_order.specs.Laws.Good.{front, back, texts-front, none-is, some-is}
 use Rattle.well_typed_order.specs.Laws.Judged.{At, at-outcome, at-names, at-good, at-texts}
-use Rattle.well_typed_order.specs.Laws.Known.{There}
 use Rattle.well_typed_order.specs.Laws.Parameters.{Below, ParametersFine, parameters-fine}
-use Rattle.well_typed_order.specs.Laws.Parts.{LocalsIn, no-names}
+use Rattle.well_typed_order.specs.Laws.Parts.{no-names}
 use Rattle.well_typed_order.specs.Laws.Scopes.{outside, no_function, env-inside, env-opened, numbered-all}
 
 -- behind the result

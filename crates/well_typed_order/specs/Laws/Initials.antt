@@ -59,14 +59,15 @@ use Rattle.block_meaning.specs.ExpressionsInOrder.{Scope, file_of}
 use Rattle.block_meaning.specs.Locals.{text_of}
 use Rattle.block_meaning.specs.StatementsInOrder as order
 use Rattle.block_meaning.specs.StatementsInOrder.{Initialises, Elements, Members}
+use Rattle.well_typed_order.specs.Standing.{EnvIn, TextsIn, Silent, NoMore, GoodIf, Good, TableIn, There, TargetIn, AddressIn, FixedIn}
+use Rattle.well_typed_order.specs.Standing.{ValueIn}
 use Rattle.well_typed_order.specs.Laws.Binary.{never-kept, kept-first, kept-rest}
 use Rattle.well_typed_order.specs.Laws.Expressions.{expression-good}
-use Rattle.well_typed_order.specs.Laws.Good.{EnvIn, TextsIn, Silent, NoMore, GoodIf, Good, good-if, good-from, good-on, good-both}
+use Rattle.well_typed_order.specs.Laws.Good.{good-if, good-from, good-on, good-both}
 use Rattle.well_typed_order.specs.Laws.Good.{good-sure}
 use Rattle.well_typed_order.specs.Laws.Good.{good-either, good-never, good-none, good-more, none-after, silent-on, silent-both, front}
 use Rattle.well_typed_order.specs.Laws.Good.{texts-front}
-use Rattle.well_typed_order.specs.Laws.Postfix.{TableIn}
-use Rattle.well_typed_order.specs.Laws.Known.{There, TargetIn, AddressIn, FixedIn, ValueIn, Into, assignable-in, value-in}
+use Rattle.well_typed_order.specs.Laws.Known.{Into, assignable-in, value-in}
 use Rattle.well_typed_order.specs.Laws.Types.{and_first, and_second}
 
 module _ (s : Scope) where

@@ -11,9 +11,9 @@ use Rattle.c_type_expr.specs.Outcomes.{Outcome, Judged, behind}
 use Rattle.c_types.specs.Units.{Judgement, with_outcome, with_names}
 use Rattle.block_meaning.specs.ExpressionsInOrder.{Scope}
 use Rattle.block_meaning.specs.Linkage.{structs_of}
-use Rattle.well_typed_order.specs.Laws.Good.{MeansIn, EnvIn, TextsIn, GoodIf, front, back, texts-front, texts-back}
-use Rattle.well_typed_order.specs.Laws.Known.{There}
-use Rattle.well_typed_order.specs.Laws.Parts.{Names, env-named}
+use Rattle.well_typed_order.specs.Standing.{MeansIn, EnvIn, TextsIn, GoodIf, There, Names}
+use Rattle.well_typed_order.specs.Laws.Good.{front, back, texts-front, texts-back}
+use Rattle.well_typed_order.specs.Laws.Parts.{env-named}
 
 -- behind some parts of a file
 pub record At (s : Scope) (j : Judgement) : Type 0 where

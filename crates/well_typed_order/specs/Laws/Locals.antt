@@ -28,12 +28,12 @@ use Rattle.block_meaning.specs.ExpressionsInOrder as order
 use Rattle.block_meaning.specs.ExpressionsInOrder.{Scope}
 use Rattle.block_meaning.specs.Statements.{local_of}
 use Rattle.block_meaning.specs.StatementsInOrder.{Initialises, DeclarationInOrder}
+use Rattle.well_typed_order.specs.Standing.{MeansIn, ObjectIn, GoodIf, Good, Silent, There, Names, Stands, Holds, Part}
 use Rattle.well_typed_order.specs.Laws.Binary.{kept-first, kept-rest}
 use Rattle.well_typed_order.specs.Laws.Expressions.{written-good}
-use Rattle.well_typed_order.specs.Laws.Good.{MeansIn, ObjectIn, GoodIf, Good, Silent, good-on, good-sure, silent-on, none-is}
+use Rattle.well_typed_order.specs.Laws.Good.{good-on, good-sure, silent-on, none-is}
 use Rattle.well_typed_order.specs.Laws.Initials.{FitsIn, initialiser-good}
-use Rattle.well_typed_order.specs.Laws.Known.{There}
-use Rattle.well_typed_order.specs.Laws.Parts.{Names, Stands, Holds, Part, Split, Perhaps, stands-behind, first-adds, second-adds}
+use Rattle.well_typed_order.specs.Laws.Parts.{Split, Perhaps, stands-behind, first-adds, second-adds}
 use Rattle.well_typed_order.specs.Laws.Parts.{first-names, second-names, first-kept, second-kept, no-names, names-both}
 use Rattle.well_typed_order.specs.Laws.Scopes.{HeldIn, Bounds, contains-here}
 use Rattle.well_typed_order.specs.Laws.Unary.{complete-object, each-kept}

@@ -30,9 +30,9 @@ use Rattle.c_types.specs.Units.{judged}
 use Rattle.block_meaning.specs.ExpressionsInOrder as order
 use Rattle.block_meaning.specs.ExpressionsInOrder.{Scope, IsDefined, Callable, Designates, file_of, global_of}
 use Rattle.block_meaning.specs.Linkage.{function_of, function_named, extern_at, extern_in, parameter_types}
-use Rattle.well_typed_order.specs.Laws.Good.{ObjectIn, get-within}
+use Rattle.well_typed_order.specs.Standing.{ObjectIn, TargetIn}
+use Rattle.well_typed_order.specs.Laws.Good.{get-within}
 use Rattle.well_typed_order.specs.Laws.Growth.{In}
-use Rattle.well_typed_order.specs.Laws.Known.{TargetIn}
 use Rattle.well_typed_order.specs.Laws.Mentions.{is_function, OneKind}
 use Rattle.well_typed_order.specs.Laws.Names.{among-externs, no-object, no-function, object-no-function, function-no-object}
 use Rattle.well_typed_order.specs.Laws.Names.{object-no-library, putchar-kind, getchar-kind}

@@ -20,11 +20,11 @@ use Rattle.c_types.specs.Redeclarations.{may_stand}
 use Rattle.c_types.specs.Units.{Judgement, with_outcome, with_names, with_faults, extern_rules, pieces_in, global_of, object_declared}
 use Rattle.c_types.specs.Units.{object_judged}
 use Rattle.block_meaning.specs.ExpressionsInOrder.{Scope}
+use Rattle.well_typed_order.specs.Standing.{MeansIn, TextsIn, There}
 use Rattle.well_typed_order.specs.Laws.Binary.{kept-first, kept-rest}
-use Rattle.well_typed_order.specs.Laws.Good.{MeansIn, TextsIn, front, back, texts-front, none-is}
+use Rattle.well_typed_order.specs.Laws.Good.{front, back, texts-front, none-is}
 use Rattle.well_typed_order.specs.Laws.Initials.{FitsIn, PieceIn}
 use Rattle.well_typed_order.specs.Laws.Judged.{At, env-like, at-outcome, at-names, at-good}
-use Rattle.well_typed_order.specs.Laws.Known.{There}
 use Rattle.well_typed_order.specs.Laws.Locals.{declared-good, initialised-good, initialised-silent}
 use Rattle.well_typed_order.specs.Laws.Parts.{Perhaps, no-names}
 

@@ -17,13 +17,13 @@ use Rattle.c_types.specs.Functions.{adjusted, counted, parameter_rules, is_new_p
 use Rattle.c_types.specs.Laws.QuietLaws.{written_quiet}
 use Rattle.block_meaning.specs.ExpressionsInOrder.{Scope}
 use Rattle.block_meaning.specs.Linkage.{type_of_local}
+use Rattle.well_typed_order.specs.Standing.{MeansIn, EnvIn, There, Names, Adds}
 use Rattle.well_typed_order.specs.Laws.Binary.{kept-first, kept-rest}
 use Rattle.well_typed_order.specs.Laws.Expressions.{written-good}
-use Rattle.well_typed_order.specs.Laws.Good.{MeansIn, EnvIn, none-is}
+use Rattle.well_typed_order.specs.Laws.Good.{none-is}
 use Rattle.well_typed_order.specs.Laws.Judged.{length-both}
-use Rattle.well_typed_order.specs.Laws.Known.{There}
 use Rattle.well_typed_order.specs.Laws.Locals.{object-there}
-use Rattle.well_typed_order.specs.Laws.Parts.{Names, Adds, Split, env-named, no-names, any-names, names-both, first-adds, second-adds}
+use Rattle.well_typed_order.specs.Laws.Parts.{Split, env-named, no-names, any-names, names-both, first-adds, second-adds}
 use Rattle.well_typed_order.specs.Laws.Parts.{first-kept, second-kept}
 use Rattle.well_typed_order.specs.Laws.Scopes.{Anything}
 use Rattle.well_typed_order.specs.Laws.Unary.{each-kept}

@@ -12,35 +12,9 @@ use Rattle.c_type_expr.specs.declared.scopes.Meaning.{Meaning}
 use Rattle.c_type_expr.specs.Environment.{Env, in_scope, in_scopes, or_else, with_innermost}
 use Rattle.c_type_expr.specs.Outcomes.{Outcome, Judged, behind, sure, both, each, present, perhaps, continued, on}
 use Rattle.block_meaning.specs.ExpressionsInOrder.{Scope}
-use Rattle.well_typed_order.specs.Laws.Known.{There}
-use Rattle.well_typed_order.specs.Laws.Good.{MeansIn, EnvIn, TextsIn, Good, Pair, front, back, get-front, get-back, texts-front, texts-back}
+use Rattle.well_typed_order.specs.Standing.{There, MeansIn, EnvIn, TextsIn, Good, LocalsIn, Adds, Names, Stands, Holds, Part}
+use Rattle.well_typed_order.specs.Laws.Good.{Pair, front, back, get-front, get-back, texts-front, texts-back}
 use Rattle.well_typed_order.specs.Laws.Good.{some-is, none-is, pair-holds, listed-holds}
-
--- these locals are those of the function from a number on
-abbrev pub LocalsIn : Scope → ℕ → List LocalInfo → Type 0
-LocalsIn s from locals = (k : ℕ) (l : LocalInfo) → slice_get locals k ≡ Some l → slice_get s.function.locals (from + k) ≡ Some l
-
--- the texts and locals of a part are those of the file and of the function
-pub record Adds {A : Type 0} (s : Scope) (env : Env) (o : Outcome A) : Type 0 where
-  pub texts : TextsIn s env.texts o.texts
-  pub locals : LocalsIn s env.locals o.locals
-
--- what names stand for has a property
-abbrev pub Names : (Meaning → Type 0) → List Binding → Type 0
-Names G names = AllByRecursion (λ (b : Binding). G b.means) names
-
--- a part of the function stands there
-pub record Stands (env : Env) (s : Scope) : Type 0 where
-  pub here : EnvIn env s
-  pub result : env.result ≡ Some s.function.result
-
-pub record Holds {A : Type 0} (s : Scope) (P : A → Type 0) (o : Outcome A) : Type 0 where
-  pub known : There o.known P
-  pub names : Names (MeansIn s) o.names
-
--- where a part breaks no rule, and what its names stand for has a property, it is known, and the names mean what is there
-pub record Part {A : Type 0} (s : Scope) (G : Meaning → Type 0) (P : A → Type 0) (p : Judged A) : Type 0 where
-  pub holds : (env : Env) → Stands env s → Names G (p env).names → Adds s env (p env) → (p env).faults ≡ [] → Holds s P (p env)
 
 -- ---- names
 

@@ -6,7 +6,6 @@ use Rattle.std.specs.List.{AllByRecursion}
 use Rattle.std.proofs.lemmas.Bool.{eqb-true}
 use Rattle.c_ast.specs.declared.token.Span.{Span}
 use Rattle.c_type_base.specs.Laws.Opened.{given_typed}
-use Rattle.c_type_base.specs.Laws.GrowthLaws.{Extends}
 use Rattle.c_type_base.specs.Laws.SizeLaws.{complete-struct}
 use Rattle.c_type_base.specs.declared.ty.Ty.{Ty, out-Ty}
 use Rattle.c_type_base.specs.declared.ty.Ty.TheVariants as ty
@@ -35,19 +34,11 @@ use Rattle.c_type_expr.specs.Postfix.{call_made}
 use Rattle.c_type_expr.specs.Postfix.{call_known}
 use Rattle.block_meaning.specs.ExpressionsInOrder as order
 use Rattle.block_meaning.specs.ExpressionsInOrder.{Scope, HasValue, Designates, HasMember, Arguments, Callable}
-use Rattle.block_meaning.specs.Linkage.{structs_of}
+use Rattle.well_typed_order.specs.Standing.{FixedIn, KnownIn, ValueIn, TableIn}
 use Rattle.well_typed_order.specs.Laws.Binary.{Keeps, moved-fixed, kept-first, kept-rest, sort-integer, sort-target}
-use Rattle.well_typed_order.specs.Laws.Known.{FixedIn, KnownIn, ValueIn, known_by, assignable-in}
+use Rattle.well_typed_order.specs.Laws.Known.{known_by, assignable-in}
 use Rattle.well_typed_order.specs.Laws.Types.{and_first, and_second}
 use Rattle.well_typed_order.specs.Laws.Unary.{lvalue-in, complete-object}
-
--- the structs that are declared so far are those of the file, and their members are objects
-pub record TableIn (env : Env) (s : Scope) : Type 0 where
-  pub extends : Extends env.structs (structs_of s.program.units s.unit)
-  pub objects : (number k : ℕ) (m : MemberInfo) → slice_get (members_of (slice_get (structs_of s.program.units s.unit) number)) k ≡ Some m →
-      is_void m.ty ≡ false
-  pub complete : (number k : ℕ) (m : MemberInfo) → slice_get (members_of (slice_get env.structs number)) k ≡ Some m →
-      is_complete env.structs m.ty ≡ true
 
 -- ---- elements
 

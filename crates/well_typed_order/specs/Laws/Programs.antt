@@ -29,12 +29,12 @@ use Rattle.block_meaning.specs.Running as running
 use Rattle.block_meaning.specs.Laws.Progress.Meaning.{HasMeaning, has_meaning}
 use Rattle.block_meaning.specs.Running.{Function}
 use Rattle.well_typed_order.specs.WellTypedPrograms.{FileOf, WellTypedProgram}
+use Rattle.well_typed_order.specs.Standing.{TargetIn}
 use Rattle.well_typed_order.specs.Laws.FileTables.{by-names-in, file-lookups}
 use Rattle.well_typed_order.specs.Laws.Files.{file-walked}
 use Rattle.well_typed_order.specs.Laws.Good.{get-front, get-within}
 use Rattle.well_typed_order.specs.Laws.Growth.{In}
 use Rattle.well_typed_order.specs.Laws.Initials.{InitialIn, PieceIn}
-use Rattle.well_typed_order.specs.Laws.Known.{TargetIn}
 use Rattle.well_typed_order.specs.Laws.Mains.{named-function}
 use Rattle.well_typed_order.specs.Laws.Numbers.{name-eq, in-map, passes-position}
 use Rattle.well_typed_order.specs.Laws.Relinked.{function-moves}

@@ -19,8 +19,7 @@ use Rattle.block_meaning.specs.ExpressionsInOrder as order
 use Rattle.block_meaning.specs.ExpressionsInOrder.{Scope, Designates, Callable}
 use Rattle.block_meaning.specs.ProgramsInOrder.{numbered}
 use Rattle.block_meaning.specs.Running.{Program}
-use Rattle.well_typed_order.specs.Laws.Good.{MeansIn, EnvIn}
-use Rattle.well_typed_order.specs.Laws.Parts.{Stands}
+use Rattle.well_typed_order.specs.Standing.{MeansIn, EnvIn, Stands}
 
 -- ---- outside functions
 

@@ -26,12 +26,13 @@ use Rattle.c_type_stmt.specs.Declarations.{no, local}
 use Rattle.c_type_stmt.specs.Statements.{effect, condition, returned, return_row}
 use Rattle.block_meaning.specs.ExpressionsInOrder.{Scope, ValueInOrder, ConditionInOrder}
 use Rattle.block_meaning.specs.StatementsInOrder.{DeclarationInOrder, StatementInOrder}
+use Rattle.well_typed_order.specs.Standing.{MeansIn, Silent, Good, There, ValueIn, Part}
 use Rattle.well_typed_order.specs.Laws.Binary.{kept-first}
 use Rattle.well_typed_order.specs.Laws.Expressions.{expression-good}
-use Rattle.well_typed_order.specs.Laws.Good.{MeansIn, Silent, Good, good-on, good-sure}
-use Rattle.well_typed_order.specs.Laws.Known.{There, ValueIn, value-in, assignable-in}
+use Rattle.well_typed_order.specs.Laws.Good.{good-on, good-sure}
+use Rattle.well_typed_order.specs.Laws.Known.{value-in, assignable-in}
 use Rattle.well_typed_order.specs.Laws.Locals.{local-part}
-use Rattle.well_typed_order.specs.Laws.Parts.{Part, Perhaps, no-names, part-good, part-sure}
+use Rattle.well_typed_order.specs.Laws.Parts.{Perhaps, no-names, part-good, part-sure}
 use Rattle.well_typed_order.specs.Laws.Parts.{part-on, part-both, part-none, part-more, part-perhaps, part-left_out}
 use Rattle.well_typed_order.specs.Laws.Scopes.{nowhere, Bounds}
 use Rattle.well_typed_order.specs.Laws.Types.{and_second}

@@ -32,10 +32,10 @@ use Rattle.block_meaning.specs.Statements as meaning
 use Rattle.block_meaning.specs.Statements.{local_of, declared_by, declared}
 use Rattle.block_meaning.specs.StatementsInOrder as order
 use Rattle.block_meaning.specs.StatementsInOrder.{DeclarationInOrder, StatementInOrder, ItemInOrder, Items}
+use Rattle.well_typed_order.specs.Standing.{Silent, There, Names, Stands, Adds, Part}
 use Rattle.well_typed_order.specs.Laws.Declared.{Declares, names-more, declares-more, locals-declare, declares-first, declares-map}
-use Rattle.well_typed_order.specs.Laws.Good.{Silent, silent-on, silent-both, some-is, none-is}
-use Rattle.well_typed_order.specs.Laws.Known.{There}
-use Rattle.well_typed_order.specs.Laws.Parts.{Names, Stands, Adds, Part, Perhaps, no-names, any-names, part-sure, part-on}
+use Rattle.well_typed_order.specs.Laws.Good.{silent-on, silent-both, some-is, none-is}
+use Rattle.well_typed_order.specs.Laws.Parts.{Perhaps, no-names, any-names, part-sure, part-on}
 use Rattle.well_typed_order.specs.Laws.Parts.{part-none, part-more, part-perhaps, part-left_out}
 use Rattle.well_typed_order.specs.Laws.Scopes.{nowhere, HeldIn, Anything, wide, bounds-wide, bounds-held, stands-within, stands-wide}
 use Rattle.well_typed_order.specs.Laws.Scopes.{contains-front}

@@ -40,11 +40,12 @@ use Rattle.c_type_expr.specs.Operators.{signed_row, denied, not_row, with_arms, 
 use Rattle.c_type_expr.specs.Operators.{arms, cond_row, cond_judged}
 use Rattle.block_meaning.specs.ExpressionsInOrder as order
 use Rattle.block_meaning.specs.ExpressionsInOrder.{Scope, HasValue, Designates, Converts, CompoundTypes, is_sign}
+use Rattle.well_typed_order.specs.Standing.{There, FixedIn, KnownIn, ValueIn}
 use Rattle.well_typed_order.specs.Laws.Binary.{Keeps, never-kept, kept-first, kept-rest, sort-integer, sort-pointer, sort-target}
 use Rattle.well_typed_order.specs.Laws.Binary.{int-integer}
 use Rattle.well_typed_order.specs.Laws.Binary.{one-pointer}
 use Rattle.well_typed_order.specs.Laws.Binary.{integer-scalar, pointer-scalar}
-use Rattle.well_typed_order.specs.Laws.Known.{There, FixedIn, KnownIn, ValueIn, known_by, valued, int-plain, pointer-plain, Into}
+use Rattle.well_typed_order.specs.Laws.Known.{known_by, valued, int-plain, pointer-plain, Into}
 use Rattle.well_typed_order.specs.Laws.Known.{converted-in, value-in}
 use Rattle.well_typed_order.specs.Laws.Known.{null-integer}
 use Rattle.well_typed_order.specs.Laws.Known.{assignable-in, wrapped-integer}

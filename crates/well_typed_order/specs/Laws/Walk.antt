@@ -39,6 +39,7 @@ use Rattle.block_meaning.specs.ExpressionsInOrder.{Scope}
 use Rattle.block_meaning.specs.Linkage.{parameter_types, type_of_local}
 use Rattle.block_meaning.specs.Running.{Program}
 use Rattle.well_typed_order.specs.Bodied.{BlockIfThere, PartBodied}
+use Rattle.well_typed_order.specs.Standing.{There}
 use Rattle.well_typed_order.specs.Laws.Bodies.{function_with, env_of_body, function-in-order, body-known}
 use Rattle.well_typed_order.specs.Laws.Good.{texts-front}
 use Rattle.well_typed_order.specs.Laws.Growth.{In, in-later, grows-objects}
@@ -46,7 +47,6 @@ use Rattle.well_typed_order.specs.Laws.Growth.{grows-body, grows-parts}
 use Rattle.well_typed_order.specs.Laws.Heads.{HeadFine, head-fine, parameters-in, with_parameters}
 use Rattle.well_typed_order.specs.Laws.Initials.{PieceIn}
 use Rattle.well_typed_order.specs.Laws.Judged.{At, at-outcome, at-texts}
-use Rattle.well_typed_order.specs.Laws.Known.{There}
 use Rattle.well_typed_order.specs.Laws.Objects.{object-fine, object_begun}
 use Rattle.well_typed_order.specs.Laws.Scopes.{outside}
 use Rattle.well_typed_order.specs.Laws.StatementRows.{Any}

@@ -40,8 +40,9 @@ use Rattle.block_meaning.specs.ExpressionsInOrder.{Scope}
 use Rattle.block_meaning.specs.Linkage.{parameter_types, structs_of}
 use Rattle.block_meaning.specs.ProgramsInOrder.{FunctionInOrder}
 use Rattle.block_meaning.specs.Running.{Program}
+use Rattle.well_typed_order.specs.Standing.{MeansIn, TextsIn, Silent}
 use Rattle.well_typed_order.specs.Laws.Expressions.{whole-good}
-use Rattle.well_typed_order.specs.Laws.Good.{MeansIn, TextsIn, Silent, none-after}
+use Rattle.well_typed_order.specs.Laws.Good.{none-after}
 use Rattle.well_typed_order.specs.Laws.Growth.{In, Grows}
 use Rattle.well_typed_order.specs.Laws.Initials.{PieceIn}
 use Rattle.well_typed_order.specs.Laws.Judged.{At, MembersComplete, env-like, at-names, length-both}
