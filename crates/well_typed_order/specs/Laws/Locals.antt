@@ -32,7 +32,8 @@ use Rattle.well_typed_order.specs.Standing.{MeansIn, ObjectIn, GoodIf, Good, Sil
 use Rattle.well_typed_order.specs.Laws.Binary.{kept-first, kept-rest}
 use Rattle.well_typed_order.specs.Laws.Expressions.{written-good}
 use Rattle.well_typed_order.specs.Laws.Good.{good-on, good-sure, silent-on, none-is}
-use Rattle.well_typed_order.specs.Laws.Initials.{FitsIn, initialiser-good}
+use Rattle.well_typed_order.specs.Laws.FirstBytes.{FitsIn}
+use Rattle.well_typed_order.specs.Laws.Initials.{initialiser-good}
 use Rattle.well_typed_order.specs.Laws.Parts.{Split, Perhaps, stands-behind, first-adds, second-adds}
 use Rattle.well_typed_order.specs.Laws.Parts.{first-names, second-names, first-kept, second-kept, no-names, names-both}
 use Rattle.well_typed_order.specs.Laws.Scopes.{HeldIn, Bounds, contains-here}

@@ -23,7 +23,7 @@ use Rattle.block_meaning.specs.ExpressionsInOrder.{Scope}
 use Rattle.well_typed_order.specs.Standing.{MeansIn, TextsIn, There}
 use Rattle.well_typed_order.specs.Laws.Binary.{kept-first, kept-rest}
 use Rattle.well_typed_order.specs.Laws.Good.{front, back, texts-front, none-is}
-use Rattle.well_typed_order.specs.Laws.Initials.{FitsIn, PieceIn}
+use Rattle.well_typed_order.specs.Laws.FirstBytes.{FitsIn, PieceIn}
 use Rattle.well_typed_order.specs.Laws.Judged.{At, env-like, at-outcome, at-names, at-good}
 use Rattle.well_typed_order.specs.Laws.Locals.{declared-good, initialised-good, initialised-silent}
 use Rattle.well_typed_order.specs.Laws.Parts.{Perhaps, no-names}

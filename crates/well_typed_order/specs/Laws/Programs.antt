@@ -34,7 +34,7 @@ use Rattle.well_typed_order.specs.Laws.FileTables.{by-names-in, file-lookups}
 use Rattle.well_typed_order.specs.Laws.Files.{file-walked}
 use Rattle.well_typed_order.specs.Laws.Good.{get-front, get-within}
 use Rattle.well_typed_order.specs.Laws.Growth.{In}
-use Rattle.well_typed_order.specs.Laws.Initials.{InitialIn, PieceIn}
+use Rattle.well_typed_order.specs.Laws.FirstBytes.{InitialIn, PieceIn}
 use Rattle.well_typed_order.specs.Laws.Mains.{named-function}
 use Rattle.well_typed_order.specs.Laws.Numbers.{name-eq, in-map, passes-position}
 use Rattle.well_typed_order.specs.Laws.Relinked.{function-moves}

@@ -45,7 +45,7 @@ use Rattle.well_typed_order.specs.Laws.Good.{texts-front}
 use Rattle.well_typed_order.specs.Laws.Growth.{In, in-later, grows-objects}
 use Rattle.well_typed_order.specs.Laws.Growth.{grows-body, grows-parts}
 use Rattle.well_typed_order.specs.Laws.Heads.{HeadFine, head-fine, parameters-in, with_parameters}
-use Rattle.well_typed_order.specs.Laws.Initials.{PieceIn}
+use Rattle.well_typed_order.specs.Laws.FirstBytes.{PieceIn}
 use Rattle.well_typed_order.specs.Laws.Judged.{At, at-outcome, at-texts}
 use Rattle.well_typed_order.specs.Laws.Objects.{object-fine, object_begun}
 use Rattle.well_typed_order.specs.Laws.Scopes.{outside}

@@ -44,7 +44,7 @@ use Rattle.well_typed_order.specs.Standing.{MeansIn, TextsIn, Silent}
 use Rattle.well_typed_order.specs.Laws.Expressions.{whole-good}
 use Rattle.well_typed_order.specs.Laws.Good.{none-after}
 use Rattle.well_typed_order.specs.Laws.Growth.{In, Grows}
-use Rattle.well_typed_order.specs.Laws.Initials.{PieceIn}
+use Rattle.well_typed_order.specs.Laws.FirstBytes.{PieceIn}
 use Rattle.well_typed_order.specs.Laws.Judged.{At, MembersComplete, env-like, at-names, length-both}
 use Rattle.well_typed_order.specs.Laws.Known.{int-plain}
 use Rattle.well_typed_order.specs.Laws.Parts.{no-names, found-names}
