@@ -7,6 +7,7 @@ pub mod Postfix
 pub mod Good
 pub mod Silent
 pub mod Expressions
+pub mod FirstBytes
 pub mod Initials
 pub mod Parts
 pub mod Scopes

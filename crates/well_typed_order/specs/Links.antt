@@ -1,6 +1,6 @@
 -- What the names of several typed files stand for together, as the meaning of a program asks it (ISO C11 5.1.2.2.1, 6.9 paragraph 5): some
 -- file defines `main`, a function, and each name that a function uses where it runs and its file does not define is defined by some file.
-use Rattle.std.specs.Prelude.{◌≡◌, ℕ, List, codes, slice_get, length, Option, Some, None}
+use Rattle.std.specs.Prelude.{◌≡◌, ℕ, List, codes, slice_get, length, Some}
 use Rattle.c_type_base.specs.declared.statement.TStmt.{out-TStmt}
 use Rattle.c_type_base.specs.declared.typed.ExternInfo.{ExternInfo}
 use Rattle.c_type_base.specs.declared.typed.TFunction.{TFunction}

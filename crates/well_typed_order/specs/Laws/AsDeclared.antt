@@ -1,5 +1,5 @@
 -- A program that is made from the declarations of a file alone: in it all names mean what is there, so that all types are known.
-use Rattle.std.proofs.Common.{◌≡◌, refl, sym, ◌∙◌, ap, subst, ℕ, zero, suc, Bool, true, false, ◌&&◌, List, [], ◌∷◌, ◌++◌, map, slice_get}
+use Rattle.std.proofs.Common.{◌≡◌, refl, ◌∙◌, ap, subst, ℕ, zero, suc, Bool, true, false, ◌&&◌, List, [], ◌∷◌, ◌++◌, map, slice_get}
 use Rattle.std.proofs.Common.{length, Option, Some, None}
 use Rattle.std.specs.Prelude.{take, if◌then◌else◌}
 use Rattle.std.specs.List.{position_from}
@@ -24,14 +24,14 @@ use Rattle.c_types.specs.Files.{file_names}
 use Rattle.c_types.specs.Units.{judged}
 use Rattle.block_meaning.specs.ExpressionsInOrder.{IsDefined}
 use Rattle.block_meaning.specs.Linkage as linkage
-use Rattle.block_meaning.specs.Linkage.{Definition, is_object_named, is_function_named, or_definition, object_at, function_at, defined}
+use Rattle.block_meaning.specs.Linkage.{is_object_named, is_function_named, or_definition, object_at, function_at, defined}
 use Rattle.block_meaning.specs.Linkage.{type_of_local}
 use Rattle.block_meaning.specs.Running as running
 use Rattle.well_typed_order.specs.Bodied.{Bodied}
 use Rattle.well_typed_order.specs.Laws.Files.{file-walked}
 use Rattle.well_typed_order.specs.Laws.Good.{get-front}
 use Rattle.well_typed_order.specs.Laws.Growth.{In}
-use Rattle.well_typed_order.specs.Laws.Lookups.{Lookups, ExternAs}
+use Rattle.well_typed_order.specs.Laws.Lookups.{Lookups}
 use Rattle.well_typed_order.specs.Laws.Mentions.{OneKind}
 use Rattle.well_typed_order.specs.Laws.Names.{one-name}
 use Rattle.well_typed_order.specs.Laws.Numbers.{eq-name, name-eq, map-get, in-map, passes-position}
@@ -199,16 +199,19 @@ module _ (p : Program) (kept : (judged p).faults ≡ []) (bodied : Bodied p) whe
 
   lookups_for : Lookups (outside program_for 0) names ds
   lookups_for = record {
-    object = λ k d t is has kind.
-        (object_for ds d.name,
-        get-front (map (object_for ds) names.globals) (map (object_for ds) names.externs) k (object_for ds d.name)
-        (map-get (object_for ds) names.globals k d.name is),
-        ap or_void (object-type ds d.name t (of_name d (AnObject (Some t)) has kind) d has refl kind));
+    object = λ k d t is has kind. (
+      object_for ds d.name,
+      get-front (map (object_for ds) names.globals) (map (object_for ds) names.externs) k (object_for ds d.name)
+          (map-get (object_for ds) names.globals k d.name is),
+      ap or_void (object-type ds d.name t (of_name d (AnObject (Some t)) has kind) d has refl kind),
+    );
     function = λ k d sig is has kind.
-        let same = ap or_nothing (function-type ds d.name sig (of_name d (AFunction (Some sig)) has kind) d has refl kind) in
-        (function_for ds d.name, map-get (function_for ds) names.functions k d.name is,
-        types_for (or_nothing (function_type ds d.name)).params ∙ ap (λ (g : Signature). g.params) same,
-        ap (λ (g : Signature). g.result) same);
+        let same = ap or_nothing (function-type ds d.name sig (of_name d (AFunction (Some sig)) has kind) d has refl kind) in (
+          function_for ds d.name,
+          map-get (function_for ds) names.functions k d.name is,
+          types_for (or_nothing (function_type ds d.name)).params ∙ ap (λ (g : Signature). g.params) same,
+          ap (λ (g : Signature). g.result) same,
+        );
     extern_object = λ k d t is has kind. record {
       info = extern_for ds d.name;
       is = map-get (extern_for ds) names.externs k d.name is;
@@ -217,13 +220,16 @@ module _ (p : Program) (kept : (judged p).faults ≡ []) (bodied : Bodied p) whe
     };
     extern_function = λ k d sig is has kind.
         let all = of_name d (AFunction (Some sig)) has kind in
-        let same = ap or_nothing (function-type ds d.name sig all d has refl kind) in
-        (record {
-          info = extern_for ds d.name;
-          is = map-get (extern_for ds) names.externs k d.name is;
-          object_is = no-object-type ds d.name sig all;
-          defined = defined_there k d.name is;
-        }, ap (λ (g : Signature). g.params) same, ap (λ (g : Signature). g.result) same);
+        let same = ap or_nothing (function-type ds d.name sig all d has refl kind) in (
+          record {
+            info = extern_for ds d.name;
+            is = map-get (extern_for ds) names.externs k d.name is;
+            object_is = no-object-type ds d.name sig all;
+            defined = defined_there k d.name is;
+          },
+          ap (λ (g : Signature). g.params) same,
+          ap (λ (g : Signature). g.result) same,
+        );
   }
 
   -- in it the file is in order

@@ -32,7 +32,8 @@ use Rattle.c_type_expr.specs.Outcomes.{Outcome}
 use Rattle.block_meaning.specs.ExpressionsInOrder as order
 use Rattle.block_meaning.specs.ExpressionsInOrder.{Scope, HasValue, BinaryTypes, Arithmetic, Shift, Comparison, Logical, group_of}
 use Rattle.block_meaning.specs.ExpressionsInOrder.{int_type}
-use Rattle.well_typed_order.specs.Laws.Known.{There, KnownIn, ValueIn, known_by, valued, FixedIn, int-plain, pointer-plain, converted-in}
+use Rattle.well_typed_order.specs.Standing.{There, KnownIn, ValueIn, FixedIn}
+use Rattle.well_typed_order.specs.Laws.Known.{known_by, valued, int-plain, pointer-plain, converted-in}
 use Rattle.c_type_base.specs.Laws.SameLaws.{one-type}
 
 -- a construct without faults is known, and in order

@@ -1,37 +1,32 @@
 -- Functions that keep all rules are in order.
-use Rattle.std.proofs.Common.{◌≡◌, refl, sym, ◌∙◌, ap, subst, ℕ, zero, suc, ◌+◌, ◌<◌, ◌≤◌, arith, Bool, true, false, ◌||◌, List, [], ◌∷◌}
-use Rattle.std.proofs.Common.{◌++◌, length, map, slice_get, Option, Some, None}
+use Rattle.std.proofs.Common.{◌≡◌, refl, sym, ◌∙◌, ap, subst, ℕ, zero, suc, ◌+◌, ◌<◌, arith, true, ◌||◌, List, [], ◌∷◌}
+use Rattle.std.proofs.Common.{◌++◌, length, slice_get, Option, Some, None}
 use Rattle.std.specs.Prelude.{take}
-use Rattle.std.specs.List.{Contains}
 use Rattle.c_ast.specs.declared.program.Function.{Function}
-use Rattle.c_ast.specs.declared.statement.Item.{Item}
-use Rattle.c_ast.specs.declared.statement.Stmt.{Stmt}
-use Rattle.c_ast.specs.declared.statement.Stmt.TheVariants as stmt
 use Rattle.c_type_base.specs.Types.{is_void, is_scalar}
 use Rattle.c_type_base.specs.declared.ty.Ty.{Ty}
 use Rattle.c_type_base.specs.declared.statement.TStmt.{TStmt}
 use Rattle.c_type_base.specs.declared.typed.LocalInfo.{LocalInfo}
 use Rattle.c_type_base.specs.declared.typed.TFunction.{TFunction}
 use Rattle.c_type_expr.specs.declared.scopes.Binding.{Binding}
-use Rattle.c_type_expr.specs.Environment.{Env, opened, with_innermost}
+use Rattle.c_type_expr.specs.Environment.{Env, opened}
 use Rattle.c_type_expr.specs.Outcomes.{Outcome, Judged, behind}
-use Rattle.c_type_stmt.specs.Statements.{statement}
 use Rattle.c_types.specs.Files.{is_static}
-use Rattle.c_types.specs.Units.{Judgement, with_outcome, with_function}
+use Rattle.c_types.specs.Units.{Judgement}
 use Rattle.block_meaning.specs.ExpressionsInOrder.{Scope}
 use Rattle.block_meaning.specs.ProgramsInOrder.{numbered, body_scope, FunctionInOrder}
 use Rattle.block_meaning.specs.Running.{Program}
 use Rattle.block_meaning.specs.StatementsInOrder.{Items}
-use Rattle.well_typed_order.specs.Laws.Good.{MeansIn, TextsIn, EnvIn, get-front, get-back, back, none-is, some-is}
-use Rattle.well_typed_order.specs.Laws.Judged.{At, env-like, at-outcome, at-texts}
-use Rattle.well_typed_order.specs.Laws.Known.{There}
+use Rattle.well_typed_order.specs.Standing.{MeansIn, TextsIn, EnvIn, There, Names, Stands, LocalsIn}
+use Rattle.well_typed_order.specs.Laws.Good.{get-front, get-back, some-is}
+use Rattle.well_typed_order.specs.Laws.Judged.{At, env-like}
 use Rattle.well_typed_order.specs.Laws.Parameters.{Below, ParametersFine}
-use Rattle.well_typed_order.specs.Laws.Parts.{Names, Stands, Adds, LocalsIn, env-named, any-names, no-scope}
+use Rattle.well_typed_order.specs.Laws.Parts.{env-named, any-names, no-scope}
 use Rattle.well_typed_order.specs.Laws.Declared.{names-more}
-use Rattle.well_typed_order.specs.Laws.Scopes.{outside, no_function, wide, env-inside, env-opened, numbered-all, contains-front}
+use Rattle.well_typed_order.specs.Laws.Scopes.{outside, no_function, env-inside, env-opened, numbered-all, contains-front}
 use Rattle.well_typed_order.specs.Laws.Scopes.{contains-back}
 use Rattle.well_typed_order.specs.Laws.StatementRows.{Any}
-use Rattle.well_typed_order.specs.Laws.Statements.{opens_level, opens, BlockIn, BodyFine, body-fine}
+use Rattle.well_typed_order.specs.Laws.Statements.{opens_level, opens, BlockIn, BodyFine}
 
 -- where a body stands
 abbrev pub env_of_body : Judgement → Outcome (List Ty) → Option Ty → Env
@@ -63,7 +58,8 @@ ParametersIn program unit f params = (g : TFunction) (ks : List ℕ) →
     ParametersFine (record { program = program; unit = unit; function = g; locals = ks }) f.params params
 
 module _ (program : Program) (unit : ℕ) (j : Judgement) (f : Function) (params : Outcome (List Ty)) (r : Ty)
-    (at : At (outside program unit) j) (parameters : ParametersIn program unit f params) (count : length params.locals ≡ length f.params) where
+    (at : At (outside program unit) j) (parameters : ParametersIn program unit f params) (count : length params.locals ≡ length
+    f.params) where
   abbrev here : TFunction → List ℕ → Scope
   here g ks = record { program = program; unit = unit; function = g; locals = ks }
 

@@ -1,9 +1,8 @@
 -- Which locals a part of a function declares, by the numbers in its typed tree.
-use Rattle.std.proofs.Common.{◌≡◌, refl, sym, ap, subst, ℕ, List, [], ◌∷◌, ◌++◌, map, Option, Some, None}
+use Rattle.std.proofs.Common.{◌≡◌, refl, sym, subst, ℕ, List, [], ◌∷◌, ◌++◌, map, Option, Some, None}
 use Rattle.std.specs.List.{Contains}
 use Rattle.std.proofs.lemmas.Option.{same_Some}
 use Rattle.c_ast.specs.declared.declaration.Decl.{Decl}
-use Rattle.c_type_base.specs.declared.statement.TDecl.{TDecl}
 use Rattle.c_type_expr.specs.declared.scopes.Binding.{Binding}
 use Rattle.c_type_expr.specs.declared.scopes.Meaning.{Meaning}
 use Rattle.c_type_expr.specs.declared.scopes.Meaning.TheVariants as means
@@ -13,9 +12,9 @@ use Rattle.c_type_expr.specs.Outcomes.{Judged, behind, sure, pair, both, listed,
 use Rattle.c_type_stmt.specs.Declarations.{local}
 use Rattle.block_meaning.specs.ExpressionsInOrder.{Scope}
 use Rattle.block_meaning.specs.Statements.{local_of}
-use Rattle.well_typed_order.specs.Laws.Good.{Silent}
+use Rattle.well_typed_order.specs.Standing.{Silent, Names}
 use Rattle.well_typed_order.specs.Laws.Locals.{local-named}
-use Rattle.well_typed_order.specs.Laws.Parts.{Names, no-names, names-both}
+use Rattle.well_typed_order.specs.Laws.Parts.{no-names, names-both}
 use Rattle.well_typed_order.specs.Laws.Scopes.{HeldIn, contains-front, contains-back}
 
 -- the names that it adds are those of locals with these numbers, where it is known

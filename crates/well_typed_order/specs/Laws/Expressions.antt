@@ -40,17 +40,22 @@ use Rattle.c_type_expr.specs.Expressions.{unary_row, cast_row, assign_row, step_
 use Rattle.c_type_expr.specs.Expressions.{index_of, arrow_of, node_step, expr_step, expression, written}
 use Rattle.c_type_expr.specs.Operators.{sort_of, binary_judged, cond_judged}
 use Rattle.c_type_expr.specs.Outcomes.{Judged, sure, both, each, on}
-use Rattle.c_type_expr.specs.Postfix.{member_row, call_row, call_known, all_values, not_called_row, not_called, function_in, call_by, meaning_by}
+use Rattle.c_type_expr.specs.Postfix.{member_row, call_row, call_known, all_values, not_called_row, not_called, function_in, call_by}
+use Rattle.c_type_expr.specs.Postfix.{meaning_by}
 use Rattle.c_type_expr.specs.Postfix.{argument}
 use Rattle.c_type_expr.specs.Said.{Said, NodeSaid, type_step, judged_length, length_known, pointer_to, array_of, whole}
-use Rattle.c_type_expr.specs.Said.{constant_known, fixed_at, is_length, length_in, tag_of, object_known, eof_value, meaning_of, name_row, variable, text_known, text}
+use Rattle.c_type_expr.specs.Said.{constant_known, fixed_at, is_length, length_in, tag_of, object_known, eof_value, meaning_of, name_row}
+use Rattle.c_type_expr.specs.Said.{variable, text_known, text}
 use Rattle.block_meaning.specs.ExpressionsInOrder as order
-use Rattle.block_meaning.specs.ExpressionsInOrder.{Scope, HasValue, Designates, file_of}
+use Rattle.block_meaning.specs.ExpressionsInOrder.{Scope, file_of}
 use Rattle.block_meaning.specs.Locals.{text_of}
+use Rattle.well_typed_order.specs.Standing.{Inside, NoMore, MeansIn, EnvIn, TextsIn, Silent, Good, There, TargetIn, AddressIn, FixedIn}
+use Rattle.well_typed_order.specs.Standing.{KnownIn, ValueIn}
 use Rattle.well_typed_order.specs.Laws.Binary.{Keeps, never-kept, binary-in, int-integer}
-use Rattle.well_typed_order.specs.Laws.Good.{Inside, NoMore, MeansIn, EnvIn, TextsIn, Silent, Good, silent-on, good-on, silent-both, good-both, good-sure}
+use Rattle.well_typed_order.specs.Laws.Good.{silent-on, good-on, good-both}
+use Rattle.well_typed_order.specs.Laws.Good.{good-sure}
 use Rattle.well_typed_order.specs.Laws.Good.{get-within, good-none, good-more, good-either, good-never}
-use Rattle.well_typed_order.specs.Laws.Known.{There, TargetIn, AddressIn, FixedIn, KnownIn, ValueIn, known_by, int-plain, value-in}
+use Rattle.well_typed_order.specs.Laws.Known.{known_by, int-plain, value-in}
 use Rattle.well_typed_order.specs.Laws.Postfix.{index-in, member-in, arrow-in, call-in}
 use Rattle.well_typed_order.specs.Laws.Silent.{binary-silent, unary-silent, assign-silent, step-silent, cond-silent, index-silent}
 use Rattle.well_typed_order.specs.Laws.Silent.{member-silent}
@@ -110,8 +115,11 @@ module _ (s : Scope) where
 
   length_good : (e : Said) → SaidGood e → Good s (λ (n : ℕ). Unit {0}) (judged_length e)
   length_good e good = good-either e.judged _ (length_known e.span) good (λ env. refl) (λ k env. refl)
-      (λ k known. record { silent = λ env. refl; holds = λ env inside kept texts. if-kept (λ (n : ℕ). Unit {0}) e.span
-      (rule 12 (is_length (int_of k.tree.ty) k.constant) ∷ []) (length_in k.constant) kept tt })
+      (λ k known. record {
+        silent = λ env. refl;
+        holds = λ env inside kept texts. if-kept (λ (n : ℕ). Unit {0}) e.span
+            (rule 12 (is_length (int_of k.tree.ty) k.constant) ∷ []) (length_in k.constant) kept tt;
+      })
 
   array_good : (t : TypeSaid) (e : Said) → TypeGood t → SaidGood e → TypeGood (type_step (CType-F.Array t (Some e)))
   array_good t e good length span = good-on (both (judged_length e) (t span)) _

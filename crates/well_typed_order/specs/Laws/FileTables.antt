@@ -1,12 +1,11 @@
 -- The tables of a well-typed file have at each number what the name of that number is declared as.
-use Rattle.std.proofs.Common.{◌⊎◌, inl, inr, ◌≡◌, refl, sym, ◌∙◌, ap, subst, ℕ, zero, suc, Bool, true, false, ◌||◌, List, [], ◌∷◌, ◌++◌, map, slice_get}
+use Rattle.std.proofs.Common.{◌⊎◌, inl, inr, ◌≡◌, refl, ◌∙◌, ap, subst, ℕ, zero, suc, true, false, List, [], ◌∷◌, ◌++◌, slice_get}
 use Rattle.std.proofs.Common.{Option, Some, None}
-use Rattle.std.specs.Prelude.{flat_map, if◌then◌else◌}
+use Rattle.std.specs.Prelude.{flat_map}
 use Rattle.std.specs.List.{find}
 use Rattle.std.specs.Str.{bytes_eq}
 use Rattle.std.proofs.lemmas.Option.{same_Some}
 use Rattle.c_ast.specs.declared.program.Program.{Program}
-use Rattle.c_type_base.specs.Types.{is_void, is_scalar}
 use Rattle.c_type_base.specs.declared.ty.Ty.{Ty}
 use Rattle.c_type_base.specs.declared.ty.Ty.TheVariants as ty
 use Rattle.c_type_base.specs.declared.typed.ExternInfo.{ExternInfo}
@@ -19,20 +18,20 @@ use Rattle.c_types.specs.declared.redeclared.Declared.{Declared}
 use Rattle.c_types.specs.declared.redeclared.Kind.{Kind}
 use Rattle.c_types.specs.declared.redeclared.Kind.TheVariants.{AnObject, AFunction}
 use Rattle.c_types.specs.Files.{file_names}
-use Rattle.c_types.specs.Ordered.{option_list, by_names, globals_by, functions_by, extern_of, externs_by}
+use Rattle.c_types.specs.Ordered.{option_list, by_names, extern_of, externs_by}
 use Rattle.c_types.specs.Units.{Judgement, judged, typed_by}
-use Rattle.block_meaning.specs.ExpressionsInOrder.{Scope, IsDefined, global_of}
-use Rattle.block_meaning.specs.Linkage.{function_of, function_in, extern_in, parameter_types}
+use Rattle.block_meaning.specs.ExpressionsInOrder.{IsDefined, global_of}
+use Rattle.block_meaning.specs.Linkage.{function_in, extern_in, parameter_types}
 use Rattle.block_meaning.specs.Running as running
 use Rattle.well_typed_order.specs.Bodied.{Bodied}
 use Rattle.well_typed_order.specs.Laws.AsDeclared.{program_for, walked-for}
 use Rattle.well_typed_order.specs.Laws.Growth.{In}
-use Rattle.well_typed_order.specs.Laws.Lookups.{Lookups, ExternAs}
+use Rattle.well_typed_order.specs.Laws.Lookups.{Lookups}
 use Rattle.well_typed_order.specs.Laws.Mentions.{is_function, OneKind}
-use Rattle.well_typed_order.specs.Laws.Names.{one-name, DefinedAs, global-defined, function-defined, extern-declared}
-use Rattle.well_typed_order.specs.Laws.Numbers.{eq-name, name-eq, Passes, find-passes, passes-find, Found, by-names-at}
+use Rattle.well_typed_order.specs.Laws.Names.{one-name, global-defined, function-defined, extern-declared}
+use Rattle.well_typed_order.specs.Laws.Numbers.{eq-name, name-eq, find-passes, passes-find, Found, by-names-at}
 use Rattle.well_typed_order.specs.Laws.Scopes.{outside}
-use Rattle.well_typed_order.specs.Laws.Walk.{in-front, in-back, in-split}
+use Rattle.well_typed_order.specs.Laws.Walk.{in-split}
 use Rattle.well_typed_order.specs.Laws.Walked.{KindFine, Left, Walked}
 
 -- ---- externs
@@ -71,9 +70,13 @@ function_extern : (name : List ℕ) (k : Kind) (sig : Signature) → KindFine k 
 function_extern name (AnObject None) sig fine one = absurd fine
 function_extern name (AnObject (Some u)) sig fine one = absurd one
 function_extern name (AFunction None) sig fine one = absurd fine
-function_extern name (AFunction (Some s)) sig fine one =
-    (record { name = name; object = None; result = s.result; params = s.params }, refl, refl, ap (λ (s : Signature). s.params) one,
-    ap (λ (s : Signature). s.result) one)
+function_extern name (AFunction (Some s)) sig fine one = (
+  record { name = name; object = None; result = s.result; params = s.params },
+  refl,
+  refl,
+  ap (λ (s : Signature). s.params) one,
+  ap (λ (s : Signature). s.result) one,
+)
 
 -- each name has one extern
 record ExternFound (ds : List Declared) (n : List ℕ) : Type 0 where
@@ -173,10 +176,12 @@ module _ (p : Program) (kept : (judged p).faults ≡ []) (bodied : Bodied p) whe
         let g = found.0 in
         let first = find-passes (λ (g : GlobalInfo). bytes_eq g.name d.name) j.globals g found.1 in
         let fine = walked.globals g first.there in
-        let same = fine.name_is ∙ eq-name g.name d.name first.passes in
-        (g, ap (λ o. global_of o k) unit_is ∙ ap (λ (u : Typed). slice_get u.globals k) typed_is
-        ∙ by-names-at (λ (g : GlobalInfo). g.name) names.globals j.globals globals_found k d.name g is found.1,
-        one_kind fine.by d (AnObject (Some g.ty)) (AnObject (Some t)) fine.declared has same fine.kind_is kind)
+        let same = fine.name_is ∙ eq-name g.name d.name first.passes in (
+          g,
+          ap (λ o. global_of o k) unit_is ∙ ap (λ (u : Typed). slice_get u.globals k) typed_is
+              ∙ by-names-at (λ (g : GlobalInfo). g.name) names.globals j.globals globals_found k d.name g is found.1,
+          one_kind fine.by d (AnObject (Some g.ty)) (AnObject (Some t)) fine.declared has same fine.kind_is kind,
+        )
 
     function_there : (k : ℕ) (d : Declared) (sig : Signature) → slice_get names.functions k ≡ Some d.name → In j.declared d →
         d.kind ≡ AFunction (Some sig) → (f : TFunction) × (function_in (slice_get program.units unit) k ≡ Some f) ×
@@ -188,10 +193,14 @@ module _ (p : Program) (kept : (judged p).faults ≡ []) (bodied : Bodied p) whe
         let fine = walked.functions f first.there in
         let same = fine.name_is ∙ eq-name f.name d.name first.passes in
         let made : Signature = record { result = f.result; params = parameter_types f } in
-        let one : made ≡ sig = one_kind fine.by d (AFunction (Some made)) (AFunction (Some sig)) fine.declared has same fine.kind_is kind in
-        (f, ap (λ o. function_in o k) unit_is ∙ ap (λ (u : Typed). slice_get u.functions k) typed_is
-        ∙ by-names-at (λ (f : TFunction). f.name) names.functions j.functions functions_found k d.name f is found.1,
-        ap (λ (s : Signature). s.params) one, ap (λ (s : Signature). s.result) one)
+        let one : made ≡ sig = one_kind fine.by d (AFunction (Some made)) (AFunction (Some sig)) fine.declared has same fine.kind_is
+        kind in (
+          f,
+          ap (λ o. function_in o k) unit_is ∙ ap (λ (u : Typed). slice_get u.functions k) typed_is
+              ∙ by-names-at (λ (f : TFunction). f.name) names.functions j.functions functions_found k d.name f is found.1,
+          ap (λ (s : Signature). s.params) one,
+          ap (λ (s : Signature). s.result) one,
+        )
 
     extern_there : (k : ℕ) (n : List ℕ) (d : Declared) (e : ExternInfo) → slice_get names.externs k ≡ Some n →
         find (λ (d : Declared). bytes_eq d.name n) j.declared ≡ Some d → extern_of d ≡ e ∷ [] →
@@ -235,11 +244,14 @@ module _ (p : Program) (kept : (judged p).faults ≡ []) (bodied : Bodied p) whe
       extern_function = λ k d sig is has kind.
           let first = first_of d has in
           let e = function_extern first.by.name first.by.kind sig first.fine (subst (λ k. OneKind first.by.kind k) kind first.one) in
-          let there = extern_there k d.name first.by e.0 is first.found (extern_is first.by ∙ e.1) in
-          (record {
-            info = e.0;
-            is = ap (λ o. extern_in o k) unit_is ∙ there;
-            object_is = e.2;
-            defined = linked e.0 (k, there);
-          }, e.3, e.4);
+          let there = extern_there k d.name first.by e.0 is first.found (extern_is first.by ∙ e.1) in (
+            record {
+              info = e.0;
+              is = ap (λ o. extern_in o k) unit_is ∙ there;
+              object_is = e.2;
+              defined = linked e.0 (k, there);
+            },
+            e.3,
+            e.4,
+          );
     }

@@ -1,9 +1,7 @@
 -- A file that breaks no rule, where its tables have what its names are declared as.
-use Rattle.std.proofs.Common.{◌≡◌, refl, sym, ◌∙◌, ap, subst, ℕ, ◌+◌, arith, Bool, true, false, List, [], ◌∷◌, slice_get, Option, Some, None}
+use Rattle.std.proofs.Common.{◌≡◌, refl, ◌∙◌, ap, subst, ℕ, ◌+◌, arith, List, [], ◌∷◌, slice_get, Option, Some, None}
 use Rattle.c_ast.specs.declared.program.Program.{Program}
 use Rattle.c_type_base.specs.Layout.{members_of}
-use Rattle.c_type_base.specs.Types.{is_void}
-use Rattle.c_type_base.specs.declared.typed.MemberInfo.{MemberInfo}
 use Rattle.c_type_base.specs.declared.typed.StructInfo.{StructInfo}
 use Rattle.c_type_base.specs.declared.typed.Typed.{Typed}
 use Rattle.c_ast.specs.declared.program.External.{External}
@@ -12,18 +10,17 @@ use Rattle.c_types.specs.Files.{file_names}
 use Rattle.c_types.specs.Laws.PromiseLaws.{Good, part-good}
 use Rattle.c_types.specs.Laws.TableLaws.{AllReady, none_ready}
 use Rattle.c_types.specs.Units.{Judgement, start, part_judged, parts_judged, judged}
-use Rattle.block_meaning.specs.ExpressionsInOrder.{Scope, file_of}
+use Rattle.block_meaning.specs.ExpressionsInOrder.{Scope}
 use Rattle.block_meaning.specs.Linkage.{structs_of, structs_in}
 use Rattle.block_meaning.specs.Locals.{text_of}
 use Rattle.block_meaning.specs.Running as running
 use Rattle.well_typed_order.specs.Bodied.{Bodied}
-use Rattle.well_typed_order.specs.Laws.Good.{TextsIn}
-use Rattle.well_typed_order.specs.Laws.Growth.{In}
+use Rattle.well_typed_order.specs.Standing.{TextsIn}
 use Rattle.well_typed_order.specs.Laws.Lookups.{Lookups, lookups-tables}
 use Rattle.well_typed_order.specs.Laws.Scopes.{outside}
 use Rattle.well_typed_order.specs.Laws.Unary.{complete-object}
 use Rattle.well_typed_order.specs.Laws.Walk.{parts-walked}
-use Rattle.well_typed_order.specs.Laws.Walked.{Sound, Walked, FinalObjects, ready-complete}
+use Rattle.well_typed_order.specs.Laws.Walked.{Walked, FinalObjects, ready-complete}
 
 parts_good : (names : FileNames) (j : Judgement) (es : List External) → Good j → Good (parts_judged names j es)
 parts_good names j [] good = good

@@ -1,72 +1,14 @@
 -- Judgements in order: what is known without a fault has a property, where the names in scope mean what is there.
-use Rattle.std.proofs.Common.{sym, ◌≡◌, refl, ◌∙◌, ap, subst, ℕ, zero, suc, ◌+◌, arith, false, ◌||◌, List, [], ◌∷◌, ◌++◌, length, ◌<◌}
+use Rattle.std.proofs.Common.{◌≡◌, refl, ◌∙◌, ap, subst, ℕ, zero, suc, ◌+◌, arith, List, [], ◌∷◌, ◌++◌, length, ◌<◌}
 use Rattle.std.proofs.Common.{slice_get, Option, Some, None}
 use Rattle.std.specs.List.{AllByRecursion}
-use Rattle.c_type_base.specs.declared.expr.Callee.{Callee}
-use Rattle.c_type_base.specs.declared.expr.TNode.{out-TNode}
-use Rattle.c_type_base.specs.declared.ty.Ty.{Ty}
 use Rattle.c_type_base.specs.declared.typed.StructInfo.{StructInfo}
-use Rattle.c_type_base.specs.Types.{is_void, is_array, is_struct}
 use Rattle.c_type_expr.specs.declared.scopes.Binding.{Binding}
-use Rattle.c_type_expr.specs.declared.scopes.Place.{Place}
-use Rattle.c_type_expr.specs.declared.scopes.Signature.{Signature}
-use Rattle.c_type_expr.specs.declared.scopes.Meaning.{Meaning}
-use Rattle.c_type_expr.specs.declared.scopes.Meaning.TheVariants as means
-use Rattle.c_type_expr.specs.Environment.{Env, node_at, target_at, in_scopes, with_innermost}
+use Rattle.c_type_expr.specs.Environment.{Env, in_scopes, with_innermost}
 use Rattle.c_type_expr.specs.Outcomes.{Outcome, Judged, behind, sure, pair, both, listed, each, continued, on, met, either}
-use Rattle.block_meaning.specs.ExpressionsInOrder.{Scope, Designates, Callable, file_of}
+use Rattle.block_meaning.specs.ExpressionsInOrder.{Scope, file_of}
 use Rattle.block_meaning.specs.Locals.{text_of}
-use Rattle.well_typed_order.specs.Laws.Known.{There, AddressIn}
-use Rattle.well_typed_order.specs.Laws.Postfix.{TableIn}
-
--- ---- where a construct stands
-
--- an object of a type is there
-pub record ObjectIn (s : Scope) (place : Place) (t : Ty) : Type 0 where
-  pub designates : Designates s t (out-TNode (node_at place))
-  pub object : is_void t ≡ false
-  pub address : AddressIn s (target_at place)
-
--- and a function, which gives a scalar or nothing
-pub record FunctionIn (s : Scope) (f : Callee) (sig : Signature) : Type 0 where
-  pub callable : Callable s f sig.params sig.result
-  pub plain : (is_array sig.result || is_struct sig.result) ≡ false
-
--- what a name means is there, and has a type
-abbrev pub MeansIn : Scope → Meaning → Type 0
-MeansIn s (means.Object place None) = ⊥
-MeansIn s (means.Object place (Some t)) = ObjectIn s place t
-MeansIn s (means.Function f None) = ⊥
-MeansIn s (means.Function f (Some sig)) = FunctionIn s f sig
-MeansIn s means.Eof = Unit {0}
-
-pub record EnvIn (env : Env) (s : Scope) : Type 0 where
-  pub table : TableIn env s
-  pub names : (name : List ℕ) (b : Binding) → in_scopes name env.scopes ≡ Some b → MeansIn s b.means
-
--- these texts are those of the file from a number on
-abbrev pub TextsIn : Scope → ℕ → List (List ℕ) → Type 0
-TextsIn s from texts = (k : ℕ) (bytes : List ℕ) → slice_get texts k ≡ Some bytes → text_of (file_of s) (from + k) ≡ Some bytes
-
--- it adds no name
-abbrev pub Silent : {A : Type 0} → Judged A → Type 0
-Silent p = (env : Env) → (p env).names ≡ []
-
--- a construct stands there, and more holds of the structs that are declared so far
-pub record Inside (More : List StructInfo → Type 0) (env : Env) (s : Scope) : Type 0 where
-  pub here : EnvIn env s
-  pub more : More env.structs
-
-abbrev pub NoMore : List StructInfo → Type 0
-NoMore structs = Unit {0}
-
--- where it breaks no rule, it is known, and has a property
-pub record GoodIf {A : Type 0} (More : List StructInfo → Type 0) (s : Scope) (P : A → Type 0) (p : Judged A) : Type 0 where
-  pub silent : Silent p
-  pub holds : (env : Env) → Inside More env s → (p env).faults ≡ [] → TextsIn s env.texts (p env).texts → There (p env).known P
-
-abbrev pub Good : {A : Type 0} → Scope → (A → Type 0) → Judged A → Type 0
-Good = GoodIf NoMore
+use Rattle.well_typed_order.specs.Standing.{There, EnvIn, TextsIn, Silent, Inside, GoodIf, Good}
 
 pub good-if : {A : Type 0} {M : List StructInfo → Type 0} {s : Scope} {P : A → Type 0} (p : Judged A) → Good s P p → GoodIf M s P p
 good-if p good = record {
@@ -155,7 +97,8 @@ on_silent a f env silent each (Some v) = none-after (f v (behind a env)).names a
 pub silent-on : {A B : Type 0} (p : Judged A) (f : A → Judged B) → Silent p → ((v : A) → Silent (f v)) → Silent (on p f)
 silent-on p f first each env = on_silent (p env) f env (first env) each (p env).known
 
-on_holds : {A B : Type 0} {M : List StructInfo → Type 0} (s : Scope) (P : A → Type 0) (Q : B → Type 0) (a : Outcome A) (f : A → Judged B) (env : Env) → Inside M env s →
+on_holds : {A B : Type 0} {M : List StructInfo → Type 0} (s : Scope) (P : A → Type 0) (Q : B → Type 0) (a : Outcome A) (f : A →
+    Judged B) (env : Env) → Inside M env s →
     a.names ≡ [] → (a.faults ≡ [] → TextsIn s env.texts a.texts → There a.known P) → ((v : A) → P v → GoodIf M s Q (f v)) → (o : Option A) →
     a.known ≡ o → (continued a o f env).faults ≡ [] → TextsIn s env.texts (continued a o f env).texts → There (continued a o f env).known Q
 on_holds s P Q a f env inside silent first each None is kept texts = absurd (none-is P a.known is (first kept texts))
@@ -165,7 +108,8 @@ on_holds s P Q a f env inside silent first each (Some v) is kept texts =
     (each v holds).holds (behind a env) (env-behind s env a silent inside) (back a.faults b.faults kept)
     (texts-back s env.texts a.texts b.texts texts)
 
-pub good-on : {A B : Type 0} {M : List StructInfo → Type 0} {s : Scope} {P : A → Type 0} {Q : B → Type 0} (p : Judged A) (f : A → Judged B) → GoodIf M s P p →
+pub good-on : {A B : Type 0} {M : List StructInfo → Type 0} {s : Scope} {P : A → Type 0} {Q : B → Type 0} (p : Judged A) (f : A →
+    Judged B) → GoodIf M s P p →
     ((v : A) → Silent (f v)) → ((v : A) → P v → GoodIf M s Q (f v)) → GoodIf M s Q (on p f)
 good-on {s = s} {P = P} {Q = Q} p f first silent each = record {
   silent = silent-on p f first.silent silent;
@@ -185,7 +129,8 @@ pair-holds P Q (Some a) (Some b) first second = (first, second)
 abbrev pub Pair : {A B : Type 0} → (A → Type 0) → (B → Type 0) → A × B → Type 0
 Pair P Q x = P x.0 × Q x.1
 
-pub good-both : {A B : Type 0} {M : List StructInfo → Type 0} {s : Scope} {P : A → Type 0} {Q : B → Type 0} (p : Judged A) (q : Judged B) → GoodIf M s P p → GoodIf M s Q q →
+pub good-both : {A B : Type 0} {M : List StructInfo → Type 0} {s : Scope} {P : A → Type 0} {Q : B →
+    Type 0} (p : Judged A) (q : Judged B) → GoodIf M s P p → GoodIf M s Q q →
     GoodIf M s (Pair P Q) (both p q)
 good-both {s = s} {P = P} {Q = Q} p q first second = record {
   silent = silent-both p q first.silent second.silent;
@@ -209,7 +154,8 @@ good-sure a holds = record { silent = λ env. refl; holds = λ env inside kept t
 pub good-none : {A : Type 0} {M : List StructInfo → Type 0} {s : Scope} {P : A → Type 0} → GoodIf M s (AllByRecursion P) (each [])
 good-none = record { silent = λ env. refl; holds = λ env inside kept texts. tt }
 
-pub good-more : {A : Type 0} {M : List StructInfo → Type 0} {s : Scope} {P : A → Type 0} (p : Judged A) (ps : List (Judged A)) → GoodIf M s P p →
+pub good-more : {A : Type 0} {M : List StructInfo → Type 0} {s : Scope} {P : A → Type 0} (p : Judged A) (ps : List (Judged A)) →
+    GoodIf M s P p →
     GoodIf M s (AllByRecursion P) (each ps) → GoodIf M s (AllByRecursion P) (each (p ∷ ps))
 good-more {s = s} {P = P} p ps first rest = record {
   silent = λ env. none-after (each ps (behind (p env) env)).names (p env).names (rest.silent (behind (p env) env)) (first.silent env);
@@ -235,13 +181,15 @@ there_any P None holds = holds
 there_any P (Some a) holds = tt
 
 -- where nothing is asked of what is known
-pub good-any : {A : Type 0} {M : List StructInfo → Type 0} {s : Scope} {P : A → Type 0} (p : Judged A) → GoodIf M s P p → GoodIf M s (λ (a : A). Unit {0}) p
+pub good-any : {A : Type 0} {M : List StructInfo → Type 0} {s : Scope} {P : A → Type 0} (p : Judged A) → GoodIf M s P p →
+    GoodIf M s (λ (a : A). Unit {0}) p
 good-any {P = P} p good = record {
   silent = good.silent;
   holds = λ env inside kept texts. there_any P (p env).known (good.holds env inside kept texts);
 }
 
-either_holds : {A B : Type 0} {M : List StructInfo → Type 0} (s : Scope) (P : A → Type 0) (Q : B → Type 0) (a : Outcome A) (q : Judged B) (f : A → Judged B) (env : Env) →
+either_holds : {A B : Type 0} {M : List StructInfo → Type 0} (s : Scope) (P : A → Type 0) (Q : B →
+    Type 0) (a : Outcome A) (q : Judged B) (f : A → Judged B) (env : Env) →
     Inside M env s → a.names ≡ [] → (a.faults ≡ [] → TextsIn s env.texts a.texts → There a.known P) →
     ((v : A) → P v → GoodIf M s Q (f v)) → (o : Option A) → a.known ≡ o → (met a o q f env).faults ≡ [] →
     TextsIn s env.texts (met a o q f env).texts → There (met a o q f env).known Q
@@ -254,7 +202,8 @@ either_holds s P Q a q f env inside silent first each (Some v) is kept texts =
     (each v holds).holds (behind a env) (env-behind s env a silent inside) (back a.faults b.faults kept)
     (texts-back s env.texts a.texts b.texts texts)
 
-pub good-either : {A B : Type 0} {M : List StructInfo → Type 0} {s : Scope} {P : A → Type 0} {Q : B → Type 0} (p : Judged A) (q : Judged B) (f : A → Judged B) →
+pub good-either : {A B : Type 0} {M : List StructInfo → Type 0} {s : Scope} {P : A → Type 0} {Q : B →
+    Type 0} (p : Judged A) (q : Judged B) (f : A → Judged B) →
     GoodIf M s P p → Silent q → ((v : A) → Silent (f v)) → ((v : A) → P v → GoodIf M s Q (f v)) → GoodIf M s Q (either p q f)
 good-either {s = s} {P = P} {Q = Q} p q f first other silent each = record {
   silent = silent-either p q f first.silent other silent;
@@ -263,7 +212,8 @@ good-either {s = s} {P = P} {Q = Q} p q f first other silent each = record {
 }
 
 -- what breaks a rule has each property where it breaks none
-pub good-never : {A : Type 0} {M : List StructInfo → Type 0} {s : Scope} {P : A → Type 0} (p : Judged A) → Silent p → ((env : Env) → (p env).faults ≡ [] → ⊥) →
+pub good-never : {A : Type 0} {M : List StructInfo → Type 0} {s : Scope} {P : A → Type 0} (p : Judged A) → Silent p → ((env : Env) →
+    (p env).faults ≡ [] → ⊥) →
     GoodIf M s P p
 good-never {P = P} p silent breaks = record {
   silent = silent;

@@ -1,6 +1,6 @@
 -- What is said of the parts of a file so far stays: faults, texts, declarations and structs that are complete.
-use Rattle.std.proofs.Common.{◌≡◌, refl, sym, ◌∙◌, ap, subst, ℕ, zero, suc, Bool, true, false, List, [], ◌∷◌, ◌++◌, map, slice_get, slice_set}
-use Rattle.std.proofs.Common.{length, Option, Some, None}
+use Rattle.std.proofs.Common.{◌≡◌, refl, ◌∙◌, ap, ℕ, suc, List, [], ◌∷◌, ◌++◌, map, slice_get}
+use Rattle.std.proofs.Common.{Option, Some, None}
 use Rattle.std.specs.Prelude.{leb}
 use Rattle.c_ast.specs.declared.declaration.Decl.{Decl}
 use Rattle.c_ast.specs.declared.declaration.Storage.{Storage}
@@ -16,24 +16,23 @@ use Rattle.c_type_base.specs.declared.ty.Ty.{Ty}
 use Rattle.c_type_base.specs.declared.typed.StructInfo.{StructInfo}
 use Rattle.c_type_expr.specs.declared.fault.Fault.{Fault}
 use Rattle.c_type_expr.specs.declared.scopes.Binding.{Binding}
-use Rattle.c_type_expr.specs.Environment.{Env, tag_number}
+use Rattle.c_type_expr.specs.Environment.{tag_number}
 use Rattle.c_type_expr.specs.Faults.{rule, broken}
 use Rattle.c_type_expr.specs.Outcomes.{Outcome}
-use Rattle.c_type_stmt.specs.Declarations.{no, declared_type, init_of}
-use Rattle.c_type_stmt.specs.Statements.{statement}
+use Rattle.c_type_stmt.specs.Declarations.{no}
 use Rattle.c_types.specs.declared.names.FileNames.{FileNames}
 use Rattle.c_types.specs.declared.redeclared.Declared.{Declared}
 use Rattle.c_types.specs.Laws.PromiseLaws.{first-kept, open-struct}
 use Rattle.c_types.specs.Laws.TableLaws.{get-appended, get-set_other}
 use Rattle.c_types.specs.Structs.{ty_in, members, struct_with, tag_alone, has_body, body_rules}
-use Rattle.c_types.specs.Units.{Judgement, with_outcome, with_faults, with_names, included, with_tag, known_members, with_body, with_members}
+use Rattle.c_types.specs.Units.{Judgement, with_outcome, with_faults, with_names, included, with_tag, known_members, with_body}
+use Rattle.c_types.specs.Units.{with_members}
 use Rattle.c_types.specs.Units.{struct_judged, object_judged, objects_judged, with_function, parameters_in, head_judged, function_judged}
 use Rattle.c_types.specs.Units.{part_judged, parts_judged}
 use Rattle.c_types.specs.Functions.{result_type}
 use Rattle.block_meaning.specs.ExpressionsInOrder.{Scope}
-use Rattle.well_typed_order.specs.Laws.Good.{TextsIn, front, back, texts-front}
-use Rattle.well_typed_order.specs.Laws.Heads.{head_by}
-use Rattle.well_typed_order.specs.Laws.Objects.{object_by}
+use Rattle.well_typed_order.specs.Standing.{TextsIn}
+use Rattle.well_typed_order.specs.Laws.Good.{front, back, texts-front}
 
 -- an element of a list
 abbrev pub In : {A : Type 0} → List A → A → Type 0

@@ -1,5 +1,5 @@
 -- Heads of functions that keep all rules: the types of the result and of the parameters are known.
-use Rattle.std.proofs.Common.{◌≡◌, refl, sym, ◌∙◌, ap, subst, ℕ, ◌+◌, ◌≤◌, arith, Bool, true, false, ◌||◌, List, [], ◌∷◌, ◌++◌, length, map}
+use Rattle.std.proofs.Common.{◌≡◌, refl, subst, ℕ, ◌+◌, ◌≤◌, arith, true, ◌||◌, List, [], ◌∷◌, ◌++◌, length, map}
 use Rattle.std.proofs.Common.{slice_get, Option, Some, None}
 use Rattle.std.specs.Prelude.{leb}
 use Rattle.c_ast.specs.declared.program.Function.{Function}
@@ -10,25 +10,24 @@ use Rattle.c_type_base.specs.declared.typed.LocalInfo.{LocalInfo}
 use Rattle.c_type_base.specs.Types.{is_there}
 use Rattle.c_type_expr.specs.declared.scopes.Meaning.TheVariants as means
 use Rattle.c_type_expr.specs.declared.scopes.Signature.{Signature}
-use Rattle.c_type_expr.specs.Environment.{Env, binds, opened}
+use Rattle.c_type_expr.specs.Environment.{binds, opened}
 use Rattle.c_type_expr.specs.Faults.{Rule, rule, broken}
-use Rattle.c_type_expr.specs.Outcomes.{Outcome, each}
 use Rattle.c_types.specs.declared.names.FileNames.{FileNames}
 use Rattle.c_types.specs.Files.{function_callee}
-use Rattle.c_types.specs.Functions.{parameter, parameters, signature_of, head_rules, main_form, result_type}
+use Rattle.c_types.specs.Functions.{signature_of, head_rules, main_form, result_type}
 use Rattle.c_types.specs.Redeclarations.{may_stand}
 use Rattle.c_types.specs.Units.{Judgement, with_outcome, with_names, with_faults, function_declared, parameters_in, head_judged}
 use Rattle.block_meaning.specs.ExpressionsInOrder.{Scope}
 use Rattle.block_meaning.specs.Linkage.{type_of_local}
 use Rattle.block_meaning.specs.ProgramsInOrder.{numbered}
 use Rattle.block_meaning.specs.Running.{Program}
+use Rattle.well_typed_order.specs.Standing.{MeansIn, TextsIn, There, LocalsIn}
 use Rattle.well_typed_order.specs.Laws.Binary.{kept-first, kept-rest}
 use Rattle.well_typed_order.specs.Laws.Expressions.{whole-good}
-use Rattle.well_typed_order.specs.Laws.Good.{MeansIn, TextsIn, EnvIn, Good, front, back, texts-front, none-is, some-is}
-use Rattle.well_typed_order.specs.Laws.Judged.{At, env-like, at-outcome, at-names, at-good, at-texts}
-use Rattle.well_typed_order.specs.Laws.Known.{There}
+use Rattle.well_typed_order.specs.Laws.Good.{front, back, texts-front, none-is, some-is}
+use Rattle.well_typed_order.specs.Laws.Judged.{At, at-outcome, at-names, at-good, at-texts}
 use Rattle.well_typed_order.specs.Laws.Parameters.{Below, ParametersFine, parameters-fine}
-use Rattle.well_typed_order.specs.Laws.Parts.{Adds, LocalsIn, no-names}
+use Rattle.well_typed_order.specs.Laws.Parts.{no-names}
 use Rattle.well_typed_order.specs.Laws.Scopes.{outside, no_function, env-inside, env-opened, numbered-all}
 
 -- behind the result

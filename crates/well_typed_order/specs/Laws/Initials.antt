@@ -4,18 +4,12 @@ use Rattle.std.proofs.Common.{map, Option, Some, None, slice_get}
 use Rattle.std.specs.Prelude.{if◌then◌else◌, flat_map, ltb, ◌%◌, ◌^◌, ◌*◌}
 use Rattle.std.specs.List.{AllByRecursion}
 use Rattle.std.proofs.lemmas.Option.{same_Some}
-use Rattle.c_ast.specs.Laws.Opened.{given_trees}
-use Rattle.c_ast.specs.Tree.{NodeLayer}
 use Rattle.c_ast.specs.declared.token.Span.{Span}
-use Rattle.c_ast.specs.declared.int_type.IntType.{IntType}
 use Rattle.c_ast.specs.declared.int_type.IntType.TheVariants as int
-use Rattle.c_ast.specs.declared.expr.CType.TheOpen.{Node-F}
-use Rattle.c_ast.specs.declared.expr.CType.TheFolds.{fold-Node, fold-roll-Node, fold_out-Expr}
 use Rattle.c_ast.specs.declared.expr.Expr.{Expr}
 use Rattle.c_ast.specs.declared.declaration.Init.{Init, roll-Init, map-Init}
 use Rattle.c_ast.specs.declared.declaration.Init.TheOpen.{Init-F}
 use Rattle.c_ast.specs.declared.declaration.Init.TheFolds.{fold-roll-Init, ind-Init}
-use Rattle.c_ast.specs.declared.expr.Node.{Node, out-Node, roll-Node, roll-out-Node}
 use Rattle.c_type_base.specs.Laws.Opened.{given_types, given_typed}
 use Rattle.c_type_base.specs.Laws.SizeLaws.{complete-struct, complete-int, complete-array}
 use Rattle.c_type_base.specs.Layout.{members_of, first_scalar}
@@ -23,219 +17,51 @@ use Rattle.c_type_base.specs.Sizes.{size, is_complete, complete_struct}
 use Rattle.c_type_base.specs.declared.ty.Ty.{Ty, out-Ty, roll-Ty, roll-out-Ty}
 use Rattle.c_type_base.specs.declared.ty.Ty.TheVariants as ty
 use Rattle.c_type_base.specs.declared.ty.Ty.TheOpen.{Ty-F}
-use Rattle.c_type_base.specs.declared.expr.TNode.{out-TNode}
-use Rattle.c_type_base.specs.declared.expr.TNode.TheOpen.{TNode-F}
 use Rattle.c_type_base.specs.declared.statement.TInit.{TInit, out-TInit, out-roll-TInit}
 use Rattle.c_type_base.specs.declared.statement.TInit.TheVariants as tinit
 use Rattle.c_type_base.specs.declared.statement.TInit.TheOpen.{TInit-F}
-use Rattle.c_type_base.specs.declared.typed.InitPiece.{InitPiece}
-use Rattle.c_type_base.specs.declared.typed.InitValue.{InitValue}
 use Rattle.c_type_base.specs.declared.typed.InitValue.TheVariants as initial
 use Rattle.c_type_base.specs.declared.typed.MemberInfo.{MemberInfo}
 use Rattle.c_type_base.specs.declared.typed.StructInfo.{StructInfo}
-use Rattle.c_type_base.specs.declared.typed.Target.{Target}
-use Rattle.c_type_base.specs.declared.known.Constancy.{Constancy}
-use Rattle.c_type_base.specs.declared.known.Constancy.TheVariants.{Varies, DividesByZero, Is}
-use Rattle.c_type_base.specs.declared.known.Fixed.{Fixed}
-use Rattle.c_type_base.specs.declared.known.Known.{Known}
-use Rattle.c_type_base.specs.declared.known.Written.{Written}
-use Rattle.c_type_base.specs.Known.{value, assignable, is_value, is_null}
-use Rattle.c_type_base.specs.Types.{TyLayer, is_there, element_of_level, struct_of_level, is_char_type, is_scalar}
-use Rattle.c_type_base.specs.Types.{is_integer, is_pointer, is_struct, is_array, same_type, element_of, struct_of}
+use Rattle.c_type_base.specs.Known.{value}
+use Rattle.c_type_base.specs.Types.{TyLayer, element_of_level, struct_of_level}
+use Rattle.c_type_base.specs.Types.{is_integer, is_struct, is_array, element_of, struct_of}
 use Rattle.c_type_expr.specs.Environment.{Env}
-use Rattle.c_type_expr.specs.Expressions.{node_step, expr_step, expression}
-use Rattle.c_type_expr.specs.Faults.{rule, fault}
+use Rattle.c_type_expr.specs.Expressions.{expression}
+use Rattle.c_type_expr.specs.Faults.{fault}
 use Rattle.c_type_expr.specs.Operators.{breaks}
-use Rattle.c_type_expr.specs.Outcomes.{Judged, continued, ruled, listed, each, behind, sure, not_known, both, on, either, asked}
-use Rattle.c_type_expr.specs.Said.{Said, NodeSaid, type_step, text}
+use Rattle.c_type_expr.specs.Outcomes.{Judged, continued, listed, each, behind, sure, not_known, both, on}
+use Rattle.c_type_expr.specs.Said.{text}
 use Rattle.c_type_stmt.specs.declared.fitted.Fitted.{Fitted}
 use Rattle.c_type_stmt.specs.declared.initial.Slot.{Slot}
 use Rattle.c_type_stmt.specs.Initials.{loose_all, moved_fitted, too_many, fit_all, tree_of, member_slot, in_braces, is_zero_list, zero_list}
 use Rattle.c_type_stmt.specs.Initials.{is_aggregate_slot, list_by, slots, init_step, initialiser}
-use Rattle.c_type_stmt.specs.Initials.{piece, moved_piece, number_piece, address_value, address_piece, pointer_piece, scalar_piece}
-use Rattle.c_type_stmt.specs.Initials.{byte_pieces, first_of, pieces_of}
-use Rattle.c_type_stmt.specs.Initials.{InitSaid, spelled, array_by, assigned, may_begin, may_fit, expression_for}
-use Rattle.block_meaning.specs.ExpressionsInOrder.{Scope, file_of}
-use Rattle.block_meaning.specs.Locals.{text_of}
+use Rattle.c_type_stmt.specs.Initials.{piece}
+use Rattle.c_type_stmt.specs.Initials.{pieces_of}
+use Rattle.c_type_stmt.specs.Initials.{InitSaid, expression_for}
+use Rattle.block_meaning.specs.ExpressionsInOrder.{Scope}
 use Rattle.block_meaning.specs.StatementsInOrder as order
 use Rattle.block_meaning.specs.StatementsInOrder.{Initialises, Elements, Members}
-use Rattle.well_typed_order.specs.Laws.Binary.{never-kept, kept-first, kept-rest}
+use Rattle.well_typed_order.specs.Standing.{EnvIn, TextsIn, Silent, NoMore, GoodIf, Good, TableIn, There}
 use Rattle.well_typed_order.specs.Laws.Expressions.{expression-good}
-use Rattle.well_typed_order.specs.Laws.Good.{EnvIn, TextsIn, Silent, Inside, NoMore, GoodIf, Good, good-if, good-from, good-on, good-both, good-sure}
-use Rattle.well_typed_order.specs.Laws.Good.{good-either, good-never, good-none, good-more, none-after, silent-on, silent-both, front, texts-front}
-use Rattle.well_typed_order.specs.Laws.Postfix.{TableIn}
-use Rattle.well_typed_order.specs.Laws.Known.{There, TargetIn, AddressIn, FixedIn, ValueIn, Into, assignable-in, value-in}
-use Rattle.well_typed_order.specs.Laws.Types.{and_first, and_second}
+use Rattle.well_typed_order.specs.Laws.Good.{good-if, good-from, good-on, good-both}
+use Rattle.well_typed_order.specs.Laws.Good.{good-sure}
+use Rattle.well_typed_order.specs.Laws.Good.{good-never, good-none, good-more, none-after, silent-on, silent-both, front}
+use Rattle.well_typed_order.specs.Laws.Good.{texts-front}
+use Rattle.well_typed_order.specs.Laws.Types.{and_second}
+use Rattle.well_typed_order.specs.Laws.FirstBytes.{PieceIn, FitsIn, moved_in, joined_in, expression_for_good}
 
 module _ (s : Scope) where
-  -- ---- a text alone
-
-  record IsText (bytes : List ℕ) (k : Known) : Type 0 where
-    number : ℕ
-    node_is : out-TNode k.tree.node ≡ TNode-F.Text number
-    there : text_of (file_of s) number ≡ Some bytes
-
-  text_is : (bytes : List ℕ) (span : Span) → Good s (IsText bytes) (text bytes span)
-  unfolding given_typed
-  text_is bytes span = record {
-    silent = λ env. refl;
-    holds = λ env inside kept texts.
-        let same : env.texts + 0 ≡ env.texts = omega arith in
-        record { number = env.texts; node_is = refl; there = subst (λ n. text_of (file_of s) n ≡ Some bytes) same (texts 0 bytes refl) };
-  }
-
-  abbrev said_node : Node → NodeSaid
-  said_node = fold-Node (Span → Judged Written) NodeSaid Said type_step node_step expr_step
-
-  abbrev TextGood : NodeSaid → Type 0
-  TextGood n = (bytes : List ℕ) → n.text ≡ Some bytes → (span : Span) → Good s (IsText bytes) (n.judged span)
-
-  text_node : (d : Node-F (Span → Judged Written) NodeSaid Said) → TextGood (node_step d)
-  text_node (Node-F.Text bytes) other is span =
-      subst (λ b. Good s (IsText b) (text (bytes ++ 0 ∷ []) span)) (same_Some (bytes ++ 0 ∷ []) other is) (text_is (bytes ++ 0 ∷ []) span)
-  text_node _ other is span = absurd cc
-
-  text_rolled : (d : NodeLayer) → TextGood (said_node (roll-Node d))
-  text_rolled d = subst TextGood (sym (fold-roll-Node (Span → Judged Written) NodeSaid Said type_step node_step expr_step d)) (text_node _)
-
-  text_said : (n : Node) → TextGood (said_node n)
-  text_said n = subst (λ n. TextGood (said_node n)) (roll-out-Node n) (text_rolled (out-Node n))
-
-  said_is : (e : Expr) → expression e ≡ expr_step (record { span = e.span; node = said_node e.node })
-  unfolding given_trees
-  said_is e = fold_out-Expr (Span → Judged Written) NodeSaid Said type_step node_step expr_step e
-
-  -- an expression that is a text alone
-  text-good : (e : Expr) (bytes : List ℕ) → (expression e).text ≡ Some bytes → Good s (IsText bytes) (expression e).judged
-  text-good e bytes is = subst (λ (x : Said). x.text ≡ Some bytes → Good s (IsText bytes) x.judged) (sym (said_is e))
-      (λ is. text_said e.node bytes is e.span) is
-
-  -- ---- what an object is initialised with
-
-  -- the first bytes of an object that lives from the start: what an address is of is there
-  abbrev pub InitialIn : InitValue → Type 0
-  InitialIn (initial.Number n bytes) = Unit {0}
-  InitialIn (initial.Address t offset) = TargetIn (file_of s) t
-
-  abbrev pub PieceIn : InitPiece → Type 0
-  PieceIn p = InitialIn p.value
-
-  pub record FitsIn (t : Ty) (f : Fitted) : Type 0 where
-    pub tree : Initialises s t (out-TInit f.tree)
-    pub pieces : AllByRecursion PieceIn f.pieces
-
-  bytes_in : (offset : ℕ) (bs : List ℕ) → AllByRecursion PieceIn (byte_pieces offset bs)
-  bytes_in offset [] = tt
-  bytes_in offset (b ∷ bs) = (tt, bytes_in (offset + 1) bs)
-
-  number_in : (t : IntType) (c : Constancy) → AllByRecursion PieceIn (number_piece t c)
-  number_in t Varies = tt
-  number_in t DividesByZero = tt
-  number_in t (Is n) = (tt, tt)
-
-  address_in : (t : Option Target) (offset : ℕ) → AddressIn s t → InitialIn (address_value t offset)
-  address_in None offset is = tt
-  address_in (Some t) offset is = is
-
-  fixed_in : (o : Option Fixed) → FixedIn s o → AllByRecursion PieceIn (address_piece o)
-  fixed_in None is = tt
-  fixed_in (Some f) is = (address_in f.target f.offset is, tt)
-
-  pointer_in : (null : Bool) (o : Option Fixed) → FixedIn s o → AllByRecursion PieceIn (pointer_piece null o)
-  pointer_in true o is = (tt, tt)
-  pointer_in false o is = fixed_in o is
-
-  scalar_in : (l : TyLayer) (k : Known) → FixedIn s k.fixed → AllByRecursion PieceIn (scalar_piece l k)
-  scalar_in Ty-F.Void k is = tt
-  scalar_in (Ty-F.Int t) k is = number_in t k.constant
-  scalar_in (Ty-F.Pointer t) k is = pointer_in (is_null k) k.fixed is
-  scalar_in (Ty-F.Array t n) k is = tt
-  scalar_in (Ty-F.Struct n) k is = tt
-
-  moved_in : (by : ℕ) (ps : List InitPiece) → AllByRecursion PieceIn ps → AllByRecursion PieceIn (map (moved_piece by) ps)
-  moved_in by [] all = tt
-  moved_in by (p ∷ ps) all = (all.0, moved_in by ps all.1)
-
-  joined_in : (ps qs : List InitPiece) → AllByRecursion PieceIn ps → AllByRecursion PieceIn qs → AllByRecursion PieceIn (ps ++ qs)
-  joined_in [] qs all more = more
-  joined_in (p ∷ ps) qs all more = (all.0, joined_in ps qs all.1 more)
-
-  spelled_good : (span : Span) (t element : Ty) (n : ℕ) (bytes : List ℕ) → element_of t ≡ Some element → (k : Known) → IsText bytes k →
-      Good s (FitsIn t) (spelled span n bytes k)
-  unfolding given_typed
-  spelled_good span t element n bytes is k text = record {
-    silent = λ env. refl;
-    holds = λ env inside kept texts.
-        record { tree = order.text is text.node_is text.there; pieces = bytes_in 0 (first_of n bytes) };
-  }
-
-  array_good : (span : Span) (t element : Ty) (n : ℕ) → element_of t ≡ Some element → (e : Expr) (o : Option (List ℕ)) →
-      (expression e).text ≡ o → (b : Bool) → Good s (FitsIn t) (array_by span (expression e).judged o b n)
-  array_good span t element n is e (Some bytes) text true = good-on (expression e).judged (spelled span n bytes) (text-good e bytes text)
-      (λ k env. refl) (spelled_good span t element n bytes is)
-  array_good span t element n is e (Some bytes) text false = good-either (expression e).judged (breaks 16 span) _ (expression-good s e)
-      (λ env. refl) (λ k env. refl)
-      (λ k known. good-never (asked span (rule 12 (is_value k) ∷ rule 16 false ∷ [])) (λ env. refl)
-      (λ env kept. never-kept span 12 16 (is_value k) kept))
-  array_good span t element n is e None text b = good-either (expression e).judged (breaks 16 span) _ (expression-good s e)
-      (λ env. refl) (λ k env. refl)
-      (λ k known. good-never (asked span (rule 12 (is_value k) ∷ rule 16 false ∷ [])) (λ env. refl)
-      (λ env kept. never-kept span 12 16 (is_value k) kept))
-
-  -- ---- an expression for a scalar or a struct
-
-  or_kinds : (a b c d e f : Bool) → ((a && d) || (b && e) || (c && f)) ≡ true → ((a || b) || c) ≡ true
-  or_kinds true b c d e f is = refl
-  or_kinds false true c d e f is = refl
-  or_kinds false false true d e f is = refl
-  or_kinds false false false d e f is = absurd cc
-
-  one_init : (t : Ty) (k : Known) (b : Bool) → is_scalar t ≡ b → Into s t k → (b || is_struct t) ≡ true →
-      Initialises s t (TInit-F.One k.tree)
-  one_init t k true is into kinds = order.scalar is into.value.has into.is
-  one_init t k false is into kinds = order.struct_value kinds into.value.has into.is
-
-  assigned_good : (span : Span) (b : Bool) (t : Ty) (k : Known) → ValueIn s k → Good s (FitsIn t) (assigned span b t k)
-  unfolding given_typed
-  assigned_good span b t k value = record {
-    silent = λ env. refl;
-    holds = λ env inside kept texts.
-        let rules = rule 16 (assignable t k && may_begin b t k) ∷ [] in
-        let both = kept-first span 16 (assignable t k && may_begin b t k) [] (kept-rest span 12 (is_value k) rules kept) in
-        let fits = and_first (assignable t k) (may_begin b t k) both in
-        record {
-          tree = one_init t _ (is_scalar t) refl (assignable-in k t value fits)
-              (or_kinds (is_integer t) (is_pointer t) (is_struct t) (is_integer k.tree.ty)
-              (same_type t k.tree.ty || is_null k) (same_type t k.tree.ty) fits);
-          pieces = scalar_in (out-Ty t) k value.fixed;
-        };
-  }
-
-  plain_good : (e : Expr) (b : Bool) (t : Ty) (l : TyLayer) → Good s (FitsIn t)
-      (either (expression e).judged (asked (expression e).span (rule 16 (may_fit b (expression e).computes l) ∷ []))
-      (λ k. assigned (expression e).span b t (value k)))
-  plain_good e b t l = good-either (expression e).judged _ _ (expression-good s e) (λ env. refl)
-      (λ k env. refl) (λ k known. assigned_good (expression e).span b t (value k) (value-in k known))
-
-  expression_for_good : (e : Expr) (b : Bool) (t : Ty) (l : TyLayer) → out-Ty t ≡ l →
-      Good s (FitsIn t) (expression_for (expression e) b t l)
-  expression_for_good e b t (Ty-F.Array element n) is =
-      array_good (expression e).span t element n (ap element_of_level is) e (expression e).text refl (is_char_type element)
-  expression_for_good e b t Ty-F.Void is = plain_good e b t Ty-F.Void
-  expression_for_good e b t (Ty-F.Int i) is = plain_good e b t (Ty-F.Int i)
-  expression_for_good e b t (Ty-F.Pointer u) is = plain_good e b t (Ty-F.Pointer u)
-  expression_for_good e b t (Ty-F.Struct n) is = plain_good e b t (Ty-F.Struct n)
-
   -- ---- lists
 
   -- where an initialiser breaks no rule, it fits an object of a complete type
   pub record InitGood (i : InitSaid) : Type 0 where
     pub loose : Good s (λ (x : Unit {0}). Unit {0}) i.loose
-    pub fits : (b : Bool) (t : Ty) → GoodIf (λ structs. is_complete structs t ≡ true) s (FitsIn t) (i.fitted b t)
+    pub fits : (b : Bool) (t : Ty) → GoodIf (λ structs. is_complete structs t ≡ true) s ((FitsIn s) t) (i.fitted b t)
 
   abbrev SlotFits : Option Slot → Fitted → Type 0
   SlotFits None f = ⊥
-  SlotFits (Some x) f = FitsIn x.ty f
+  SlotFits (Some x) f = (FitsIn s) x.ty f
 
   -- each fits the place of its number
   abbrev FitsFrom : (ℕ → Option Slot) → ℕ → List Fitted → Type 0
@@ -288,9 +114,11 @@ module _ (s : Scope) where
       (good-both (i.fitted b x.ty) (fit_all slot b (k + 1) is)
       (good-from (λ structs. is_complete structs x.ty ≡ true) (Wholes slot) (i.fitted b x.ty) (λ env inside whole. whole k x same)
       (good.fits b x.ty)) rest) (λ v env. refl)
-      (λ v known. good-sure (moved_fitted x.offset v.0 ∷ v.1)
-      (subst (λ o. SlotFits o (moved_fitted x.offset v.0)) (sym same)
-      (record { tree = known.0.tree; pieces = moved_in x.offset v.0.pieces known.0.pieces }), known.1))
+      (λ v known. good-sure (moved_fitted x.offset v.0 ∷ v.1) (
+        subst (λ o. SlotFits o (moved_fitted x.offset v.0)) (sym same)
+            (record { tree = known.0.tree; pieces = (moved_in s) x.offset v.0.pieces known.0.pieces }),
+        known.1,
+      ))
 
   all_good : (slot : ℕ → Option Slot) (b : Bool) (k : ℕ) (is : List InitSaid) → AllByRecursion InitGood is →
       GoodIf (Wholes slot) s (FitsFrom slot k) (fit_all slot b k is)
@@ -373,14 +201,14 @@ module _ (s : Scope) where
 
   abbrev OneFits : Ty → List Fitted → Type 0
   OneFits t [] = ⊥
-  OneFits t (f ∷ []) = FitsIn t f
+  OneFits t (f ∷ []) = (FitsIn s) t f
   OneFits t (f ∷ g ∷ fs) = ⊥
 
-  one_listed : (t : Ty) (o : Option Fitted) → There o (FitsIn t) → There (listed o (Some [])) (OneFits t)
+  one_listed : (t : Ty) (o : Option Fitted) → There o ((FitsIn s) t) → There (listed o (Some [])) (OneFits t)
   one_listed t None holds = holds
   one_listed t (Some f) holds = holds
 
-  one_good : {M : List StructInfo → Type 0} (t : Ty) (p : Judged Fitted) → GoodIf M s (FitsIn t) p →
+  one_good : {M : List StructInfo → Type 0} (t : Ty) (p : Judged Fitted) → GoodIf M s ((FitsIn s) t) p →
       GoodIf M s (OneFits t) (each (p ∷ []))
   one_good t p good = record {
     silent = λ env. good.silent env;
@@ -388,14 +216,14 @@ module _ (s : Scope) where
         (texts-front s env.texts (p env).texts [] texts));
   }
 
-  slot_there : (o : Option Slot) → is_aggregate_slot o ≡ true → (f : Fitted) → FitsIn (ty.Int int.Int) f → SlotFits o f
+  slot_there : (o : Option Slot) → is_aggregate_slot o ≡ true → (f : Fitted) → (FitsIn s) (ty.Int int.Int) f → SlotFits o f
   slot_there None kinds f fits = absurd cc
   slot_there (Some x) kinds f fits =
       record { tree = zero_fits (ty.Int int.Int) x.ty (out-TInit f.tree) refl kinds fits.tree; pieces = fits.pieces }
 
   zero_made : (t : Ty) (span : Span) (bytes : ℕ) (slot : ℕ → Option Slot) → ListFits t span slot → is_aggregate_slot (slot 0) ≡ true →
       (fs : List Fitted) → OneFits (ty.Int int.Int) fs →
-      FitsIn t (record { tree = tinit.List (map tree_of fs) span; pieces = piece 0 (initial.Number 0 bytes) ∷ [] })
+      (FitsIn s) t (record { tree = tinit.List (map tree_of fs) span; pieces = piece 0 (initial.Number 0 bytes) ∷ [] })
   zero_made t span bytes slot fits kinds [] one = absurd one
   zero_made t span bytes slot fits kinds (f ∷ []) one = record {
     tree = braces_in t span (map tree_of (f ∷ [])) (fits (f ∷ []) (slot_there (slot 0) kinds f one, tt));
@@ -408,7 +236,7 @@ module _ (s : Scope) where
 
   zero_good : {M : List StructInfo → Type 0} (t : Ty) (span : Span) (bytes : ℕ) (is : List InitSaid) → AllByRecursion InitGood is →
       is_zero_list is ≡ true → (slot : ℕ → Option Slot) → ListFits t span slot → is_aggregate_slot (slot 0) ≡ true →
-      GoodIf M s (FitsIn t) (zero_list span is bytes)
+      GoodIf M s ((FitsIn s) t) (zero_list span is bytes)
   zero_good t span bytes [] all zeros slot fits kinds = absurd cc
   zero_good {M = M} t span bytes (i ∷ []) all zeros slot fits kinds =
       good-on (each (i.fitted false (ty.Int int.Int) ∷ [])) _
@@ -418,35 +246,35 @@ module _ (s : Scope) where
       (λ fs env. refl) (λ fs one. good-sure _ (zero_made t span bytes slot fits kinds fs one))
   zero_good t span bytes (i ∷ j ∷ is) all zeros slot fits kinds = absurd cc
 
-  pieces_in : (slot : ℕ → Option Slot) (k : ℕ) (fs : List Fitted) → FitsFrom slot k fs → AllByRecursion PieceIn (flat_map pieces_of fs)
+  pieces_in : (slot : ℕ → Option Slot) (k : ℕ) (fs : List Fitted) → FitsFrom slot k fs → AllByRecursion (PieceIn s) (flat_map pieces_of fs)
   pieces_in slot k [] fits = tt
   pieces_in slot k (f ∷ fs) fits =
-      joined_in f.pieces (flat_map pieces_of fs) (slot_pieces (slot k) f fits.0) (pieces_in slot (k + 1) fs fits.1)
+      (joined_in s) f.pieces (flat_map pieces_of fs) (slot_pieces (slot k) f fits.0) (pieces_in slot (k + 1) fs fits.1)
     where
-      slot_pieces : (o : Option Slot) (f : Fitted) → SlotFits o f → AllByRecursion PieceIn f.pieces
+      slot_pieces : (o : Option Slot) (f : Fitted) → SlotFits o f → AllByRecursion (PieceIn s) f.pieces
       slot_pieces None f fits = absurd fits
       slot_pieces (Some x) f fits = fits.pieces
 
   braced : (t : Ty) (span : Span) (slot : ℕ → Option Slot) → ListFits t span slot → (fs : List Fitted) → FitsFrom slot 0 fs →
-      FitsIn t (in_braces span fs)
+      (FitsIn s) t (in_braces span fs)
   braced t span slot fits fs known =
       record { tree = braces_in t span (map tree_of fs) (fits fs known); pieces = pieces_in slot 0 fs known }
 
   plain_list : (t : Ty) (span : Span) (b : Bool) (is : List InitSaid) → AllByRecursion InitGood is → (slot : ℕ → Option Slot) →
-      ListFits t span slot → GoodIf (Wholes slot) s (FitsIn t) (on (fit_all slot b 0 is) (λ fs. sure (in_braces span fs)))
+      ListFits t span slot → GoodIf (Wholes slot) s ((FitsIn s) t) (on (fit_all slot b 0 is) (λ fs. sure (in_braces span fs)))
   plain_list t span b is all slot fits = good-on (fit_all slot b 0 is) _ (all_good slot b 0 is all) (λ fs env. refl)
       (λ fs known. good-sure (in_braces span fs) (braced t span slot fits fs known))
 
   list_if : (t : Ty) (span : Span) (b : Bool) (bytes : ℕ) (is : List InitSaid) → AllByRecursion InitGood is → (slot : ℕ → Option Slot) →
       ListFits t span slot → (x y : Bool) → is_zero_list is ≡ x → is_aggregate_slot (slot 0) ≡ y →
-      GoodIf (Wholes slot) s (FitsIn t)
+      GoodIf (Wholes slot) s ((FitsIn s) t)
       (if x && y then zero_list span is bytes else on (fit_all slot b 0 is) (λ fs. sure (in_braces span fs)))
   list_if t span b bytes is all slot fits true true zeros kinds = zero_good t span bytes is all zeros slot fits kinds
   list_if t span b bytes is all slot fits true false zeros kinds = plain_list t span b is all slot fits
   list_if t span b bytes is all slot fits false y zeros kinds = plain_list t span b is all slot fits
 
   list_by_good : (t : Ty) (span : Span) (b : Bool) (bytes : ℕ) (is : List InitSaid) → AllByRecursion InitGood is →
-      (slot : ℕ → Option Slot) → ListFits t span slot → GoodIf (Wholes slot) s (FitsIn t) (list_by span is b bytes (Some slot))
+      (slot : ℕ → Option Slot) → ListFits t span slot → GoodIf (Wholes slot) s ((FitsIn s) t) (list_by span is b bytes (Some slot))
   list_by_good t span b bytes is all slot fits =
       list_if t span b bytes is all slot fits (is_zero_list is) (is_aggregate_slot (slot 0)) refl refl
 
@@ -478,7 +306,7 @@ module _ (s : Scope) where
       by_silent span from (first_scalar env.structs t) is all (slots env.structs (out-Ty t)) env
 
   nowhere_good : {M : List StructInfo → Type 0} (t : Ty) (span : Span) (b : Bool) (bytes : ℕ) (is : List InitSaid) →
-      AllByRecursion InitGood is → GoodIf M s (FitsIn t) (list_by span is b bytes None)
+      AllByRecursion InitGood is → GoodIf M s ((FitsIn s) t) (list_by span is b bytes None)
   nowhere_good t span b bytes is all = good-on (loose_all is) _ (good-if (loose_all is) (loose_good is all)) (λ x env. refl)
       (λ x known. good-never (breaks 16 span) (λ env. refl) (λ env is. absurd cc))
 
@@ -538,7 +366,7 @@ module _ (s : Scope) where
   level_holds : (t : Ty) (span : Span) (b : Bool) (bytes : ℕ) (is : List InitSaid) → AllByRecursion InitGood is → (env : Env) →
       EnvIn env s → is_complete env.structs t ≡ true → (l : TyLayer) → out-Ty t ≡ l →
       let o = list_by span is b bytes (slots env.structs l) env in
-      o.faults ≡ [] → TextsIn s env.texts o.texts → There o.known (FitsIn t)
+      o.faults ≡ [] → TextsIn s env.texts o.texts → There o.known ((FitsIn s) t)
   unfolding given_types
   level_holds t span b bytes is all env inside complete (Ty-F.Array element n) same =
       let whole = array_wholes env.structs element n (ap (is_complete env.structs) (rolled t (Ty-F.Array element n) same) ∙ complete) in
@@ -557,7 +385,7 @@ module _ (s : Scope) where
       is_complete env.structs t ≡ true → (b : Bool) → (is_struct t && (if is_complete env.structs t then false else true)) ≡ b →
       let o = (if b then on (loose_all is) (λ x. not_known {A = Fitted}) env
       else list_by span is from (first_scalar env.structs t) (slots env.structs (out-Ty t)) env) in
-      o.faults ≡ [] → TextsIn s env.texts o.texts → There o.known (FitsIn t)
+      o.faults ≡ [] → TextsIn s env.texts o.texts → There o.known ((FitsIn s) t)
   for_holds t span from is all env inside complete true same kept texts =
       absurd (no_incomplete (is_struct t) (is_complete env.structs t) complete same)
   for_holds t span from is all env inside complete false same kept texts =
@@ -576,7 +404,7 @@ module _ (s : Scope) where
   one_init_good e = record {
     loose = good-on (expression e).judged _ (expression-good s e) (λ k env. refl)
         (λ k known. record { silent = λ env. refl; holds = λ env inside kept texts. tt });
-    fits = λ b t. good-if (expression_for (expression e) b t (out-Ty t)) (expression_for_good e b t (out-Ty t) refl);
+    fits = λ b t. good-if (expression_for (expression e) b t (out-Ty t)) ((expression_for_good s) e b t (out-Ty t) refl);
   }
 
   -- ---- all of them

@@ -1,20 +1,19 @@
 -- Where a part of a file stands among what was declared before it: names mean what is there, and texts have their numbers.
-use Rattle.std.proofs.Common.{◌≡◌, refl, sym, ◌∙◌, ap, subst, ℕ, zero, suc, ◌+◌, arith, List, [], ◌∷◌, ◌++◌, length, slice_get, true, Option, Some, None}
+use Rattle.std.proofs.Common.{◌≡◌, refl, sym, ◌∙◌, ap, subst, ℕ, ◌+◌, arith, List, [], ◌∷◌, ◌++◌, length, slice_get, true, Some, None}
 use Rattle.c_type_base.specs.Laws.GrowthLaws.{Extends}
 use Rattle.c_type_base.specs.Layout.{members_of}
 use Rattle.c_type_base.specs.Sizes.{is_complete}
 use Rattle.c_type_base.specs.declared.typed.MemberInfo.{MemberInfo}
 use Rattle.c_type_base.specs.declared.typed.StructInfo.{StructInfo}
-use Rattle.c_type_expr.specs.declared.fault.Fault.{Fault}
 use Rattle.c_type_expr.specs.declared.scopes.Binding.{Binding}
 use Rattle.c_type_expr.specs.Environment.{Env, in_scopes}
 use Rattle.c_type_expr.specs.Outcomes.{Outcome, Judged, behind}
 use Rattle.c_types.specs.Units.{Judgement, with_outcome, with_names}
 use Rattle.block_meaning.specs.ExpressionsInOrder.{Scope}
 use Rattle.block_meaning.specs.Linkage.{structs_of}
-use Rattle.well_typed_order.specs.Laws.Good.{MeansIn, EnvIn, TextsIn, GoodIf, front, back, texts-front, texts-back}
-use Rattle.well_typed_order.specs.Laws.Known.{There}
-use Rattle.well_typed_order.specs.Laws.Parts.{Names, env-named}
+use Rattle.well_typed_order.specs.Standing.{MeansIn, EnvIn, TextsIn, GoodIf, There, Names}
+use Rattle.well_typed_order.specs.Laws.Good.{front, back, texts-front, texts-back}
+use Rattle.well_typed_order.specs.Laws.Parts.{env-named}
 
 -- behind some parts of a file
 pub record At (s : Scope) (j : Judgement) : Type 0 where

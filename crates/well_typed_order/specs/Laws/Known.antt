@@ -11,49 +11,14 @@ use Rattle.c_type_base.specs.declared.known.Constancy.{Constancy}
 use Rattle.c_type_base.specs.declared.known.Constancy.TheVariants.{Varies, DividesByZero, Is}
 use Rattle.c_type_base.specs.declared.known.Fixed.{Fixed}
 use Rattle.c_type_base.specs.declared.known.Known.{Known}
-use Rattle.c_type_base.specs.declared.typed.Target.{Target}
-use Rattle.c_type_base.specs.declared.typed.Typed.{Typed}
 use Rattle.c_type_base.specs.Known.{read, decayed, value_by, value, wrapped, as_type, converted, is_zero, is_null, assignable}
 use Rattle.c_type_base.specs.Types.{TyLayer, same_type, is_there, int_of, int_of_level, target_of_level, element_of, element_of_level}
 use Rattle.c_type_base.specs.Types.{struct_of_level}
-use Rattle.c_type_base.specs.Types.{is_void, is_void_level, is_integer, is_pointer, is_array, is_struct}
+use Rattle.c_type_base.specs.Types.{is_void_level, is_integer, is_pointer, is_array, is_struct}
 use Rattle.block_meaning.specs.ExpressionsInOrder as order
-use Rattle.block_meaning.specs.ExpressionsInOrder.{Scope, HasValue, Designates, Converts, file_of}
-use Rattle.block_meaning.specs.ProgramsInOrder.{TargetInOrder}
+use Rattle.block_meaning.specs.ExpressionsInOrder.{Scope, HasValue, Converts}
+use Rattle.well_typed_order.specs.Standing.{FixedIn, KnownIn, ValueIn}
 use Rattle.c_type_base.specs.Laws.SameLaws.{one-type, same-itself}
-
--- it is known, and has a property
-abbrev pub There : {A : Type 0} → Option A → (A → Type 0) → Type 0
-There None P = ⊥
-There (Some a) P = P a
-
--- what an address is of is there in a file
-abbrev pub TargetIn : Option Typed → Target → Type 0
-TargetIn None t = ⊥
-TargetIn (Some u) t = TargetInOrder u t
-
-abbrev pub AddressIn : Scope → Option Target → Type 0
-AddressIn s None = Unit {0}
-AddressIn s (Some t) = TargetIn (file_of s) t
-
--- the address that is known before the run, if there is one
-abbrev pub FixedIn : Scope → Option Fixed → Type 0
-FixedIn s None = Unit {0}
-FixedIn s (Some f) = AddressIn s f.target
-
--- an array or a struct that is no lvalue is a struct that was assigned, or a member of one
-pub record KnownIn (s : Scope) (k : Known) : Type 0 where
-  pub place : (k.lvalue || (is_array k.tree.ty || is_struct k.tree.ty)) ≡ true → Designates s k.tree.ty (out-TNode k.tree.node)
-  pub gives : k.lvalue ≡ false → is_array k.tree.ty ≡ false → HasValue s k.tree.ty (out-TNode k.tree.node)
-  pub object : k.lvalue ≡ true → is_void k.tree.ty ≡ false
-  pub integer : (n : ℕ) → k.constant ≡ Is n → is_integer k.tree.ty ≡ true
-  pub fixed : FixedIn s k.fixed
-
--- a value
-pub record ValueIn (s : Scope) (k : Known) : Type 0 where
-  pub has : HasValue s k.tree.ty (out-TNode k.tree.node)
-  pub integer : (n : ℕ) → k.constant ≡ Is n → is_integer k.tree.ty ≡ true
-  pub fixed : FixedIn s k.fixed
 
 no_address : (s : Scope) (o : Option Fixed) → o ≡ None → FixedIn s o
 no_address s None is = tt

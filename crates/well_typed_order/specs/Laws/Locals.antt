@@ -1,8 +1,8 @@
 -- Declarations of locals that keep all rules are in order.
-use Rattle.std.proofs.Common.{◌≡◌, refl, sym, ◌∙◌, ap, subst, ℕ, ◌+◌, arith, Bool, true, false, List, [], ◌∷◌, ◌++◌, map, slice_get}
+use Rattle.std.proofs.Common.{◌≡◌, refl, sym, ap, subst, ℕ, ◌+◌, arith, Bool, true, false, List, [], ◌∷◌, ◌++◌, slice_get}
 use Rattle.std.proofs.Common.{Option, Some, None}
 use Rattle.std.specs.Prelude.{IfSome, if◌then◌else◌, leb}
-use Rattle.std.specs.List.{AllByRecursion, Contains}
+use Rattle.std.specs.List.{Contains}
 use Rattle.std.proofs.lemmas.Option.{same_Some}
 use Rattle.c_ast.specs.declared.token.Span.{Span}
 use Rattle.c_ast.specs.declared.declaration.Decl.{Decl}
@@ -10,35 +10,32 @@ use Rattle.c_ast.specs.declared.declaration.Init.{Init}
 use Rattle.c_type_base.specs.Laws.Opened.{given_typed}
 use Rattle.c_type_base.specs.Sizes.{size, is_complete, largest}
 use Rattle.c_type_base.specs.declared.ty.Ty.{Ty}
-use Rattle.c_type_base.specs.declared.known.Written.{Written}
 use Rattle.c_type_base.specs.declared.statement.TDecl.{TDecl}
-use Rattle.c_type_base.specs.declared.statement.TInit.{TInit, out-TInit}
+use Rattle.c_type_base.specs.declared.statement.TInit.{out-TInit}
 use Rattle.c_type_base.specs.declared.typed.LocalInfo.{LocalInfo}
 use Rattle.c_type_base.specs.declared.typed.StructInfo.{StructInfo}
-use Rattle.c_type_expr.specs.declared.scopes.Binding.{Binding}
 use Rattle.c_type_expr.specs.declared.scopes.Meaning.{Meaning}
-use Rattle.c_type_expr.specs.declared.scopes.Meaning.TheVariants as means
 use Rattle.c_type_expr.specs.declared.scopes.Place.TheVariants as place
-use Rattle.c_type_expr.specs.Environment.{Env, binds}
+use Rattle.c_type_expr.specs.Environment.{Env}
 use Rattle.c_type_expr.specs.Expressions.{written}
-use Rattle.c_type_expr.specs.Faults.{Rule, rule, broken, all_kept}
-use Rattle.c_type_expr.specs.Outcomes.{Outcome, Judged, behind, joined, sure, on, option_map}
+use Rattle.c_type_expr.specs.Faults.{rule}
+use Rattle.c_type_expr.specs.Outcomes.{Judged, behind, joined, sure, option_map}
 use Rattle.c_type_stmt.specs.declared.fitted.Fitted.{Fitted}
-use Rattle.c_type_stmt.specs.Declarations.{init_of, object_type, declared_type, object_rules, fits_object, initialised, is_new, local_info}
+use Rattle.c_type_stmt.specs.Declarations.{init_of, object_type, declared_type, object_rules, fits_object, initialised, is_new}
 use Rattle.c_type_stmt.specs.Declarations.{declares_local, tdecl, local}
-use Rattle.c_type_stmt.specs.Initials.{InitSaid, initialiser, tree_of}
+use Rattle.c_type_stmt.specs.Initials.{initialiser, tree_of}
 use Rattle.block_meaning.specs.ExpressionsInOrder as order
 use Rattle.block_meaning.specs.ExpressionsInOrder.{Scope}
 use Rattle.block_meaning.specs.Statements.{local_of}
 use Rattle.block_meaning.specs.StatementsInOrder.{Initialises, DeclarationInOrder}
+use Rattle.well_typed_order.specs.Standing.{MeansIn, ObjectIn, GoodIf, Good, Silent, There, Names, Stands, Holds, Part}
 use Rattle.well_typed_order.specs.Laws.Binary.{kept-first, kept-rest}
 use Rattle.well_typed_order.specs.Laws.Expressions.{written-good}
-use Rattle.well_typed_order.specs.Laws.Good.{MeansIn, ObjectIn, GoodIf, Good, Silent, good-on, good-sure, silent-on, none-is, some-is}
-use Rattle.well_typed_order.specs.Laws.Initials.{FitsIn, InitGood, initialiser-good}
-use Rattle.well_typed_order.specs.Laws.Known.{There}
-use Rattle.well_typed_order.specs.Laws.Parts.{Names, Stands, Adds, Holds, Part, Split, Perhaps, stands-behind, first-adds, second-adds}
-use Rattle.well_typed_order.specs.Laws.Parts.{first-names, second-names, first-kept, second-kept, part-on, no-names, names-both}
-use Rattle.well_typed_order.specs.Laws.Parts.{names-first}
+use Rattle.well_typed_order.specs.Laws.Good.{good-on, good-sure, silent-on, none-is}
+use Rattle.well_typed_order.specs.Laws.FirstBytes.{FitsIn}
+use Rattle.well_typed_order.specs.Laws.Initials.{initialiser-good}
+use Rattle.well_typed_order.specs.Laws.Parts.{Split, Perhaps, stands-behind, first-adds, second-adds}
+use Rattle.well_typed_order.specs.Laws.Parts.{first-names, second-names, first-kept, second-kept, no-names, names-both}
 use Rattle.well_typed_order.specs.Laws.Scopes.{HeldIn, Bounds, contains-here}
 use Rattle.well_typed_order.specs.Laws.Unary.{complete-object, each-kept}
 

@@ -1,12 +1,12 @@
 -- What names stand for is there, where the tables of a file have at each number what the name of that number is declared as.
-use Rattle.std.proofs.Common.{◌≡◌, refl, sym, ◌∙◌, ap, subst, ℕ, ◌<◌, Bool, true, false, ◌&&◌, ◌||◌, List, [], ◌∷◌, slice_get, length}
+use Rattle.std.proofs.Common.{◌≡◌, refl, sym, ◌∙◌, ap, subst, ℕ, Bool, true, false, ◌&&◌, ◌||◌, List, [], slice_get}
 use Rattle.std.proofs.Common.{Option, Some, None}
 use Rattle.std.specs.Prelude.{if◌then◌else◌}
 use Rattle.std.specs.Str.{bytes_eq}
 use Rattle.c_ast.specs.declared.program.Program.{Program}
-use Rattle.c_ast.specs.declared.int_type.IntType.TheVariants as int
 use Rattle.c_type_base.specs.Laws.Opened.{given_typed}
-use Rattle.c_type_base.specs.Types.{TyLayer, is_there, is_void, is_scalar, is_array, is_struct, is_void_level, int_of_level, target_of_level}
+use Rattle.c_type_base.specs.Types.{TyLayer, is_there, is_void, is_scalar, is_array, is_struct, is_void_level, int_of_level}
+use Rattle.c_type_base.specs.Types.{target_of_level}
 use Rattle.c_type_base.specs.Types.{element_of_level, struct_of_level}
 use Rattle.c_type_base.specs.declared.ty.Ty.{Ty, out-Ty}
 use Rattle.c_type_base.specs.declared.ty.Ty.TheOpen.{Ty-F}
@@ -18,26 +18,24 @@ use Rattle.c_type_base.specs.declared.typed.GlobalInfo.{GlobalInfo}
 use Rattle.c_type_base.specs.declared.typed.Target.TheVariants as target
 use Rattle.c_type_base.specs.declared.typed.Typed.{Typed}
 use Rattle.c_type_base.specs.declared.typed.TFunction.{TFunction}
-use Rattle.c_type_expr.specs.declared.scopes.Meaning.TheVariants as means
-use Rattle.c_type_expr.specs.declared.scopes.Place.{Place}
 use Rattle.c_type_expr.specs.declared.scopes.Place.TheVariants as place
 use Rattle.c_type_expr.specs.declared.scopes.Signature.{Signature}
 use Rattle.c_types.specs.declared.names.FileNames.{FileNames}
 use Rattle.c_types.specs.declared.redeclared.Declared.{Declared}
 use Rattle.c_types.specs.declared.redeclared.Kind.TheVariants.{AnObject, AFunction}
-use Rattle.c_types.specs.Files.{file_names, number_among, number_in, or_zero, object_place, function_callee, is_library, putchar_name}
+use Rattle.c_types.specs.Files.{file_names, number_among, number_in, or_zero, is_library, putchar_name}
 use Rattle.c_types.specs.Files.{getchar_name}
 use Rattle.c_types.specs.Redeclarations.{putchar_type, getchar_type}
 use Rattle.c_types.specs.Units.{judged}
 use Rattle.block_meaning.specs.ExpressionsInOrder as order
 use Rattle.block_meaning.specs.ExpressionsInOrder.{Scope, IsDefined, Callable, Designates, file_of, global_of}
 use Rattle.block_meaning.specs.Linkage.{function_of, function_named, extern_at, extern_in, parameter_types}
-use Rattle.well_typed_order.specs.Laws.Good.{MeansIn, ObjectIn, FunctionIn, get-within}
+use Rattle.well_typed_order.specs.Standing.{ObjectIn, TargetIn}
+use Rattle.well_typed_order.specs.Laws.Good.{get-within}
 use Rattle.well_typed_order.specs.Laws.Growth.{In}
-use Rattle.well_typed_order.specs.Laws.Known.{TargetIn, AddressIn}
 use Rattle.well_typed_order.specs.Laws.Mentions.{is_function, OneKind}
 use Rattle.well_typed_order.specs.Laws.Names.{among-externs, no-object, no-function, object-no-function, function-no-object}
-use Rattle.well_typed_order.specs.Laws.Names.{object-no-library, putchar-kind, getchar-kind, by-false}
+use Rattle.well_typed_order.specs.Laws.Names.{object-no-library, putchar-kind, getchar-kind}
 use Rattle.well_typed_order.specs.Laws.Numbers.{name-at}
 use Rattle.well_typed_order.specs.Laws.Walked.{Tables}
 
@@ -150,7 +148,8 @@ module _ (p : Program) (kept : (judged p).faults ≡ []) (s : Scope) (lookups : 
       callable_as s (callee.Extern k) e.info.params sig.params e.info.result sig.result found.1 found.2
       (order.extern e.is e.object_is e.defined)
   plain_means d sig has kind library None None is its =
-      let found = among-externs p kept d has (function-no-object p kept d has (ap is_function kind)) (no-function p kept d has is) library in
+      let found = among-externs p kept d has (function-no-object p kept d has (ap is_function kind)) (no-function p kept d has is)
+      library in
       let clash : ◌≡◌ {A = Option ℕ} None (Some found.0) = sym its ∙ found.1 in absurd cc
 
   no_library : (i put get : Bool) → (i && put) ≡ false → (i && get) ≡ false → (i && (put || get)) ≡ false

@@ -1,14 +1,13 @@
 -- The function that a name stands for has that name, in the file that defines it.
-use Rattle.std.proofs.Common.{◌≡◌, refl, sym, ◌∙◌, ap, subst, ℕ, suc, ◌+◌, arith, Bool, true, false, ◌&&◌, List, [], ◌∷◌, slice_get}
+use Rattle.std.proofs.Common.{◌≡◌, refl, subst, ℕ, suc, ◌+◌, arith, true, List, [], ◌∷◌, slice_get}
 use Rattle.std.proofs.Common.{Option, Some, None}
 use Rattle.std.specs.List.{position_from}
 use Rattle.std.specs.Str.{bytes_eq}
 use Rattle.std.proofs.lemmas.Option.{same_Some}
-use Rattle.c_type_base.specs.declared.typed.GlobalInfo.{GlobalInfo}
 use Rattle.c_type_base.specs.declared.typed.TFunction.{TFunction}
 use Rattle.c_type_base.specs.declared.typed.Typed.{Typed}
 use Rattle.block_meaning.specs.Linkage.{Definition, AnObject, AFunction, function_of, is_object_named, is_function_named, or_definition}
-use Rattle.block_meaning.specs.Linkage.{object_at, function_at, defined_in, defined_from, defined, function_in, function_named}
+use Rattle.block_meaning.specs.Linkage.{object_at, function_at, defined_in, defined_from, defined}
 use Rattle.block_meaning.specs.Running.{Function}
 use Rattle.well_typed_order.specs.Laws.Numbers.{position-place}
 use Rattle.well_typed_order.specs.Laws.Types.{and_first}

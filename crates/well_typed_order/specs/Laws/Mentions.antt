@@ -1,8 +1,8 @@
 -- Declarations of a file that breaks no rule: they are those that its text mentions, and those of one name agree.
-use Rattle.std.proofs.Common.{◌⊎◌, inl, inr, ◌≡◌, refl, sym, ◌∙◌, ap, subst, ℕ, zero, suc, Bool, true, false, ◌&&◌, List, [], ◌∷◌, ◌++◌, map}
-use Rattle.std.proofs.Common.{slice_get, length, Option, Some, None}
+use Rattle.std.proofs.Common.{◌≡◌, refl, sym, ◌∙◌, ap, subst, ℕ, zero, suc, Bool, true, false, ◌&&◌, List, [], ◌∷◌, ◌++◌, map}
+use Rattle.std.proofs.Common.{length, Option, Some, None}
 use Rattle.std.specs.Prelude.{flat_map, leb, if◌then◌else◌}
-use Rattle.std.specs.List.{list_all, list_any}
+use Rattle.std.specs.List.{list_all}
 use Rattle.std.specs.Str.{bytes_eq}
 use Rattle.std.proofs.lemmas.Option.{same_Some}
 use Rattle.c_ast.specs.declared.declaration.Decl.{Decl}
@@ -12,7 +12,7 @@ use Rattle.c_ast.specs.declared.program.Function.{Function}
 use Rattle.c_ast.specs.declared.program.External.{External}
 use Rattle.c_ast.specs.declared.program.External.TheVariants as external
 use Rattle.c_ast.specs.declared.statement.Stmt.{Stmt}
-use Rattle.c_type_base.specs.Types.{same_type, is_there}
+use Rattle.c_type_base.specs.Types.{same_type}
 use Rattle.c_type_base.specs.declared.ty.Ty.{Ty}
 use Rattle.c_type_expr.specs.declared.scopes.Signature.{Signature}
 use Rattle.c_type_expr.specs.Environment.{tag_number}
@@ -24,15 +24,15 @@ use Rattle.c_types.specs.declared.names.Mention.{Mention}
 use Rattle.c_types.specs.declared.redeclared.Declared.{Declared}
 use Rattle.c_types.specs.declared.redeclared.Kind.{Kind}
 use Rattle.c_types.specs.declared.redeclared.Kind.TheVariants.{AnObject, AFunction}
-use Rattle.c_types.specs.Files.{mentions, mentioned_object, is_extern}
+use Rattle.c_types.specs.Files.{mentions, mentioned_object}
 use Rattle.c_types.specs.Functions.{result_type, main_name, main_form, result_rules, head_rules, signature_of}
 use Rattle.c_types.specs.Redeclarations.{same_types, same_signature, same_kind, equal, agree, agrees_with_library, may_stand}
-use Rattle.c_types.specs.Units.{Judgement, with_outcome, included, with_tag, with_body, with_members, struct_judged, object_declared}
+use Rattle.c_types.specs.Units.{Judgement, with_outcome, with_tag, with_body, with_members, struct_judged, object_declared}
 use Rattle.c_types.specs.Units.{object_judged, objects_judged, extern_rules, with_function, function_declared, parameters_in, head_judged}
 use Rattle.c_types.specs.Units.{function_judged, part_judged, parts_judged}
 use Rattle.well_typed_order.specs.Laws.Binary.{kept-first}
 use Rattle.well_typed_order.specs.Laws.Good.{front, back}
-use Rattle.well_typed_order.specs.Laws.Growth.{In, Grows, grows-objects, grows-body, grows-parts}
+use Rattle.well_typed_order.specs.Laws.Growth.{In, grows-objects, grows-body, grows-parts}
 use Rattle.well_typed_order.specs.Laws.Heads.{with_parameters}
 use Rattle.well_typed_order.specs.Laws.Objects.{object_named, object_begun}
 use Rattle.c_type_base.specs.Laws.SameLaws.{one-type}
@@ -112,9 +112,11 @@ object_chain names c j d kept chain =
     let named = object_named names j d o in
     let read = with_outcome named (object_begun names j d o) in
     let may = may_stand names j.declared (object_declared c d o) in
-    let rest = rule 19 (no (bytes_eq d.name main_name)) ∷ object_rules j.env.structs o in
-    (kept-first d.span 10 may rest (back (extern_rules c (init_of d)) (broken d.span (rule 10 may ∷ rest))
-    (back read.faults (extern_rules c (init_of d) ++ broken d.span (rule 10 may ∷ rest)) kept)), chain)
+    let rest = rule 19 (no (bytes_eq d.name main_name)) ∷ object_rules j.env.structs o in (
+      kept-first d.span 10 may rest (back (extern_rules c (init_of d)) (broken d.span (rule 10 may ∷ rest))
+          (back read.faults (extern_rules c (init_of d) ++ broken d.span (rule 10 may ∷ rest)) kept)),
+      chain,
+    )
 
 objects_chain : (names : FileNames) (c : Storage) (j : Judgement) (ds : List Decl) → (objects_judged names c j ds).faults ≡ [] →
     Chain names j.declared → Chain names (objects_judged names c j ds).declared
@@ -136,9 +138,12 @@ head_chain names j f kept chain =
     let w = with_parameters j f in
     let r = (result_type f j.env).known in
     let may = may_stand names j.declared
-    (function_declared f (signature_of (result_type f j.env).known (parameters_in j f).known)) in
-    (first_rule f.span 10 may (rule 14 (leb (length f.params) 8) ∷ rule 19 (main_form f r) ∷ result_rules r) (back w.faults (broken f.span (head_form names j f))
-    (front (w.faults ++ broken f.span (head_form names j f)) [] kept)), chain)
+    (function_declared f (signature_of (result_type f j.env).known (parameters_in j f).known)) in (
+      first_rule f.span 10 may (rule 14 (leb (length f.params) 8) ∷ rule 19 (main_form f r) ∷ result_rules r) (back w.faults (broken
+          f.span (head_form names j f))
+          (front (w.faults ++ broken f.span (head_form names j f)) [] kept)),
+      chain,
+    )
 
 function_chain : (names : FileNames) (j : Judgement) (f : Function) → (function_judged names j f).faults ≡ [] →
     Chain names j.declared → Chain names (function_judged names j f).declared

@@ -1,11 +1,10 @@
 -- The names of a file that breaks no rule: what is declared has a number among those that the file defines, or among the externs.
-use Rattle.std.proofs.Common.{◌⊎◌, inl, inr, ◌≡◌, refl, sym, ◌∙◌, ap, subst, ℕ, zero, suc, Bool, true, false, ◌&&◌, ◌||◌, List, [], ◌∷◌, ◌++◌}
+use Rattle.std.proofs.Common.{◌⊎◌, inl, inr, ◌≡◌, refl, sym, ◌∙◌, ap, subst, ℕ, zero, suc, Bool, true, false, ◌&&◌, ◌||◌, List, [], ◌∷◌}
 use Rattle.std.proofs.Common.{map, slice_get, Option, Some, None}
 use Rattle.std.specs.Prelude.{flat_map, if◌then◌else◌}
-use Rattle.std.specs.List.{filter, list_any, position_from}
+use Rattle.std.specs.List.{filter, list_any}
 use Rattle.std.specs.Str.{bytes_eq}
 use Rattle.c_ast.specs.declared.program.Program.{Program}
-use Rattle.c_type_base.specs.declared.ty.Ty.{Ty}
 use Rattle.c_type_expr.specs.declared.scopes.Signature.{Signature}
 use Rattle.c_type_stmt.specs.Declarations.{no, eof_name}
 use Rattle.c_types.specs.declared.names.FileNames.{FileNames}
@@ -13,15 +12,15 @@ use Rattle.c_types.specs.declared.names.Mention.{Mention}
 use Rattle.c_types.specs.declared.redeclared.Declared.{Declared}
 use Rattle.c_types.specs.declared.redeclared.Kind.{Kind}
 use Rattle.c_types.specs.declared.redeclared.Kind.TheVariants.{AnObject, AFunction}
-use Rattle.c_types.specs.Files.{mentions, is_include, once, is_library, defined_as, name_in, names_by, file_names, number_among}
+use Rattle.c_types.specs.Files.{mentions, once, is_library, defined_as, name_in, file_names, number_among}
 use Rattle.c_types.specs.Files.{putchar_name, getchar_name}
-use Rattle.c_types.specs.Redeclarations.{same_kind, equal, agree, library, putchar_type, getchar_type, agrees_with_library}
-use Rattle.c_types.specs.Units.{Judgement, start, judged, parts_judged}
+use Rattle.c_types.specs.Redeclarations.{same_kind, equal, agree, library, putchar_type, getchar_type}
+use Rattle.c_types.specs.Units.{start, judged}
 use Rattle.well_typed_order.specs.Laws.Growth.{In}
 use Rattle.well_typed_order.specs.Laws.Mentions.{is_function, mention_of, onto, parts-mentions, Chain, parts-chain, OneKind, one-kind}
-use Rattle.well_typed_order.specs.Laws.Mentions.{one-signature, chain-kind, chain-library}
-use Rattle.well_typed_order.specs.Laws.Numbers.{eq-name, name-eq, Passes, filter-passes, passes-filter, any-passes, in-once, onto-in}
-use Rattle.well_typed_order.specs.Laws.Numbers.{passes-position, name-at, in-onto, in-map, map-in}
+use Rattle.well_typed_order.specs.Laws.Mentions.{chain-kind, chain-library}
+use Rattle.well_typed_order.specs.Laws.Numbers.{eq-name, name-eq, filter-passes, passes-filter, any-passes, in-once, onto-in}
+use Rattle.well_typed_order.specs.Laws.Numbers.{passes-position, in-onto, in-map, map-in}
 
 -- ---- booleans
 
@@ -163,7 +162,8 @@ module _ (p : Program) (kept : (judged p).faults ≡ []) where
   no_definition function list same d has none = by-false (defined_as function ms d.name) (λ defined.
       let named = in-once [] (map name_in ms) d.name (in-map name_in ms (mention_of d) (declared-mention d has)) refl in
       let among = passes-filter (defined_as function ms) (once [] (map name_in ms)) d.name named defined in
-      let place = passes-position (bytes_eq d.name) 0 list d.name (subst (λ l. In l d.name) (sym same) among) (name-eq d.name d.name refl) in
+      let place = passes-position (bytes_eq d.name) 0 list d.name (subst (λ l. In l d.name) (sym same) among) (name-eq d.name d.name
+      refl) in
       let clash : ◌≡◌ {A = Option ℕ} None (Some place.0) = sym none ∙ place.1 in absurd cc)
 
   pub no-object : (d : Declared) → In ds d → number_among names.globals d.name ≡ None → defined_as false ms d.name ≡ false

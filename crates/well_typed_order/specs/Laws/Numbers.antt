@@ -1,7 +1,7 @@
 -- Numbers of names: what stands at them in lists that are in the order of names.
 use Rattle.std.proofs.Common.{◌⊎◌, inl, inr, ◌≡◌, refl, sym, ◌∙◌, ap, subst, ℕ, zero, suc, ◌+◌, arith, Bool, true, false, ◌||◌, List, []}
-use Rattle.std.proofs.Common.{◌∷◌, ◌++◌, map, slice_get, Option, Some, None}
-use Rattle.std.specs.Prelude.{flat_map, cond, if◌then◌else◌}
+use Rattle.std.proofs.Common.{◌∷◌, ◌++◌, map, slice_get, Option, Some}
+use Rattle.std.specs.Prelude.{cond, if◌then◌else◌}
 use Rattle.std.specs.List.{filter, find, list_any, position_from}
 use Rattle.std.specs.Str.{bytes_eq}
 use Rattle.std.proofs.lemmas.Option.{same_Some}
@@ -61,7 +61,8 @@ pub record Place {A : Type 0} (test : A → Bool) (from : ℕ) (xs : List A) (k 
   pub passes : test element ≡ true
 
 place_one : {A : Type 0} (test : A → Bool) (from : ℕ) (y : A) (xs : List A) (b : Bool) → test y ≡ b → (k : ℕ) →
-    cond b (Some from) (position_from test (from + 1) xs) ≡ Some k → (position_from test (from + 1) xs ≡ Some k → Place test (from + 1) xs k) →
+    cond b (Some from) (position_from test (from + 1) xs) ≡ Some k → (position_from test (from + 1) xs ≡ Some k →
+    Place test (from + 1) xs k) →
     Place test from (y ∷ xs) k
 place_one test from y xs true is k same rest =
     let one : from ≡ k = same_Some from k same in

@@ -1,16 +1,14 @@
 -- Objects at file scope that keep all rules: their types are known, and the addresses that they begin with are there.
-use Rattle.std.proofs.Common.{◌≡◌, refl, sym, ◌∙◌, ap, subst, ℕ, Bool, true, false, List, [], ◌∷◌, ◌++◌, Option, Some, None}
-use Rattle.std.specs.Prelude.{leb, if◌then◌else◌}
+use Rattle.std.proofs.Common.{◌≡◌, refl, true, [], ◌∷◌, ◌++◌, Option, Some, None}
+use Rattle.std.specs.Prelude.{leb}
 use Rattle.std.specs.List.{AllByRecursion}
 use Rattle.std.specs.Str.{bytes_eq}
 use Rattle.c_ast.specs.declared.declaration.Decl.{Decl}
 use Rattle.c_ast.specs.declared.declaration.Storage.{Storage}
 use Rattle.c_type_base.specs.Sizes.{size, is_complete, largest}
 use Rattle.c_type_base.specs.declared.ty.Ty.{Ty}
-use Rattle.c_type_base.specs.declared.typed.InitPiece.{InitPiece}
-use Rattle.c_type_expr.specs.declared.scopes.Binding.{Binding}
 use Rattle.c_type_expr.specs.declared.scopes.Meaning.TheVariants as means
-use Rattle.c_type_expr.specs.Environment.{Env, binds}
+use Rattle.c_type_expr.specs.Environment.{binds}
 use Rattle.c_type_expr.specs.Faults.{rule, broken}
 use Rattle.c_type_expr.specs.Outcomes.{Outcome}
 use Rattle.c_type_stmt.specs.Declarations.{no, init_of, declared_type, object_rules, initialised}
@@ -19,13 +17,14 @@ use Rattle.c_types.specs.Files.{object_place}
 use Rattle.c_types.specs.declared.names.FileNames.{FileNames}
 use Rattle.c_types.specs.Functions.{main_name}
 use Rattle.c_types.specs.Redeclarations.{may_stand}
-use Rattle.c_types.specs.Units.{Judgement, with_outcome, with_names, with_faults, extern_rules, pieces_in, global_of, object_declared, object_judged}
+use Rattle.c_types.specs.Units.{Judgement, with_outcome, with_names, with_faults, extern_rules, pieces_in, global_of, object_declared}
+use Rattle.c_types.specs.Units.{object_judged}
 use Rattle.block_meaning.specs.ExpressionsInOrder.{Scope}
+use Rattle.well_typed_order.specs.Standing.{MeansIn, TextsIn, There}
 use Rattle.well_typed_order.specs.Laws.Binary.{kept-first, kept-rest}
-use Rattle.well_typed_order.specs.Laws.Good.{MeansIn, TextsIn, front, back, texts-front, none-is}
-use Rattle.well_typed_order.specs.Laws.Initials.{FitsIn, PieceIn}
+use Rattle.well_typed_order.specs.Laws.Good.{front, back, texts-front, none-is}
+use Rattle.well_typed_order.specs.Laws.FirstBytes.{FitsIn, PieceIn}
 use Rattle.well_typed_order.specs.Laws.Judged.{At, env-like, at-outcome, at-names, at-good}
-use Rattle.well_typed_order.specs.Laws.Known.{There}
 use Rattle.well_typed_order.specs.Laws.Locals.{declared-good, initialised-good, initialised-silent}
 use Rattle.well_typed_order.specs.Laws.Parts.{Perhaps, no-names}
 

@@ -1,36 +1,32 @@
 -- Parameters that keep all rules: their types are known, and their names mean what is there.
-use Rattle.std.proofs.Common.{◌≡◌, refl, sym, ◌∙◌, ap, subst, ℕ, suc, ◌+◌, ◌<◌, ◌≤◌, arith, Bool, true, false, List, [], ◌∷◌, ◌++◌, length}
+use Rattle.std.proofs.Common.{◌≡◌, refl, sym, ◌∙◌, ap, subst, ℕ, suc, ◌+◌, ◌<◌, ◌≤◌, arith, Bool, List, [], ◌∷◌, ◌++◌, length}
 use Rattle.std.proofs.Common.{map, slice_get, Option, Some, None}
 use Rattle.std.specs.Prelude.{leb, if◌then◌else◌}
-use Rattle.std.specs.List.{AllByRecursion, Contains}
+use Rattle.std.specs.List.{Contains}
 use Rattle.c_ast.specs.declared.declaration.Decl.{Decl}
-use Rattle.c_type_base.specs.Laws.Opened.{given_typed}
 use Rattle.c_type_base.specs.Sizes.{size, is_complete, largest}
 use Rattle.c_type_base.specs.Types.{is_scalar}
 use Rattle.c_type_base.specs.declared.ty.Ty.{Ty}
 use Rattle.c_type_base.specs.declared.known.Written.{Written}
 use Rattle.c_type_base.specs.declared.typed.LocalInfo.{LocalInfo}
-use Rattle.c_type_base.specs.declared.typed.StructInfo.{StructInfo}
-use Rattle.c_type_expr.specs.declared.scopes.Place.TheVariants as place
 use Rattle.c_type_expr.specs.Environment.{Env}
 use Rattle.c_type_expr.specs.Expressions.{written}
-use Rattle.c_type_expr.specs.Faults.{rule, broken}
+use Rattle.c_type_expr.specs.Faults.{rule}
 use Rattle.c_type_expr.specs.Outcomes.{Outcome, behind, joined, listed, each}
-use Rattle.c_types.specs.Functions.{adjusted, counted, parameter_rules, adjusted_in, is_new_parameter, declares_parameter, parameter}
+use Rattle.c_types.specs.Functions.{adjusted, counted, parameter_rules, is_new_parameter, declares_parameter, parameter}
 use Rattle.c_types.specs.Laws.QuietLaws.{written_quiet}
-use Rattle.block_meaning.specs.ExpressionsInOrder as order
 use Rattle.block_meaning.specs.ExpressionsInOrder.{Scope}
 use Rattle.block_meaning.specs.Linkage.{type_of_local}
+use Rattle.well_typed_order.specs.Standing.{MeansIn, EnvIn, There, Names, Adds}
 use Rattle.well_typed_order.specs.Laws.Binary.{kept-first, kept-rest}
 use Rattle.well_typed_order.specs.Laws.Expressions.{written-good}
-use Rattle.well_typed_order.specs.Laws.Good.{MeansIn, ObjectIn, EnvIn, TextsIn, none-is}
+use Rattle.well_typed_order.specs.Laws.Good.{none-is}
 use Rattle.well_typed_order.specs.Laws.Judged.{length-both}
-use Rattle.well_typed_order.specs.Laws.Known.{There}
 use Rattle.well_typed_order.specs.Laws.Locals.{object-there}
-use Rattle.well_typed_order.specs.Laws.Parts.{Names, Adds, Split, env-named, no-names, any-names, names-both, first-adds, second-adds}
+use Rattle.well_typed_order.specs.Laws.Parts.{Split, env-named, no-names, any-names, names-both, first-adds, second-adds}
 use Rattle.well_typed_order.specs.Laws.Parts.{first-kept, second-kept}
 use Rattle.well_typed_order.specs.Laws.Scopes.{Anything}
-use Rattle.well_typed_order.specs.Laws.Unary.{complete-object, each-kept}
+use Rattle.well_typed_order.specs.Laws.Unary.{each-kept}
 
 -- locals with numbers below a bound are in scope
 abbrev pub Below : Scope → ℕ → Type 0
@@ -85,7 +81,8 @@ module _ (s : Scope) (limit : ℕ) (below : Below s limit) where
         info = info;
         locals_are = ap (λ ls. ls ++ info ∷ []) (written_quiet d.ty d.span env);
         known = subst (λ b. There (if b then Some t else None) (λ u. u ≡ t)) (sym (each-kept d.span rules own)) refl;
-        names = names-both (MeansIn s) b.names w.names (object, tt) (no-names (MeansIn s) w.names ((written-good s d.ty d.span).silent env));
+        names = names-both (MeansIn s) b.names w.names (object, tt) (no-names (MeansIn s) w.names ((written-good s d.ty d.span).silent
+            env));
       }
 
   -- a parameter without a fault

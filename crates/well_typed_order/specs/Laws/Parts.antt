@@ -1,48 +1,20 @@
 -- Parts of functions, which may declare locals: what is known of one that breaks no rule has a property, and the names that it adds mean
 -- what is there.
-use Rattle.std.proofs.Common.{◌≡◌, refl, sym, ◌∙◌, ap, subst, ℕ, zero, suc, ◌+◌, arith, Bool, true, false, List, [], ◌∷◌, ◌++◌, length}
+use Rattle.std.proofs.Common.{◌≡◌, refl, sym, ◌∙◌, ap, subst, ℕ, ◌+◌, arith, Bool, true, false, List, [], ◌∷◌, ◌++◌, length}
 use Rattle.std.proofs.Common.{slice_get, Option, Some, None}
 use Rattle.std.specs.Prelude.{if◌then◌else◌}
-use Rattle.std.specs.List.{AllByRecursion, find}
+use Rattle.std.specs.List.{AllByRecursion}
 use Rattle.std.specs.Str.{bytes_eq}
 use Rattle.std.proofs.lemmas.Option.{same_Some}
-use Rattle.c_type_base.specs.Types.{is_void}
 use Rattle.c_type_base.specs.declared.typed.LocalInfo.{LocalInfo}
 use Rattle.c_type_expr.specs.declared.scopes.Binding.{Binding}
 use Rattle.c_type_expr.specs.declared.scopes.Meaning.{Meaning}
 use Rattle.c_type_expr.specs.Environment.{Env, in_scope, in_scopes, or_else, with_innermost}
-use Rattle.c_type_expr.specs.Outcomes.{Outcome, Judged, behind, sure, pair, both, listed, each, present, perhaps, continued, on}
+use Rattle.c_type_expr.specs.Outcomes.{Outcome, Judged, behind, sure, both, each, present, perhaps, continued, on}
 use Rattle.block_meaning.specs.ExpressionsInOrder.{Scope}
-use Rattle.well_typed_order.specs.Laws.Known.{There}
-use Rattle.well_typed_order.specs.Laws.Postfix.{TableIn}
-use Rattle.well_typed_order.specs.Laws.Good.{MeansIn, EnvIn, TextsIn, Good, Pair, front, back, get-front, get-back, texts-front, texts-back}
+use Rattle.well_typed_order.specs.Standing.{There, MeansIn, EnvIn, TextsIn, Good, LocalsIn, Adds, Names, Stands, Holds, Part}
+use Rattle.well_typed_order.specs.Laws.Good.{Pair, front, back, get-front, get-back, texts-front, texts-back}
 use Rattle.well_typed_order.specs.Laws.Good.{some-is, none-is, pair-holds, listed-holds}
-
--- these locals are those of the function from a number on
-abbrev pub LocalsIn : Scope → ℕ → List LocalInfo → Type 0
-LocalsIn s from locals = (k : ℕ) (l : LocalInfo) → slice_get locals k ≡ Some l → slice_get s.function.locals (from + k) ≡ Some l
-
--- the texts and locals of a part are those of the file and of the function
-pub record Adds {A : Type 0} (s : Scope) (env : Env) (o : Outcome A) : Type 0 where
-  pub texts : TextsIn s env.texts o.texts
-  pub locals : LocalsIn s env.locals o.locals
-
--- what names stand for has a property
-abbrev pub Names : (Meaning → Type 0) → List Binding → Type 0
-Names G names = AllByRecursion (λ (b : Binding). G b.means) names
-
--- a part of the function stands there
-pub record Stands (env : Env) (s : Scope) : Type 0 where
-  pub here : EnvIn env s
-  pub result : env.result ≡ Some s.function.result
-
-pub record Holds {A : Type 0} (s : Scope) (P : A → Type 0) (o : Outcome A) : Type 0 where
-  pub known : There o.known P
-  pub names : Names (MeansIn s) o.names
-
--- where a part breaks no rule, and what its names stand for has a property, it is known, and the names mean what is there
-pub record Part {A : Type 0} (s : Scope) (G : Meaning → Type 0) (P : A → Type 0) (p : Judged A) : Type 0 where
-  pub holds : (env : Env) → Stands env s → Names G (p env).names → Adds s env (p env) → (p env).faults ≡ [] → Holds s P (p env)
 
 -- ---- names
 
@@ -84,7 +56,8 @@ pub no-scope : (names : List Binding) → names ++ [] ≡ names
 no-scope [] = refl
 no-scope (x ∷ names) = ap (λ l. x ∷ l) (no-scope names)
 
-pub found-names : (G : Meaning → Type 0) (name : List ℕ) (names : List Binding) (scopes : List (List Binding)) (b : Binding) → Names G names →
+pub found-names : (G : Meaning → Type 0) (name : List ℕ) (names : List Binding) (scopes : List (List Binding)) (b : Binding) →
+    Names G names →
     ((b : Binding) → in_scopes name scopes ≡ Some b → G b.means) → in_scopes name (with_innermost names scopes) ≡ Some b → G b.means
 found-names G name names [] b all old is =
     found_first G name names [] None b all (λ b none. absurd cc)

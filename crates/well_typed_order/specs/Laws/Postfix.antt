@@ -6,7 +6,6 @@ use Rattle.std.specs.List.{AllByRecursion}
 use Rattle.std.proofs.lemmas.Bool.{eqb-true}
 use Rattle.c_ast.specs.declared.token.Span.{Span}
 use Rattle.c_type_base.specs.Laws.Opened.{given_typed}
-use Rattle.c_type_base.specs.Laws.GrowthLaws.{Extends}
 use Rattle.c_type_base.specs.Laws.SizeLaws.{complete-struct}
 use Rattle.c_type_base.specs.declared.ty.Ty.{Ty, out-Ty}
 use Rattle.c_type_base.specs.declared.ty.Ty.TheVariants as ty
@@ -28,25 +27,18 @@ use Rattle.c_type_expr.specs.declared.scopes.Signature.{Signature}
 use Rattle.c_type_expr.specs.Environment.{Env}
 use Rattle.c_type_expr.specs.Faults.{rule}
 use Rattle.c_type_expr.specs.Operators.{Sort, Integer, Points, sort_of}
-use Rattle.c_type_expr.specs.Postfix.{index_fixed_by, element, index_row, member_fixed, member_number, member_at, member_known, member_found, member_in, member_row}
+use Rattle.c_type_expr.specs.Postfix.{index_fixed_by, element, index_row, member_fixed, member_number, member_at, member_known}
+use Rattle.c_type_expr.specs.Postfix.{member_found, member_in, member_row}
 use Rattle.c_type_expr.specs.Postfix.{arrow_known, arrow_found, arrow_in, struct_pointed, arrow_row, passed, all_assignable, all_values}
 use Rattle.c_type_expr.specs.Postfix.{call_made}
 use Rattle.c_type_expr.specs.Postfix.{call_known}
 use Rattle.block_meaning.specs.ExpressionsInOrder as order
 use Rattle.block_meaning.specs.ExpressionsInOrder.{Scope, HasValue, Designates, HasMember, Arguments, Callable}
-use Rattle.block_meaning.specs.Linkage.{structs_of}
+use Rattle.well_typed_order.specs.Standing.{FixedIn, KnownIn, ValueIn, TableIn}
 use Rattle.well_typed_order.specs.Laws.Binary.{Keeps, moved-fixed, kept-first, kept-rest, sort-integer, sort-target}
-use Rattle.well_typed_order.specs.Laws.Known.{FixedIn, KnownIn, ValueIn, known_by, assignable-in}
+use Rattle.well_typed_order.specs.Laws.Known.{known_by, assignable-in}
 use Rattle.well_typed_order.specs.Laws.Types.{and_first, and_second}
 use Rattle.well_typed_order.specs.Laws.Unary.{lvalue-in, complete-object}
-
--- the structs that are declared so far are those of the file, and their members are objects
-pub record TableIn (env : Env) (s : Scope) : Type 0 where
-  pub extends : Extends env.structs (structs_of s.program.units s.unit)
-  pub objects : (number k : ℕ) (m : MemberInfo) → slice_get (members_of (slice_get (structs_of s.program.units s.unit) number)) k ≡ Some m →
-      is_void m.ty ≡ false
-  pub complete : (number k : ℕ) (m : MemberInfo) → slice_get (members_of (slice_get env.structs number)) k ≡ Some m →
-      is_complete env.structs m.ty ≡ true
 
 -- ---- elements
 
@@ -60,7 +52,8 @@ index_fixed_in s bytes p i fixed = by_path p.path
 element_in : {s : Scope} (span : Span) (n : TNode) (p i : Known) (t : Ty) (env : Env) → FixedIn s p.fixed → Designates s t (out-TNode n) →
     Keeps s (element span n p i t env)
 element_in {s = s} span n p i t env fixed place kept =
-    lvalue-in _ refl refl (index_fixed_in s (size env.structs t) p i fixed) place (complete-object env.structs t (kept-first span 15 (is_complete env.structs t) [] kept))
+    lvalue-in _ refl refl (index_fixed_in s (size env.structs t) p i fixed) place (complete-object env.structs t (kept-first span 15
+    (is_complete env.structs t) [] kept))
 
 pub index-in : {s : Scope} (span : Span) (a i : Known) (env : Env) → ValueIn s a → ValueIn s i → (x y : Sort) → sort_of a ≡ x →
     sort_of i ≡ y → Keeps s (index_row span a i x y env)

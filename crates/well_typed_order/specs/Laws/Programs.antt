@@ -1,18 +1,16 @@
 -- A program of well-typed files is in order, and has a meaning.
-use Rattle.std.proofs.Common.{◌≡◌, refl, sym, ◌∙◌, ap, subst, ℕ, zero, suc, ◌+◌, ◌<◌, arith, Bool, true, false, ◌&&◌, List, [], ◌∷◌, ◌++◌}
+use Rattle.std.proofs.Common.{◌≡◌, refl, sym, ◌∙◌, ap, subst, ℕ, zero, suc, ◌+◌, ◌<◌, arith, true, false, ◌&&◌, List, [], ◌∷◌, ◌++◌}
 use Rattle.std.proofs.Common.{map, slice_get, length}
 use Rattle.std.proofs.Common.{codes, Option, Some, None}
-use Rattle.std.specs.List.{All, AllByRecursion}
+use Rattle.std.specs.List.{AllByRecursion}
 use Rattle.std.specs.Str.{bytes_eq}
 use Rattle.std.specs.List.{position_from}
 use Rattle.std.specs.Prelude.{flat_map}
 use Rattle.std.proofs.lemmas.Option.{same_Some}
 use Rattle.c_ast.specs.declared.program.Program.{Program}
-use Rattle.c_type_base.specs.Layout.{LaidOut}
 use Rattle.c_type_base.specs.declared.ty.Ty.TheVariants as ty
 use Rattle.c_type_base.specs.declared.typed.ExternInfo.{ExternInfo}
 use Rattle.c_type_base.specs.declared.typed.GlobalInfo.{GlobalInfo}
-use Rattle.c_type_base.specs.declared.typed.InitPiece.{InitPiece}
 use Rattle.c_type_base.specs.declared.typed.InitValue.{InitValue}
 use Rattle.c_type_base.specs.declared.typed.InitValue.TheVariants as initial
 use Rattle.c_type_base.specs.declared.typed.TFunction.{TFunction}
@@ -20,33 +18,30 @@ use Rattle.c_type_base.specs.declared.typed.Typed.{Typed}
 use Rattle.c_types.specs.Files.{file_names}
 use Rattle.c_types.specs.Functions.{main_name}
 use Rattle.c_types.specs.Laws.PromiseLaws.{typed-laid_out}
-use Rattle.c_types.specs.Units.{Judgement, judged, typed_by}
-use Rattle.c_types.specs.WellTyped.{WellTyped}
-use Rattle.block_meaning.specs.ExpressionsInOrder.{Scope, IsDefined, file_of}
+use Rattle.c_types.specs.Units.{judged}
+use Rattle.block_meaning.specs.ExpressionsInOrder.{Scope, IsDefined}
 use Rattle.block_meaning.specs.Linkage.{Definition, AnObject, is_object_named, is_function_named, or_definition, object_at, function_at}
 use Rattle.block_meaning.specs.Linkage.{defined_in, defined_from, extern_in, function_in}
-use Rattle.block_meaning.specs.Meaning.{frame_in, frame_bytes}
-use Rattle.block_meaning.specs.ProgramsInOrder.{FunctionInOrder, InitInOrder, PieceInOrder, ObjectInOrder, FileInOrder, MainInOrder}
+use Rattle.block_meaning.specs.Meaning.{frame_in}
+use Rattle.block_meaning.specs.ProgramsInOrder.{InitInOrder, PieceInOrder, ObjectInOrder, FileInOrder, MainInOrder}
 use Rattle.block_meaning.specs.ProgramsInOrder.{HasFrame, InOrder}
 use Rattle.block_meaning.specs.Running as running
 use Rattle.block_meaning.specs.Laws.Progress.Meaning.{HasMeaning, has_meaning}
 use Rattle.block_meaning.specs.Running.{Function}
-use Rattle.well_typed_order.specs.Bodied.{Bodied}
-use Rattle.well_typed_order.specs.Links.{UsedLinked, Links, Framed}
 use Rattle.well_typed_order.specs.WellTypedPrograms.{FileOf, WellTypedProgram}
+use Rattle.well_typed_order.specs.Standing.{TargetIn}
 use Rattle.well_typed_order.specs.Laws.FileTables.{by-names-in, file-lookups}
 use Rattle.well_typed_order.specs.Laws.Files.{file-walked}
 use Rattle.well_typed_order.specs.Laws.Good.{get-front, get-within}
 use Rattle.well_typed_order.specs.Laws.Growth.{In}
-use Rattle.well_typed_order.specs.Laws.Initials.{InitialIn, PieceIn}
-use Rattle.well_typed_order.specs.Laws.Known.{TargetIn}
-use Rattle.well_typed_order.specs.Laws.Mains.{NamedFunction, named-function}
+use Rattle.well_typed_order.specs.Laws.FirstBytes.{InitialIn, PieceIn}
+use Rattle.well_typed_order.specs.Laws.Mains.{named-function}
 use Rattle.well_typed_order.specs.Laws.Numbers.{name-eq, in-map, passes-position}
 use Rattle.well_typed_order.specs.Laws.Relinked.{function-moves}
 use Rattle.well_typed_order.specs.Laws.Scopes.{outside}
 use Rattle.well_typed_order.specs.Laws.Walk.{in-front, in-back}
 use Rattle.well_typed_order.specs.Laws.StatementRows.{all-of}
-use Rattle.well_typed_order.specs.Laws.Walked.{Walked, GlobalFine, FunctionFine}
+use Rattle.well_typed_order.specs.Laws.Walked.{Walked, FunctionFine}
 
 each_in : {A : Type 0} (P : A → Type 0) (xs : List A) → ((x : A) → In xs x → P x) → AllByRecursion P xs
 each_in P [] all = tt

@@ -1,31 +1,30 @@
 -- What is in order in one program is so in another that has the same file, where the externs that it uses are defined there.
-use Rattle.std.proofs.Common.{◌≡◌, refl, sym, ◌∙◌, ap, subst, ℕ, zero, suc, ◌<◌, arith, Bool, true, List, [], ◌∷◌, ◌++◌, map, slice_get}
-use Rattle.std.proofs.Common.{length, Option, Some, None}
+use Rattle.std.proofs.Common.{◌≡◌, refl, sym, ◌∙◌, ap, subst, ℕ, zero, suc, arith, List, [], ◌∷◌, ◌++◌, map, slice_get}
+use Rattle.std.proofs.Common.{Option, Some, None}
 use Rattle.std.specs.Prelude.{IfSome}
-use Rattle.std.specs.List.{All, slice_index_or}
+use Rattle.std.specs.List.{All}
 use Rattle.c_type_base.specs.Layout.{members_of}
 use Rattle.c_type_base.specs.Types.{is_void}
 use Rattle.c_type_base.specs.declared.ty.Ty.{Ty}
 use Rattle.c_type_base.specs.declared.expr.Callee.{Callee}
 use Rattle.c_type_base.specs.declared.expr.TExpr.{TExpr}
-use Rattle.c_type_base.specs.declared.expr.TNode.{out-TNode}
 use Rattle.c_type_base.specs.declared.expr.TNode.TheOpen.{TNode-F}
 use Rattle.c_type_base.specs.declared.statement.TDecl.{TDecl}
 use Rattle.c_type_base.specs.declared.statement.TInit.{TInit, out-TInit}
 use Rattle.c_type_base.specs.declared.statement.TInit.TheOpen.{TInit-F}
-use Rattle.c_type_base.specs.declared.statement.TItem.{TItem, out-TItem}
-use Rattle.c_type_base.specs.declared.statement.TStmt.{TStmt, out-TStmt}
+use Rattle.c_type_base.specs.declared.statement.TItem.{TItem}
+use Rattle.c_type_base.specs.declared.statement.TStmt.{out-TStmt}
 use Rattle.c_type_base.specs.declared.typed.ExternInfo.{ExternInfo}
 use Rattle.c_type_base.specs.declared.typed.MemberInfo.{MemberInfo}
-use Rattle.c_type_base.specs.declared.typed.StructInfo.{StructInfo}
 use Rattle.c_type_base.specs.declared.typed.TFunction.{TFunction}
 use Rattle.block_meaning.specs.Expressions.{NodeLayer}
 use Rattle.block_meaning.specs.ExpressionsInOrder as order
-use Rattle.block_meaning.specs.ExpressionsInOrder.{Scope, within, HasValue, Designates, Arguments, HasMember, Callable, IsDefined, global_of}
+use Rattle.block_meaning.specs.ExpressionsInOrder.{Scope, within, HasValue, Designates, Arguments, HasMember, Callable, IsDefined}
+use Rattle.block_meaning.specs.ExpressionsInOrder.{global_of}
 use Rattle.block_meaning.specs.ExpressionsInOrder.{ValueInOrder, ConditionInOrder}
-use Rattle.block_meaning.specs.Linkage.{extern_in, extern_at, function_in, structs_in, structs_of}
+use Rattle.block_meaning.specs.Linkage.{extern_in, extern_at, function_in, structs_in}
 use Rattle.block_meaning.specs.Locals.{text_of}
-use Rattle.block_meaning.specs.ProgramsInOrder.{FunctionInOrder, body_scope}
+use Rattle.block_meaning.specs.ProgramsInOrder.{FunctionInOrder}
 use Rattle.block_meaning.specs.Running.{Program}
 use Rattle.block_meaning.specs.Statements.{StmtLayer, ItemLayer, local_of, declared}
 use Rattle.block_meaning.specs.StatementsInOrder as statements
@@ -83,7 +82,8 @@ module _ (old new : Program) (unit : ℕ) (same : slice_get old.units unit ≡ s
       value_moves (order.cast_to_void e is) linked = order.cast_to_void (value_moves e (λ k u. linked k (uses.cast u))) is
       value_moves order.size_of linked = order.size_of
       value_moves order.size_of_type linked = order.size_of_type
-      value_moves (order.call {f = g} {es = es} {ts = ts} {t = t} callable arguments) linked = order.call (callable_moves g es ts t callable linked)
+      value_moves (order.call {f = g} {es = es} {ts = ts} {t = t} callable arguments) linked = order.call (callable_moves g es ts t
+          callable linked)
           (arguments_move arguments (λ k u. linked k (uses.argument u)))
       value_moves (order.step e is) linked = order.step (place_moves e (λ k u. linked k (uses.step u))) is
       value_moves (order.read e is) linked = order.read (place_moves e (λ k u. linked k (uses.read u))) is

@@ -1,6 +1,6 @@
 -- Scopes with more or fewer locals: names that mean what is there still do where the locals among them are in scope.
-use Rattle.std.proofs.Common.{◌≡◌, refl, sym, ap, subst, ℕ, zero, suc, ◌+◌, ◌<◌, arith, List, [], ◌∷◌, ◌++◌, length, slice_get, Option, Some, None, true}
-use Rattle.std.specs.List.{Contains, slice_index_or}
+use Rattle.std.proofs.Common.{◌≡◌, refl, sym, subst, ℕ, zero, suc, ◌+◌, arith, List, [], ◌∷◌, ◌++◌, slice_get, Option, Some, None, true}
+use Rattle.std.specs.List.{Contains}
 use Rattle.c_type_base.specs.Laws.Opened.{given_typed}
 use Rattle.c_type_base.specs.declared.ty.Ty.{Ty}
 use Rattle.c_type_base.specs.declared.expr.Callee.{Callee}
@@ -19,8 +19,7 @@ use Rattle.block_meaning.specs.ExpressionsInOrder as order
 use Rattle.block_meaning.specs.ExpressionsInOrder.{Scope, Designates, Callable}
 use Rattle.block_meaning.specs.ProgramsInOrder.{numbered}
 use Rattle.block_meaning.specs.Running.{Program}
-use Rattle.well_typed_order.specs.Laws.Good.{MeansIn, ObjectIn, FunctionIn, EnvIn}
-use Rattle.well_typed_order.specs.Laws.Parts.{Stands}
+use Rattle.well_typed_order.specs.Standing.{MeansIn, EnvIn, Stands}
 
 -- ---- outside functions
 

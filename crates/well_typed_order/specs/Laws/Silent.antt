@@ -21,7 +21,7 @@ use Rattle.c_type_expr.specs.Operators.{logical}
 use Rattle.c_type_expr.specs.Operators.{binary_judged, signed_row, not_row, arms_of_void, arms, cond_row, cond_judged}
 use Rattle.c_type_expr.specs.Postfix.{index_row, member_found, member_in, member_row, arrow_found, arrow_in, arrow_row}
 use Rattle.c_type_expr.specs.Said.{name_row, pointer_to, array_of, tag_of, whole}
-use Rattle.well_typed_order.specs.Laws.Good.{Silent}
+use Rattle.well_typed_order.specs.Standing.{Silent}
 
 module _ (span : Span) where
   arithmetic_silent : (o : BinaryOperator) (a b : Known) (x y : Sort) → Silent (arithmetic o span a b x y)

@@ -1,56 +1,41 @@
 -- What each statement is in order by: the rules that its parts keep.
-use Rattle.std.proofs.Common.{◌≡◌, refl, sym, ◌∙◌, ap, subst, ℕ, zero, suc, ◌<◌, arith, Bool, true, false, ◌&&◌, List, [], ◌∷◌, ◌++◌, length}
+use Rattle.std.proofs.Common.{◌≡◌, refl, sym, ◌∙◌, subst, zero, suc, arith, true, ◌&&◌, List, [], ◌∷◌}
 use Rattle.std.proofs.Common.{map, Option, Some, None}
 use Rattle.std.specs.Prelude.{IfSome, if◌then◌else◌}
-use Rattle.std.specs.List.{All, AllByRecursion, Contains}
+use Rattle.std.specs.List.{All, AllByRecursion}
 use Rattle.std.proofs.lemmas.Option.{same_Some}
-use Rattle.c_ast.specs.Laws.Opened.{given_trees}
-use Rattle.c_ast.specs.Tree.{StmtLayer, ItemLayer}
 use Rattle.c_ast.specs.declared.token.Span.{Span}
 use Rattle.c_ast.specs.declared.expr.Expr.{Expr}
 use Rattle.c_ast.specs.declared.declaration.Decl.{Decl}
-use Rattle.c_ast.specs.declared.statement.Stmt.{Stmt, roll-Stmt, map-Stmt}
-use Rattle.c_ast.specs.declared.statement.Item.{Item, roll-Item, map-Item}
-use Rattle.c_ast.specs.declared.statement.Item.TheOpen.{Item-F, Stmt-F}
-use Rattle.c_ast.specs.declared.statement.Item.TheFolds.{ind-Item, ind-Stmt, fold-roll-Item, fold-roll-Stmt}
-use Rattle.c_type_base.specs.Laws.Opened.{given_typed}
 use Rattle.c_type_base.specs.Known.{converted, assignable}
 use Rattle.c_type_base.specs.Types.{is_scalar, is_void}
 use Rattle.c_type_base.specs.declared.ty.Ty.{Ty}
 use Rattle.c_type_base.specs.declared.expr.TExpr.{TExpr}
 use Rattle.c_type_base.specs.declared.known.Known.{Known}
 use Rattle.c_type_base.specs.declared.statement.TDecl.{TDecl}
-use Rattle.c_type_base.specs.declared.statement.TItem.{TItem, out-TItem, out-roll-TItem}
-use Rattle.c_type_base.specs.declared.statement.TItem.TheOpen.{TItem-F, TStmt-F}
-use Rattle.c_type_base.specs.declared.statement.TItem.TheVariants as titem
+use Rattle.c_type_base.specs.declared.statement.TItem.{TItem}
+use Rattle.c_type_base.specs.declared.statement.TItem.TheOpen.{TStmt-F}
 use Rattle.c_type_base.specs.declared.statement.TStmt.{TStmt, out-TStmt, roll-TStmt, out-roll-TStmt}
 use Rattle.c_type_base.specs.declared.statement.TStmt.TheVariants as tstmt
-use Rattle.c_type_expr.specs.declared.scopes.Binding.{Binding}
 use Rattle.c_type_expr.specs.declared.scopes.Meaning.{Meaning}
-use Rattle.c_type_expr.specs.Environment.{Env, opened}
+use Rattle.c_type_expr.specs.Environment.{Env}
 use Rattle.c_type_expr.specs.Expressions.{expression, judged_value}
 use Rattle.c_type_expr.specs.Faults.{rule}
-use Rattle.c_type_expr.specs.Outcomes.{Outcome, Judged, behind, sure, both, each, perhaps, on, ruled, option_map}
+use Rattle.c_type_expr.specs.Outcomes.{Judged, sure, both, each, perhaps, on, ruled, option_map}
 use Rattle.c_type_stmt.specs.Declarations.{no, local}
-use Rattle.c_type_stmt.specs.Laws.SaidLaws.{item_judged}
-use Rattle.c_type_stmt.specs.Statements.{StmtSaid, stated, scoped, effect, condition, block, returned, return_row, if_row, for_row}
-use Rattle.c_type_stmt.specs.Statements.{judged_of, stmt_step, item_step, statement}
-use Rattle.block_meaning.specs.ExpressionsInOrder.{Scope, within, ValueInOrder, ConditionInOrder}
-use Rattle.block_meaning.specs.Statements as meaning
-use Rattle.block_meaning.specs.Statements.{local_of, declared_by, declared}
-use Rattle.block_meaning.specs.StatementsInOrder as order
-use Rattle.block_meaning.specs.StatementsInOrder.{DeclarationInOrder, StatementInOrder, ItemInOrder, Items}
+use Rattle.c_type_stmt.specs.Statements.{effect, condition, returned, return_row}
+use Rattle.block_meaning.specs.ExpressionsInOrder.{Scope, ValueInOrder, ConditionInOrder}
+use Rattle.block_meaning.specs.StatementsInOrder.{DeclarationInOrder, StatementInOrder}
+use Rattle.well_typed_order.specs.Standing.{MeansIn, Silent, Good, There, ValueIn, Part}
 use Rattle.well_typed_order.specs.Laws.Binary.{kept-first}
-use Rattle.well_typed_order.specs.Laws.Declared.{Declares, names-more, declares-more, locals-declare, declares-first, declares-map}
 use Rattle.well_typed_order.specs.Laws.Expressions.{expression-good}
-use Rattle.well_typed_order.specs.Laws.Good.{MeansIn, Silent, Good, Pair, good-on, good-sure, silent-on, silent-both, some-is, none-is}
-use Rattle.well_typed_order.specs.Laws.Known.{There, ValueIn, value-in, Into, assignable-in}
+use Rattle.well_typed_order.specs.Laws.Good.{good-on, good-sure}
+use Rattle.well_typed_order.specs.Laws.Known.{value-in, assignable-in}
 use Rattle.well_typed_order.specs.Laws.Locals.{local-part}
-use Rattle.well_typed_order.specs.Laws.Parts.{Names, Stands, Adds, Holds, Part, Perhaps, no-names, any-names, part-good, part-sure}
+use Rattle.well_typed_order.specs.Laws.Parts.{Perhaps, no-names, part-good, part-sure}
 use Rattle.well_typed_order.specs.Laws.Parts.{part-on, part-both, part-none, part-more, part-perhaps, part-left_out}
-use Rattle.well_typed_order.specs.Laws.Scopes.{nowhere, HeldIn, Anything, Bounds, wide, bounds-wide, bounds-held, stands-within, stands-wide}
-use Rattle.well_typed_order.specs.Laws.Scopes.{contains-front}
-use Rattle.well_typed_order.specs.Laws.Types.{and_first, and_second}
+use Rattle.well_typed_order.specs.Laws.Scopes.{nowhere, Bounds}
+use Rattle.well_typed_order.specs.Laws.Types.{and_second}
 
 abbrev pub Any : {A : Type 0} → A → Type 0
 Any a = Unit {0}
@@ -169,13 +154,14 @@ module _ {s : Scope} {G : Meaning → Type 0} where
         (e : Option Expr) (span : Span) → Part s G P (on (perhaps (option_map judged_value e)) (return_row span))
     return-part nothing made e span = part-on (perhaps (option_map judged_value e)) (return_row span)
         (perhaps_part judged_value e (judged-value-good s)) (λ k value. record {
-      holds = λ env stands names adds kept. record {
-        known = returned_there s P nothing made span k value env env.result stands.result kept;
-        names = no-names (MeansIn s) (return_row span k env).names (returned-silent span env.result k env);
-      };
-    })
+          holds = λ env stands names adds kept. record {
+            known = returned_there s P nothing made span k value env env.result stands.result kept;
+            names = no-names (MeansIn s) (return_row span k env).names (returned-silent span env.result k env);
+          };
+        })
 
-    pub for-part : (Q : TStmt → Type 0) → Bounds s G → ((ts : List TDecl) (first c next : Option TExpr) (t : TStmt) → AllByRecursion (DeclarationInOrder s) ts →
+    pub for-part : (Q : TStmt → Type 0) → Bounds s G → ((ts : List TDecl) (first c next : Option TExpr) (t : TStmt) →
+        AllByRecursion (DeclarationInOrder s) ts →
         Perhaps (ValueInOrder s) first → Perhaps (ConditionInOrder s) c → Perhaps (ValueInOrder s) next → Q t →
         P (tstmt.For ts first c next t)) →
         (ds : List Decl) (first c next : Option Expr) (p : Judged TStmt) → Part s G Q p →

@@ -2,7 +2,6 @@
 use Rattle.std.proofs.Common.{◌≡◌, refl, sym, ap, subst, ℕ, List, [], ◌∷◌, ◌++◌, map, Option, Some, None}
 use Rattle.std.specs.Prelude.{IfSome}
 use Rattle.std.specs.List.{All, AllByRecursion}
-use Rattle.c_ast.specs.Laws.Opened.{given_trees}
 use Rattle.c_ast.specs.Tree.{StmtLayer, ItemLayer}
 use Rattle.c_ast.specs.declared.token.Span.{Span}
 use Rattle.c_ast.specs.declared.expr.Expr.{Expr}
@@ -11,7 +10,7 @@ use Rattle.c_ast.specs.declared.statement.Stmt.{Stmt, roll-Stmt, map-Stmt}
 use Rattle.c_ast.specs.declared.statement.Stmt.TheVariants as stmt
 use Rattle.c_ast.specs.declared.statement.Item.{Item, roll-Item, map-Item}
 use Rattle.c_ast.specs.declared.statement.Item.TheOpen.{Item-F, Stmt-F}
-use Rattle.c_ast.specs.declared.statement.Item.TheFolds.{ind-Item, ind-Stmt, fold-roll-Item, fold-roll-Stmt}
+use Rattle.c_ast.specs.declared.statement.Item.TheFolds.{ind-Item, fold-roll-Item, fold-roll-Stmt}
 use Rattle.c_type_base.specs.Laws.Opened.{given_typed}
 use Rattle.c_type_base.specs.declared.expr.TExpr.{TExpr}
 use Rattle.c_type_base.specs.declared.statement.TDecl.{TDecl}
@@ -23,24 +22,24 @@ use Rattle.c_type_base.specs.declared.statement.TStmt.TheVariants as tstmt
 use Rattle.c_type_expr.specs.declared.scopes.Meaning.{Meaning}
 use Rattle.c_type_expr.specs.Environment.{Env, opened}
 use Rattle.c_type_expr.specs.Expressions.{judged_value}
-use Rattle.c_type_expr.specs.Outcomes.{Outcome, Judged, sure, both, each, perhaps, on, option_map}
+use Rattle.c_type_expr.specs.Outcomes.{Judged, sure, both, each, perhaps, on, option_map}
 use Rattle.c_type_stmt.specs.Declarations.{local}
 use Rattle.c_type_stmt.specs.Laws.SaidLaws.{item_judged, said-block}
-use Rattle.c_type_stmt.specs.Statements.{StmtSaid, stated, scoped, effect, condition, block, return_row, if_row, for_row}
-use Rattle.c_type_stmt.specs.Statements.{judged_of, stmt_step, item_step, statement}
+use Rattle.c_type_stmt.specs.Statements.{StmtSaid, stated, scoped, effect, condition, block, return_row, for_row}
+use Rattle.c_type_stmt.specs.Statements.{stmt_step, item_step, statement}
 use Rattle.block_meaning.specs.ExpressionsInOrder.{Scope, within, ValueInOrder, ConditionInOrder}
 use Rattle.block_meaning.specs.Statements as meaning
 use Rattle.block_meaning.specs.Statements.{local_of, declared_by, declared}
 use Rattle.block_meaning.specs.StatementsInOrder as order
 use Rattle.block_meaning.specs.StatementsInOrder.{DeclarationInOrder, StatementInOrder, ItemInOrder, Items}
+use Rattle.well_typed_order.specs.Standing.{Silent, There, Names, Stands, Adds, Part}
 use Rattle.well_typed_order.specs.Laws.Declared.{Declares, names-more, declares-more, locals-declare, declares-first, declares-map}
-use Rattle.well_typed_order.specs.Laws.Good.{MeansIn, Silent, Good, silent-on, silent-both, some-is, none-is}
-use Rattle.well_typed_order.specs.Laws.Known.{There}
-use Rattle.well_typed_order.specs.Laws.Locals.{local-part}
-use Rattle.well_typed_order.specs.Laws.Parts.{Names, Stands, Adds, Holds, Part, Perhaps, no-names, any-names, part-sure, part-on}
+use Rattle.well_typed_order.specs.Laws.Good.{silent-on, silent-both, some-is, none-is}
+use Rattle.well_typed_order.specs.Laws.Parts.{Perhaps, no-names, any-names, part-sure, part-on}
 use Rattle.well_typed_order.specs.Laws.Parts.{part-none, part-more, part-perhaps, part-left_out}
-use Rattle.well_typed_order.specs.Laws.Scopes.{nowhere, HeldIn, Anything, wide, bounds-wide, bounds-held, stands-within, stands-wide, contains-front}
-use Rattle.well_typed_order.specs.Laws.StatementRows.{Any, locals-part, judged-value-good, effect-good, condition-good, if-some, all-of, for_parts}
+use Rattle.well_typed_order.specs.Laws.Scopes.{nowhere, HeldIn, Anything, wide, bounds-wide, bounds-held, stands-within, stands-wide}
+use Rattle.well_typed_order.specs.Laws.Scopes.{contains-front}
+use Rattle.well_typed_order.specs.Laws.StatementRows.{Any, locals-part, if-some, all-of, for_parts}
 use Rattle.well_typed_order.specs.Laws.StatementRows.{expression-part, if-part, while-part, do-part, return-part, for-part, returned-silent}
 use Rattle.well_typed_order.specs.Laws.StatementRows.{value-silent, effect-silent, condition-silent, perhaps-silent}
 
@@ -407,7 +406,8 @@ continue_stated span = sure_fine (TStmt-F.Continue span) (λ s. order.continue)
 
 stmt_fine : (y : Stmt-F ItemWith StmtWith) → StmtFine (statement (roll-Stmt (stmts_with y)))
 unfolding stmts_with
-stmt_fine (Stmt-F.Block is) = stmt_is (Stmt-F.Block (map (λ i. i.0) is)) (block_stated (map item_judged (map (λ i. i.0) is)) (with_items is))
+stmt_fine (Stmt-F.Block is) = stmt_is (Stmt-F.Block (map (λ i. i.0) is)) (block_stated (map item_judged (map (λ i. i.0) is))
+    (with_items is))
 stmt_fine (Stmt-F.Expr e) = stmt_is (Stmt-F.Expr e) (expression_stated e)
 stmt_fine Stmt-F.Empty = stmt_is Stmt-F.Empty empty_stated
 stmt_fine (Stmt-F.If e s None) = stmt_is (Stmt-F.If e s.0 None)

@@ -28,7 +28,8 @@ use Rattle.c_type_base.specs.Types.{TyLayer, same_type, is_there, int_of, int_of
 use Rattle.c_type_base.specs.Types.{is_void, is_void_level, is_integer, is_pointer, is_array, is_struct, is_scalar}
 use Rattle.c_type_base.specs.declared.ty.Ty.{roll-Ty, roll-out-Ty}
 use Rattle.c_type_expr.specs.Environment.{Env}
-use Rattle.c_type_expr.specs.Expressions.{address_known, address_row, target_row, unary_row, castable, cast_fixed, cast_known, cast_row, assigned}
+use Rattle.c_type_expr.specs.Expressions.{address_known, address_row, target_row, unary_row, castable, cast_fixed, cast_known, cast_row}
+use Rattle.c_type_expr.specs.Expressions.{assigned}
 use Rattle.c_type_expr.specs.Expressions.{simple_row}
 use Rattle.c_type_expr.specs.Expressions.{binary_of, right_type, moves, compound_row, assign_row, stepped, step_row, size_known}
 use Rattle.c_type_expr.specs.Expressions.{sizeof_row}
@@ -38,11 +39,14 @@ use Rattle.c_type_expr.specs.Operators.{Sort, Integer, Points, Neither, sort_of,
 use Rattle.c_type_expr.specs.Operators.{signed_row, denied, not_row, with_arms, arms_of_void}
 use Rattle.c_type_expr.specs.Operators.{arms, cond_row, cond_judged}
 use Rattle.block_meaning.specs.ExpressionsInOrder as order
-use Rattle.block_meaning.specs.ExpressionsInOrder.{Scope, HasValue, Designates, Converts, CompoundTypes, is_sign, int_type}
-use Rattle.well_typed_order.specs.Laws.Binary.{Keeps, never-kept, kept-first, kept-rest, sort-integer, sort-pointer, sort-target, int-integer}
+use Rattle.block_meaning.specs.ExpressionsInOrder.{Scope, HasValue, Designates, Converts, CompoundTypes, is_sign}
+use Rattle.well_typed_order.specs.Standing.{There, FixedIn, KnownIn, ValueIn}
+use Rattle.well_typed_order.specs.Laws.Binary.{Keeps, never-kept, kept-first, kept-rest, sort-integer, sort-pointer, sort-target}
+use Rattle.well_typed_order.specs.Laws.Binary.{int-integer}
 use Rattle.well_typed_order.specs.Laws.Binary.{one-pointer}
 use Rattle.well_typed_order.specs.Laws.Binary.{integer-scalar, pointer-scalar}
-use Rattle.well_typed_order.specs.Laws.Known.{There, FixedIn, KnownIn, ValueIn, known_by, valued, int-plain, pointer-plain, Into, converted-in, value-in}
+use Rattle.well_typed_order.specs.Laws.Known.{known_by, valued, int-plain, pointer-plain, Into}
+use Rattle.well_typed_order.specs.Laws.Known.{converted-in, value-in}
 use Rattle.well_typed_order.specs.Laws.Known.{null-integer}
 use Rattle.well_typed_order.specs.Laws.Known.{assignable-in, wrapped-integer}
 use Rattle.well_typed_order.specs.Laws.Types.{and_first, and_second}
@@ -178,9 +182,11 @@ cast_fixed_in s t k fixed = by_kind (is_pointer t) (is_null k)
 cast_by : {s : Scope} (span : Span) (t : Ty) (k : Known) → ValueIn s k → (is_void t ≡ true) ⊎ Converts k.tree.ty t →
     KnownIn s (cast_known span t k)
 unfolding given_typed
-cast_by {s = s} span t k of_k (inl is) = valued (cast_known span t k) refl (cast_fixed_in s t k of_k.fixed) (order.cast_to_void of_k.has is) (void_plain (out-Ty t) is)
+cast_by {s = s} span t k of_k (inl is) = valued (cast_known span t k) refl (cast_fixed_in s t k of_k.fixed) (order.cast_to_void
+    of_k.has is) (void_plain (out-Ty t) is)
     (λ n c. wrapped-integer (int_of t) k.constant n c)
-cast_by {s = s} span t k of_k (inr types) = valued (cast_known span t k) refl (cast_fixed_in s t k of_k.fixed) (order.cast of_k.has types) (converts_plain types)
+cast_by {s = s} span t k of_k (inr types) = valued (cast_known span t k) refl (cast_fixed_in s t k of_k.fixed) (order.cast of_k.has
+    types) (converts_plain types)
     (λ n c. wrapped-integer (int_of t) k.constant n c)
 
 pub cast-in : {s : Scope} (span : Span) (t : Ty) (k : Known) (env : Env) → ValueIn s k → Keeps s (cast_row span t k env)

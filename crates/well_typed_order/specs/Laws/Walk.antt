@@ -1,6 +1,6 @@
 -- The walk over a file that breaks no rule, part by part.
 use Rattle.std.proofs.Common.{◌⊎◌, inl, inr, ◌≡◌, refl, sym, ◌∙◌, ap, subst, ℕ, zero, suc, ◌+◌, ◌≤◌, arith, Bool, true, false, ◌&&◌, ◌||◌}
-use Rattle.std.proofs.Common.{List, [], ◌∷◌, ◌++◌, map, slice_get, length, Option, Some, None}
+use Rattle.std.proofs.Common.{List, [], ◌∷◌, ◌++◌, map, length, Option, Some, None}
 use Rattle.std.specs.Prelude.{leb, take, if◌then◌else◌}
 use Rattle.std.specs.Str.{bytes_eq}
 use Rattle.std.specs.List.{AllByRecursion}
@@ -12,7 +12,6 @@ use Rattle.c_ast.specs.declared.program.Function.{Function}
 use Rattle.c_ast.specs.declared.program.External.{External}
 use Rattle.c_ast.specs.declared.program.External.TheVariants as external
 use Rattle.c_ast.specs.declared.statement.Stmt.{Stmt}
-use Rattle.c_ast.specs.declared.statement.Stmt.TheVariants as stmt
 use Rattle.c_type_base.specs.Types.{is_void, is_scalar, is_there}
 use Rattle.c_type_base.specs.declared.ty.Ty.{Ty}
 use Rattle.c_type_base.specs.declared.statement.TStmt.{TStmt}
@@ -20,8 +19,6 @@ use Rattle.c_type_base.specs.declared.typed.GlobalInfo.{GlobalInfo}
 use Rattle.c_type_base.specs.declared.typed.InitPiece.{InitPiece}
 use Rattle.c_type_base.specs.declared.typed.LocalInfo.{LocalInfo}
 use Rattle.c_type_base.specs.declared.typed.TFunction.{TFunction}
-use Rattle.c_type_expr.specs.declared.scopes.Signature.{Signature}
-use Rattle.c_type_expr.specs.Environment.{Env}
 use Rattle.c_type_expr.specs.Outcomes.{Outcome}
 use Rattle.c_type_stmt.specs.Declarations.{no, declared_type}
 use Rattle.c_type_stmt.specs.Statements.{statement}
@@ -35,27 +32,27 @@ use Rattle.c_type_expr.specs.Faults.{broken}
 use Rattle.c_types.specs.Redeclarations.{may_stand}
 use Rattle.c_types.specs.Functions.{head_rules, signature_of, main_form, main_name, is_int_in, result_type}
 use Rattle.c_types.specs.Laws.PromiseLaws.{front, back}
-use Rattle.c_types.specs.Units.{Judgement, with_outcome, pieces_in, global_of, object_declared, object_judged, objects_judged}
+use Rattle.c_types.specs.Units.{Judgement, pieces_in, global_of, object_declared, object_judged, objects_judged}
 use Rattle.c_types.specs.Units.{function_declared, function_of, with_function, parameters_in, head_judged, function_judged, part_judged}
 use Rattle.c_types.specs.Units.{parts_judged}
 use Rattle.block_meaning.specs.ExpressionsInOrder.{Scope}
 use Rattle.block_meaning.specs.Linkage.{parameter_types, type_of_local}
 use Rattle.block_meaning.specs.Running.{Program}
 use Rattle.well_typed_order.specs.Bodied.{BlockIfThere, PartBodied}
+use Rattle.well_typed_order.specs.Standing.{There}
 use Rattle.well_typed_order.specs.Laws.Bodies.{function_with, env_of_body, function-in-order, body-known}
-use Rattle.well_typed_order.specs.Laws.Good.{MeansIn, TextsIn, texts-front, none-is, some-is}
-use Rattle.well_typed_order.specs.Laws.Growth.{In, in-later, Grows, grows-self, grows-then, grows-object, grows-objects, grows-head}
-use Rattle.well_typed_order.specs.Laws.Growth.{grows-body, grows-part, grows-parts}
+use Rattle.well_typed_order.specs.Laws.Good.{texts-front}
+use Rattle.well_typed_order.specs.Laws.Growth.{In, in-later, grows-objects}
+use Rattle.well_typed_order.specs.Laws.Growth.{grows-body, grows-parts}
 use Rattle.well_typed_order.specs.Laws.Heads.{HeadFine, head-fine, parameters-in, with_parameters}
-use Rattle.well_typed_order.specs.Laws.Initials.{PieceIn}
+use Rattle.well_typed_order.specs.Laws.FirstBytes.{PieceIn}
 use Rattle.well_typed_order.specs.Laws.Judged.{At, at-outcome, at-texts}
-use Rattle.well_typed_order.specs.Laws.Known.{There}
-use Rattle.well_typed_order.specs.Laws.Objects.{ObjectFine, object-fine, object_begun}
+use Rattle.well_typed_order.specs.Laws.Objects.{object-fine, object_begun}
 use Rattle.well_typed_order.specs.Laws.Scopes.{outside}
 use Rattle.well_typed_order.specs.Laws.StatementRows.{Any}
 use Rattle.well_typed_order.specs.Laws.Statements.{BodyFine, body-fine}
 use Rattle.well_typed_order.specs.Laws.Unary.{complete-object}
-use Rattle.well_typed_order.specs.Laws.Walked.{Tables, Sound, sound-before, KindFine, GlobalFine, FunctionFine, Left, Walked, FinalObjects}
+use Rattle.well_typed_order.specs.Laws.Walked.{Sound, sound-before, KindFine, GlobalFine, FunctionFine, Left, Walked, FinalObjects}
 use Rattle.well_typed_order.specs.Laws.Walked.{walked-struct, walked-included}
 
 -- ---- lists
@@ -134,12 +131,12 @@ module _ (program : Program) (unit : ℕ) (names : FileNames) where
       by_storage true (k, is) = absurd cc
       by_storage false has = subst (λ g. GlobalFine here (object_declared c d (Some t) ∷ ds) g)
           (in-one (record { name = d.name; ty = t; local = is_static c; init = ps; span = d.span }) g has) (record {
-        by = object_declared c d (Some t);
-        declared = (zero, refl);
-        name_is = refl;
-        kind_is = refl;
-        pieces = pieces;
-      })
+            by = object_declared c d (Some t);
+            declared = (zero, refl);
+            name_is = refl;
+            kind_is = refl;
+            pieces = pieces;
+          })
 
   object_left : (j : List GlobalInfo) (c : Storage) (d : Decl) (t : Ty) (o : Option Ty) (ps : List InitPiece) → o ≡ Some t →
       no (is_extern c) ≡ true → (g : GlobalInfo) × In (j ++ global_of c d o ps) g × (g.name ≡ d.name)
@@ -265,7 +262,8 @@ module _ (program : Program) (unit : ℕ) (names : FileNames) where
     abbrev this : Declared
     this = function_declared f (signature_of (result_type f j.env).known params.known)
 
-    old_left : (after : Judgement) (fs : List TFunction) → after.globals ≡ j.globals → after.functions ≡ j.functions ++ fs → (e : Declared) →
+    old_left : (after : Judgement) (fs : List TFunction) → after.globals ≡ j.globals → after.functions ≡ j.functions ++ fs →
+        (e : Declared) →
         In j.declared e → e.defined ≡ true → Left after e.kind e.name
     old_left after fs gs same e has defines =
         left_more j.declared e e j.globals [] j.functions fs j after (gs ∙ all_empty j.globals) same (walked.left e has defines)
@@ -291,108 +289,109 @@ module _ (program : Program) (unit : ℕ) (names : FileNames) where
             absurd (not_there (ap (λ (e : Declared). e.defined) (same_Some this e eq) ∙ defines))
         nothing_left d is e (suc k, eq) defines = old_left head [] refl (all_empty j.functions) e (k, eq) defines
 
-    module _ (body : Stmt) (fine : HeadFine here names j f (result_type f j.env).known params.known) (block : BodyFine (statement body).body)
-        where
-      abbrev after : Option Ty → Judgement
-      after r = with_function head f r params (Some body)
+    module _ (body : Stmt) (fine : HeadFine here names j f (result_type f j.env).known params.known) (block : BodyFine (statement
+        body).body)
+      where
+        abbrev after : Option Ty → Judgement
+        after r = with_function head f r params (Some body)
 
-      made_by : Ty → List LocalInfo → TStmt → TFunction
-      made_by r more t = function_with f r (params.locals ++ more) t
+        made_by : Ty → List LocalInfo → TStmt → TFunction
+        made_by r more t = function_with f r (params.locals ++ more) t
 
-      kind_made : (r : Ty) (more : List LocalInfo) (t : TStmt) → (result_type f j.env).known ≡ Some r →
-          this.kind ≡ AFunction (Some (record { result = r; params = parameter_types (function_with f r (params.locals ++ more) t) }))
-      kind_made r more t is =
-          let types : fine.types ≡ map type_of_local (take (length f.params) (params.locals ++ more)) =
-          fine.of_locals ∙ ap (map type_of_local) (sym (take_front (length f.params) params.locals more fine.count)) in
-          ap AFunction (sig_is r fine.types (result_type f j.env).known params.known is fine.types_are
-          ∙ ap (λ ts. Some (record { result = r; params = ts })) types)
+        kind_made : (r : Ty) (more : List LocalInfo) (t : TStmt) → (result_type f j.env).known ≡ Some r →
+            this.kind ≡ AFunction (Some (record { result = r; params = parameter_types (function_with f r (params.locals ++ more) t) }))
+        kind_made r more t is =
+            let types : fine.types ≡ map type_of_local (take (length f.params) (params.locals ++ more)) =
+            fine.of_locals ∙ ap (map type_of_local) (sym (take_front (length f.params) params.locals more fine.count)) in
+            ap AFunction (sig_is r fine.types (result_type f j.env).known params.known is fine.types_are
+            ∙ ap (λ ts. Some (record { result = r; params = ts })) types)
 
-      with_tree : (r : Ty) → (result_type f j.env).known ≡ Some r → Sound here names (after (Some r)) → At here head →
-          let o = (statement body).body (env_of_body head params (Some r)) in
-          (k : Option TStmt) → o.known ≡ k → There o.known Any →
-          (g : TFunction) → In (function_of f (Some r) (params.locals ++ o.locals) k) g →
-          FunctionFine program unit (this ∷ j.declared) g
-      with_tree r is sound at None same there g (n, has) = absurd cc
-      with_tree r is sound at (Some t) same there g has =
-          let o = (statement body).body (env_of_body head params (Some r)) in
-          let made = function_with f r (params.locals ++ o.locals) t in
-          let head_kept = front head.faults o.faults sound.kept in
-          let head_texts = texts-front here 0 head.texts o.texts sound.texts in
-          let w = with_parameters j f in
-          let rules = head_faults j f in
-          let kept = front w.faults rules (front (w.faults ++ rules) [] head_kept) in
-          let texts = texts-front here 0 w.texts [] head_texts in
-          let one : fine.result ≡ r = same_Some fine.result r (sym fine.result_is ∙ is) in
-          subst (λ g. FunctionFine program unit (this ∷ j.declared) g) (in-one made g has) (record {
-            by = this;
-            declared = (zero, refl);
-            name_is = refl;
-            kind_is = kind_made r o.locals t is;
-            in_order = function-in-order program unit head f params r at
-                (λ g ks below locals. parameters-in program unit names j f walked.at g ks below locals kept texts)
-                fine.count (statement body).body block (back head.faults o.faults sound.kept)
-                (at-texts here head (record o { names = [] }) at sound.texts)
-                (subst (λ r. (is_void r || is_scalar r) ≡ true) one fine.gives) t same;
-            main = λ named. main_count f _ fine.main named;
-          })
+        with_tree : (r : Ty) → (result_type f j.env).known ≡ Some r → Sound here names (after (Some r)) → At here head →
+            let o = (statement body).body (env_of_body head params (Some r)) in
+            (k : Option TStmt) → o.known ≡ k → There o.known Any →
+            (g : TFunction) → In (function_of f (Some r) (params.locals ++ o.locals) k) g →
+            FunctionFine program unit (this ∷ j.declared) g
+        with_tree r is sound at None same there g (n, has) = absurd cc
+        with_tree r is sound at (Some t) same there g has =
+            let o = (statement body).body (env_of_body head params (Some r)) in
+            let made = function_with f r (params.locals ++ o.locals) t in
+            let head_kept = front head.faults o.faults sound.kept in
+            let head_texts = texts-front here 0 head.texts o.texts sound.texts in
+            let w = with_parameters j f in
+            let rules = head_faults j f in
+            let kept = front w.faults rules (front (w.faults ++ rules) [] head_kept) in
+            let texts = texts-front here 0 w.texts [] head_texts in
+            let one : fine.result ≡ r = same_Some fine.result r (sym fine.result_is ∙ is) in
+            subst (λ g. FunctionFine program unit (this ∷ j.declared) g) (in-one made g has) (record {
+              by = this;
+              declared = (zero, refl);
+              name_is = refl;
+              kind_is = kind_made r o.locals t is;
+              in_order = function-in-order program unit head f params r at
+                  (λ g ks below locals. parameters-in program unit names j f walked.at g ks below locals kept texts)
+                  fine.count (statement body).body block (back head.faults o.faults sound.kept)
+                  (at-texts here head (record o { names = [] }) at sound.texts)
+                  (subst (λ r. (is_void r || is_scalar r) ≡ true) one fine.gives) t same;
+              main = λ named. main_count f _ fine.main named;
+            })
 
-      tree_there : (r : Ty) → (result_type f j.env).known ≡ Some r → Sound here names (after (Some r)) → At here head →
-          There ((statement body).body (env_of_body head params (Some r))).known Any
-      tree_there r is sound at =
-          let o = (statement body).body (env_of_body head params (Some r)) in
-          let head_kept = front head.faults o.faults sound.kept in
-          let head_texts = texts-front here 0 head.texts o.texts sound.texts in
-          let w = with_parameters j f in
-          let rules = head_faults j f in
-          let kept = front w.faults rules (front (w.faults ++ rules) [] head_kept) in
-          let texts = texts-front here 0 w.texts [] head_texts in
-          body-known program unit head f params r at
-          (λ g ks below locals. parameters-in program unit names j f walked.at g ks below locals kept texts)
-          fine.count (statement body).body block (back head.faults o.faults sound.kept)
-          (at-texts here head (record o { names = [] }) at sound.texts)
+        tree_there : (r : Ty) → (result_type f j.env).known ≡ Some r → Sound here names (after (Some r)) → At here head →
+            There ((statement body).body (env_of_body head params (Some r))).known Any
+        tree_there r is sound at =
+            let o = (statement body).body (env_of_body head params (Some r)) in
+            let head_kept = front head.faults o.faults sound.kept in
+            let head_texts = texts-front here 0 head.texts o.texts sound.texts in
+            let w = with_parameters j f in
+            let rules = head_faults j f in
+            let kept = front w.faults rules (front (w.faults ++ rules) [] head_kept) in
+            let texts = texts-front here 0 w.texts [] head_texts in
+            body-known program unit head f params r at
+            (λ g ks below locals. parameters-in program unit names j f walked.at g ks below locals kept texts)
+            fine.count (statement body).body block (back head.faults o.faults sound.kept)
+            (at-texts here head (record o { names = [] }) at sound.texts)
 
-      -- it has left its function
-      left_made : (r : Ty) (more : List LocalInfo) (k : Option TStmt) → There k Any → (gs : List TFunction) →
-          (g : TFunction) × In (gs ++ function_of f (Some r) (params.locals ++ more) k) g × (g.name ≡ f.name)
-      left_made r more None there gs = absurd there
-      left_made r more (Some t) there gs =
-          let made = function_with f r (params.locals ++ more) t in
-          (made, in-back gs (made ∷ []) made (zero, refl), refl)
+        -- it has left its function
+        left_made : (r : Ty) (more : List LocalInfo) (k : Option TStmt) → There k Any → (gs : List TFunction) →
+            (g : TFunction) × In (gs ++ function_of f (Some r) (params.locals ++ more) k) g × (g.name ≡ f.name)
+        left_made r more None there gs = absurd there
+        left_made r more (Some t) there gs =
+            let made = function_with f r (params.locals ++ more) t in
+            (made, in-back gs (made ∷ []) made (zero, refl), refl)
 
-      either_function : (more : List TFunction) → ((g : TFunction) → In more g → FunctionFine program unit (this ∷ j.declared) g) →
-          (g : TFunction) → (In j.functions g) ⊎ (In more g) → FunctionFine program unit (this ∷ j.declared) g
-      either_function more new g (inl has) = function_later this j.declared g (walked.functions g has)
-      either_function more new g (inr has) = new g has
+        either_function : (more : List TFunction) → ((g : TFunction) → In more g → FunctionFine program unit (this ∷ j.declared) g) →
+            (g : TFunction) → (In j.functions g) ⊎ (In more g) → FunctionFine program unit (this ∷ j.declared) g
+        either_function more new g (inl has) = function_later this j.declared g (walked.functions g has)
+        either_function more new g (inr has) = new g has
 
-      some_body : (o : Option Ty) (r : Ty) → (result_type f j.env).known ≡ o → o ≡ Some r → Sound here names (after o) →
-          Walked program unit (after o)
-      some_body None r same is sound = absurd cc
-      some_body (Some u) r same is sound =
-          let at : At here head = record { env = fine.at.env; texts_are = fine.at.texts_are } in
-          let o = (statement body).body (env_of_body head params (Some u)) in
-          let more = function_of f (Some u) (params.locals ++ o.locals) o.known in
-          let at_body = at-outcome here head (record o { names = [] }) tt at in
-          let there = tree_there u same sound at in
-          record {
-            at = record { env = at_body.env; texts_are = at_body.texts_are };
-            ready = walked.ready;
-            kinds = kinds_more this j.declared
-                (kind_sig fine.result fine.types (result_type f j.env).known params.known fine.result_is fine.types_are fine.gives)
-                walked.kinds;
-            globals = λ g has. global_later this j.declared g (walked.globals g has);
-            functions = λ g has. either_function more (with_tree u same sound at o.known refl there) g
-                (in-split j.functions more g has);
-            left = body_left u (left_made u o.locals o.known there j.functions);
-          }
-        where
-          body_left : (u : Ty) → (let o = (statement body).body (env_of_body head params (Some u)) in
-              (g : TFunction) × In (j.functions ++ function_of f (Some u) (params.locals ++ o.locals) o.known) g × (g.name ≡ f.name)) →
-              (e : Declared) → In (this ∷ j.declared) e → e.defined ≡ true → Left (after (Some u)) e.kind e.name
-          body_left u made e (zero, eq) defines =
-              subst (λ (e : Declared). Left (after (Some u)) e.kind e.name) (same_Some this e eq) made
-          body_left u made e (suc k, eq) defines =
-              let o = (statement body).body (env_of_body head params (Some u)) in
-              old_left (after (Some u)) (function_of f (Some u) (params.locals ++ o.locals) o.known) refl refl e (k, eq) defines
+        some_body : (o : Option Ty) (r : Ty) → (result_type f j.env).known ≡ o → o ≡ Some r → Sound here names (after o) →
+            Walked program unit (after o)
+        some_body None r same is sound = absurd cc
+        some_body (Some u) r same is sound =
+            let at : At here head = record { env = fine.at.env; texts_are = fine.at.texts_are } in
+            let o = (statement body).body (env_of_body head params (Some u)) in
+            let more = function_of f (Some u) (params.locals ++ o.locals) o.known in
+            let at_body = at-outcome here head (record o { names = [] }) tt at in
+            let there = tree_there u same sound at in
+            record {
+              at = record { env = at_body.env; texts_are = at_body.texts_are };
+              ready = walked.ready;
+              kinds = kinds_more this j.declared
+                  (kind_sig fine.result fine.types (result_type f j.env).known params.known fine.result_is fine.types_are fine.gives)
+                  walked.kinds;
+              globals = λ g has. global_later this j.declared g (walked.globals g has);
+              functions = λ g has. either_function more (with_tree u same sound at o.known refl there) g
+                  (in-split j.functions more g has);
+              left = body_left u (left_made u o.locals o.known there j.functions);
+            }
+          where
+            body_left : (u : Ty) → (let o = (statement body).body (env_of_body head params (Some u)) in
+                (g : TFunction) × In (j.functions ++ function_of f (Some u) (params.locals ++ o.locals) o.known) g × (g.name ≡ f.name)) →
+                (e : Declared) → In (this ∷ j.declared) e → e.defined ≡ true → Left (after (Some u)) e.kind e.name
+            body_left u made e (zero, eq) defines =
+                subst (λ (e : Declared). Left (after (Some u)) e.kind e.name) (same_Some this e eq) made
+            body_left u made e (suc k, eq) defines =
+                let o = (statement body).body (env_of_body head params (Some u)) in
+                old_left (after (Some u)) (function_of f (Some u) (params.locals ++ o.locals) o.known) refl refl e (k, eq) defines
 
   by_body : (j : Judgement) (f : Function) (b : Option Stmt) → f.body ≡ b → BlockIfThere b → Walked program unit j →
       HeadFine here names j f (result_type f j.env).known (parameters_in j f).known →
@@ -427,4 +426,5 @@ module _ (program : Program) (unit : ℕ) (names : FileNames) where
   parts-walked j (e ∷ es) bodied objects sound walked =
       let next = part_judged names j e in
       parts-walked next es bodied.1 objects sound
-      (part_walked j e bodied.0 objects (sound-before here names next (parts_judged names next es) (grows-parts names next es) sound) walked)
+      (part_walked j e bodied.0 objects (sound-before here names next (parts_judged names next es) (grows-parts names next es) sound)
+      walked)

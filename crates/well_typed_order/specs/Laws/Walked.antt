@@ -1,6 +1,6 @@
 -- What holds behind the parts of a file that break no rule: names mean what is there, types are known, and what is defined is in order.
-use Rattle.std.proofs.Common.{◌⊎◌, inl, inr, ◌≡◌, refl, sym, ◌∙◌, ap, subst, ℕ, zero, suc, ◌+◌, arith, Bool, true, false, ◌||◌, List, []}
-use Rattle.std.proofs.Common.{◌∷◌, ◌++◌, map, slice_get, length, Option, Some, None}
+use Rattle.std.proofs.Common.{◌≡◌, refl, sym, ◌∙◌, ap, subst, ℕ, zero, suc, ◌+◌, true, false, ◌||◌, List, []}
+use Rattle.std.proofs.Common.{◌∷◌, map, slice_get, length, Option, Some, None}
 use Rattle.std.specs.Str.{bytes_eq}
 use Rattle.std.specs.List.{AllByRecursion, list_any}
 use Rattle.c_ast.specs.declared.declaration.Decl.{Decl}
@@ -8,7 +8,7 @@ use Rattle.c_ast.specs.declared.declaration.StructDecl.{StructDecl}
 use Rattle.c_ast.specs.declared.program.External.TheVariants as external
 use Rattle.c_ast.specs.declared.int_type.IntType.TheVariants as int
 use Rattle.c_type_base.specs.declared.expr.Callee.TheVariants as callee
-use Rattle.c_type_base.specs.Laws.GrowthLaws.{Extends, AllComplete, none, some}
+use Rattle.c_type_base.specs.Laws.GrowthLaws.{Extends, AllComplete, some}
 use Rattle.c_type_base.specs.Layout.{members_of, type_of}
 use Rattle.c_type_base.specs.Sizes.{is_complete, complete_struct}
 use Rattle.c_type_base.specs.Types.{is_void, is_scalar}
@@ -20,8 +20,8 @@ use Rattle.c_type_base.specs.declared.typed.TFunction.{TFunction}
 use Rattle.c_type_expr.specs.declared.scopes.Binding.{Binding}
 use Rattle.c_type_expr.specs.declared.scopes.Meaning.TheVariants as means
 use Rattle.c_type_expr.specs.declared.scopes.Signature.{Signature}
-use Rattle.c_type_expr.specs.Environment.{Env, binds, tag_number, in_scopes}
-use Rattle.c_type_expr.specs.Outcomes.{Outcome, Judged, behind, joined}
+use Rattle.c_type_expr.specs.Environment.{binds, tag_number, in_scopes}
+use Rattle.c_type_expr.specs.Outcomes.{behind}
 use Rattle.c_type_stmt.specs.Declarations.{no, eof_name}
 use Rattle.c_types.specs.declared.names.FileNames.{FileNames}
 use Rattle.c_types.specs.declared.redeclared.Declared.{Declared}
@@ -30,21 +30,21 @@ use Rattle.c_types.specs.declared.redeclared.Kind.TheVariants.{AnObject, AFuncti
 use Rattle.c_types.specs.Files.{object_place, function_callee, putchar_name, getchar_name}
 use Rattle.c_types.specs.Functions.{main_name}
 use Rattle.c_types.specs.Laws.PromiseLaws.{part-good}
-use Rattle.c_types.specs.Laws.TableLaws.{Ready, AllReady}
+use Rattle.c_types.specs.Laws.TableLaws.{AllReady}
 use Rattle.c_types.specs.Redeclarations.{putchar_type, getchar_type}
-use Rattle.c_types.specs.Structs.{member, members, member_type, struct_with, body_rules}
-use Rattle.c_types.specs.Units.{Judgement, with_outcome, with_names, with_faults, included, with_tag, known_members, with_body, with_members}
+use Rattle.c_types.specs.Structs.{member, members}
+use Rattle.c_types.specs.Units.{Judgement, with_names, included, with_tag, with_body, with_members}
 use Rattle.c_types.specs.Units.{struct_judged}
-use Rattle.c_type_expr.specs.Faults.{broken}
 use Rattle.block_meaning.specs.ExpressionsInOrder as order
 use Rattle.block_meaning.specs.ExpressionsInOrder.{Scope}
 use Rattle.block_meaning.specs.Linkage.{parameter_types, structs_of}
 use Rattle.block_meaning.specs.ProgramsInOrder.{FunctionInOrder}
 use Rattle.block_meaning.specs.Running.{Program}
+use Rattle.well_typed_order.specs.Standing.{MeansIn, TextsIn, Silent}
 use Rattle.well_typed_order.specs.Laws.Expressions.{whole-good}
-use Rattle.well_typed_order.specs.Laws.Good.{MeansIn, TextsIn, EnvIn, Silent, none-after}
+use Rattle.well_typed_order.specs.Laws.Good.{none-after}
 use Rattle.well_typed_order.specs.Laws.Growth.{In, Grows}
-use Rattle.well_typed_order.specs.Laws.Initials.{PieceIn}
+use Rattle.well_typed_order.specs.Laws.FirstBytes.{PieceIn}
 use Rattle.well_typed_order.specs.Laws.Judged.{At, MembersComplete, env-like, at-names, length-both}
 use Rattle.well_typed_order.specs.Laws.Known.{int-plain}
 use Rattle.well_typed_order.specs.Laws.Parts.{no-names, found-names}
@@ -133,7 +133,8 @@ ready-complete structs ready number k m is = by_info (slice_get structs number) 
 
 -- the members of all structs of a file are objects
 abbrev pub FinalObjects : Scope → Type 0
-FinalObjects s = (number k : ℕ) (m : MemberInfo) → slice_get (members_of (slice_get (structs_of s.program.units s.unit) number)) k ≡ Some m →
+FinalObjects s = (number k : ℕ) (m : MemberInfo) → slice_get (members_of (slice_get (structs_of s.program.units s.unit) number)) k ≡
+    Some m →
     is_void m.ty ≡ false
 
 member_silent : (new : _) (d : Decl) → Silent (member new d)
@@ -241,9 +242,13 @@ module _ (program : Program) (unit : ℕ) where
       let ns = binds eof_name means.Eof
       ∷ binds getchar_name (means.Function callee.Getchar (Some getchar_type))
       ∷ binds putchar_name (means.Function callee.Putchar (Some putchar_type)) ∷ [] in
-      let named = at-names here j ns
-      (tt, (record { callable = order.getchar; plain = int-plain int.Int },
-      (record { callable = order.putchar; plain = int-plain int.Int }, tt))) walked.at in
+      let named = at-names here j ns (
+        tt,
+        (
+          record { callable = order.getchar; plain = int-plain int.Int },
+          (record { callable = order.putchar; plain = int-plain int.Int }, tt),
+        ),
+      ) walked.at in
       walked_beside j (included j) (record { declared = refl; globals = refl; functions = refl }) (record {
         env = env-like here (with_names j ns).env (included j).env refl refl named.env;
         texts_are = named.texts_are;
