@@ -5,3 +5,5 @@ pub mod Firsts
 pub mod Listed
 pub mod Each
 pub mod Relocated
+pub mod Placed
+pub mod Recorded

@@ -86,3 +86,11 @@ number_address_in objects bases n (Some o) =
 
 unfoldable pub number_address : List Object → Bases → Numbers → ℕ
 number_address objects bases n = number_address_in objects bases n (slice_get objects n.object)
+
+-- its size, likewise
+abbrev pub number_size_in : Numbers → Option Object → ℕ
+number_size_in n None = 0
+number_size_in n (Some o) = elim (slice_get o.symbols n.number) as (λ _. ℕ) [ None ↦ 0 | Some s ↦ s.size ]
+
+unfoldable pub number_size : List Object → Numbers → ℕ
+number_size objects n = number_size_in n (slice_get objects n.object)

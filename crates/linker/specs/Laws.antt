@@ -9,3 +9,5 @@ pub mod Valid
 pub mod Growth
 pub mod Places
 pub mod LaidLaws
+pub mod Starting
+pub mod FilledLaws

@@ -16,4 +16,5 @@ pub mod Refusal
 pub mod Known
 pub mod Ready
 pub mod Totals
+pub mod Spans
 pub mod Laws

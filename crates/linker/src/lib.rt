@@ -3,13 +3,17 @@
 
 mod bases;
 mod code;
+mod data;
+mod descriptors;
 mod fields;
 mod layout;
 mod lengths;
 mod names;
+mod records;
 mod refusal;
 mod relocate;
 mod rodata;
+mod spans;
 mod table;
 mod totals;
 
