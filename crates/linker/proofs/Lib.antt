@@ -7,3 +7,6 @@ pub mod Each
 pub mod Relocated
 pub mod Placed
 pub mod Recorded
+pub mod TaggedSymbols
+pub mod Covered
+pub mod Spanned

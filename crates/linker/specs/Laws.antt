@@ -11,3 +11,7 @@ pub mod Places
 pub mod LaidLaws
 pub mod Starting
 pub mod FilledLaws
+pub mod Spelled
+pub mod FewestLaws
+pub mod PlanLaws
+pub mod MadeLaws

@@ -17,4 +17,5 @@ pub mod Known
 pub mod Ready
 pub mod Totals
 pub mod Spans
+pub mod Planned
 pub mod Laws

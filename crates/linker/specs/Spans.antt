@@ -27,10 +27,10 @@ is_init Zero = false
 
 -- the span of a symbol, where the filled bytes and the zero bytes of its object begin at these places
 abbrev pub span_of : ℕ → ℕ → Symbol → Span
-span_of init zero s = record { start = (if is_init s.home then init else zero) + s.value; bytes = s.size }
+span_of inits zeros s = record { start = (if is_init s.home then inits else zeros) + s.value; bytes = s.size }
 
 abbrev pub object_spans : ℕ → ℕ → Object → List Span
-object_spans init zero o = filter_map (λ n. option_map (span_of init zero) (slice_get o.symbols n)) o.tagged
+object_spans inits zeros o = filter_map (λ n. option_map (span_of inits zeros) (slice_get o.symbols n)) o.tagged
 
 -- where they begin in the object of a number: the zero bytes of the image follow its filled data
 abbrev pub init_at : List Object → ℕ → ℕ

@@ -9,6 +9,7 @@ mod fields;
 mod layout;
 mod lengths;
 mod names;
+mod plan;
 mod records;
 mod refusal;
 mod relocate;

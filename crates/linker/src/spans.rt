@@ -1,10 +1,11 @@
-ghost use Rattle.std.specs.Prelude.{◌≡◌, ◌<◌, ◌≤◌, ◌^◌, ◌++◌, List, length, OnOk, IfOk, IfErr, slice_index};
+ghost use Rattle.std.specs.Prelude.{◌≡◌, ◌<◌, ◌≤◌, ◌^◌, ◌++◌, List, All, length, OnOk, IfOk, IfErr, slice_get, slice_index};
+ghost use Rattle.std.specs.Option.{option_map};
 ghost use Rattle.std.specs.List.{AllByRecursion};
 ghost use Rattle.elf_obj.specs.Object.{object_of};
 ghost use Rattle.elf_obj.specs.ObjectFile.{IsValid};
 ghost use Rattle.linker.specs.declared.refusal.LinkRefusal.TheVariants.{NoMemory};
 ghost use Rattle.linker.specs.Data.{filled_size};
-ghost use Rattle.linker.specs.Known.{objects_of, AreStarts};
+ghost use Rattle.linker.specs.Known.{objects_of, AreStarts, AreLow};
 ghost use Rattle.linker.specs.Spans.{span_of, object_spans, spans_from, AreSpans};
 
 use crate::layout::Starts;
@@ -35,6 +36,18 @@ fn span_of(symbol: &Symbol, init: u128, zero: u128) -> Span
     }
 }
 
+// Those of the symbol of a number, if there is one.
+fn span_at(symbols: &[Symbol], number: u32, init: u128, zero: u128) -> Option<Span>
+    requires init { init < 2 ^ 110 }
+    requires zero { zero < 2 ^ 110 }
+    ensures { result ≡ option_map (span_of init zero) (slice_get symbols.now number) }
+{
+    match symbols.get(number as usize) {
+        None => None,
+        Some(symbol) => Some(span_of(symbol, init, zero)),
+    }
+}
+
 // Those of the tagged symbols of an object.
 fn push_spans(
     spans: &mut Vec<Span>,
@@ -48,8 +61,8 @@ fn push_spans(
     ensures memory { IfErr result (λ r. r ≡ NoMemory) }
 {
     for number in &parts.tagged {
-        if let Some(symbol) = parts.symbols.get(*number as usize) {
-            spans.push(span_of(symbol, init, zero))?;
+        if let Some(span) = span_at(&parts.symbols, *number, init, zero) {
+            spans.push(span)?;
         }
     }
     Ok(())
@@ -57,7 +70,9 @@ fn push_spans(
 
 // Where the section of an object begins.
 fn start_of(starts: &[u128], object: usize) -> u128
-    ensures { result ≡ slice_index starts.now object }
+    requires { All (λ n. n < 2 ^ 80) starts.now }
+    ensures start { result ≡ slice_index starts.now object }
+    ensures low { result < 2 ^ 80 }
 {
     match starts.get(object) {
         Some(start) => *start,
@@ -74,6 +89,7 @@ fn all_spans(
 ) -> Result<Vec<Span>, LinkRefusal>
     requires few { length objects.now ≤ 16 }
     requires starts { AreStarts (objects_of objects.now) starts.now }
+    requires low { AreLow starts.now }
     requires size { filled ≡ filled_size (objects_of objects.now) }
     requires small { filled < 2 ^ 100 }
     ensures spans { IfOk result (λ v. v.items ≡ spans_from (objects_of objects.now) 0 (objects_of objects.now)) }
@@ -98,6 +114,7 @@ pub(crate) fn spans_of(
     requires valid { AllByRecursion IsValid (objects_of objects.now) }
     requires few { length objects.now ≤ 16 }
     requires starts { AreStarts (objects_of objects.now) starts.now }
+    requires low { AreLow starts.now }
     requires size { filled ≡ filled_size (objects_of objects.now) }
     requires small { filled < 2 ^ 100 }
     ensures spans { IfOk result (λ v. AreSpans (objects_of objects.now) v.items) }
