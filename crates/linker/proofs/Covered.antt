@@ -129,7 +129,7 @@ once w a earlier least (t ∷ ts) h =
     let tag : IsTag (sizes_of w.object) w.object.symbols earlier t = tag_is (sizes_of w.object) w.object.symbols earlier least t ts w.keep h in
     let left = tags_left w.object.symbols earlier least t ts h in
     let is : covering a (filter_map (found_in w) (t ∷ ts)) ≡ cond (covers a (span_in w tag.symbol)) 1 0
-        + covering a (filter_map (found_in w) ts) =
+    + covering a (filter_map (found_in w) ts) =
     ap (λ (x : Option Span). covering a (cons_option x (filter_map (found_in w) ts))) (found_is w t tag.symbol tag.there) in
     let le : cond (covers a (span_in w tag.symbol)) 1 0 + covering a (filter_map (found_in w) ts) ≤ 1 =
     by_test (covers a (span_in w tag.symbol)) (once w a (earlier ++ t ∷ []) (t + 1) ts left)
@@ -149,7 +149,7 @@ where_covered w a earlier least [] h some = absurd (omega arith)
 where_covered w a earlier least (t ∷ ts) h some =
     let tag : IsTag (sizes_of w.object) w.object.symbols earlier t = tag_is (sizes_of w.object) w.object.symbols earlier least t ts w.keep h in
     let is : covering a (filter_map (found_in w) (t ∷ ts)) ≡ cond (covers a (span_in w tag.symbol)) 1 0
-        + covering a (filter_map (found_in w) ts) =
+    + covering a (filter_map (found_in w) ts) =
     ap (λ (x : Option Span). covering a (cons_option x (filter_map (found_in w) ts))) (found_is w t tag.symbol tag.there) in
     by_test tag (covers a (span_in w tag.symbol)) refl (omega arith)
     (where_covered w a (earlier ++ t ∷ []) (t + 1) ts (tags_left w.object.symbols earlier least t ts h))
@@ -254,7 +254,7 @@ one_object objects k o os a valid there rest =
     let w : Room = site_of objects k o valid at in
     let within : k < length objects = within_get objects k o there in
     let sum : covering a (spans_from objects k (o ∷ os)) ≡ covering a (filter_map (found_in w) o.tagged)
-        + covering a (spans_from objects (k + 1) os) =
+    + covering a (spans_from objects (k + 1) os) =
     covering-append a (object_spans (init_at objects k) (zero_at objects k) o) (spans_from objects (k + 1) os) in
     let own : covering a (filter_map (found_in w) o.tagged) ≤ 1 = once w a [] 0 o.tagged valid.tagged in
     let lies : 0 < covering a (filter_map (found_in w) o.tagged) → InSection w a = where_covered w a [] 0 o.tagged valid.tagged in

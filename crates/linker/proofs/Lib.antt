@@ -10,3 +10,4 @@ pub mod Recorded
 pub mod TaggedSymbols
 pub mod Covered
 pub mod Spanned
+pub mod Staged

@@ -133,10 +133,15 @@ apart_sorted end from (s ∷ t ∷ ss) good rise once first =
           λ i. cond (one i) 1 0 + (cond (two i) 1 0 + covering t.start ss) in
           let few = once t.start in absurd (omega arith)
       | inr ge ↦ ge
-    ] in
-    (good.0.0, good.0.1, good.0.2, first (omega arith), good.0.3,
-    apart_sorted end (s.start + s.bytes) (t ∷ ss) good.1 (IsNonDecreasingBy-drop (λ (s : Span). s.start) 1 (s ∷ t ∷ ss) rise)
-    (λ a. let few = once a in by_test (covers a s) few) (λ more. apart))
+    ] in (
+      good.0.0,
+      good.0.1,
+      good.0.2,
+      first (omega arith),
+      good.0.3,
+      apart_sorted end (s.start + s.bytes) (t ∷ ss) good.1 (IsNonDecreasingBy-drop (λ (s : Span). s.start) 1 (s ∷ t ∷ ss) rise)
+          (λ a. let few = once a in by_test (covers a s) few) (λ more. apart),
+    )
   where
     by_test : {m : ℕ} (b : Bool) → cond b 1 0 + m ≤ 1 → m ≤ 1
     by_test true h = omega arith

@@ -6,8 +6,10 @@ mod code;
 mod data;
 mod descriptors;
 mod fields;
+mod image;
 mod layout;
 mod lengths;
+mod linking;
 mod names;
 mod plan;
 mod records;
@@ -20,4 +22,5 @@ mod totals;
 
 pub use bases::Bases;
 pub use fields::Site;
+pub use linking::link;
 pub use refusal::LinkRefusal;

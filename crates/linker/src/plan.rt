@@ -30,7 +30,11 @@ pub(crate) struct Plan {
 }
 
 /// Where sections of these lengths begin; the filled data follows a table of so many bytes.
-pub(crate) fn section_starts(alloc: Global, lengths: &Lengths, table: u128) -> Result<Starts, LinkRefusal>
+pub(crate) fn section_starts(
+    alloc: Global,
+    lengths: &Lengths,
+    table: u128,
+) -> Result<Starts, LinkRefusal>
     requires words { length lengths.now.words.items ≤ 16 }
     requires rodata { length lengths.now.rodata.items ≤ 16 }
     requires init { length lengths.now.init.items ≤ 16 }

@@ -68,7 +68,12 @@ impl<'a> Link<'a> {
     }
 
     // The places of the filled data of the object of a number.
-    fn push_places(&self, out: &mut Vec<RelativeReloc>, object: usize, relocs: &[Reloc]) -> Result<(), LinkRefusal>
+    fn push_places(
+        &self,
+        out: &mut Vec<RelativeReloc>,
+        object: usize,
+        relocs: &[Reloc],
+    ) -> Result<(), LinkRefusal>
         requires ready { IsReady self.now }
         requires within { object < length self.now.objects.now }
         requires near { AllByRecursion (λ r. r.offset < 2 ^ 63) relocs.now }
