@@ -84,7 +84,7 @@ memory_low objects p h =
 
 -- ---- the layout
 
-same_bases_by : (objects : List Object) (p : Plan) → IsPlan objects p → bases_by p.totals p.count ≡ bases_by (totals_of objects) p.count
+pub same_bases_by : (objects : List Object) (p : Plan) → IsPlan objects p → bases_by p.totals p.count ≡ bases_by (totals_of objects) p.count
 same_bases_by objects p plan = ap (λ (t : Totals). bases_by t p.count) plan.totals
 
 pub layout_near : (objects : List Object) (p : Plan) (l : Layout) → IsAccepted objects p → l.bases ≡ bases_by p.totals p.count
