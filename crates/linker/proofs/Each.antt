@@ -36,3 +36,14 @@ each_set {A} {B} k (suc j) f g (x ∷ xs) d lt h =
     let a : (k + 1) + i ≡ k + suc i = omega arith in
     ap (λ (m : ℕ). f m y) a ∙ h (suc i) y (omega arith) (λ e. ne (omega arith)) ∙ ap (λ (m : ℕ). g m y) (omega arith)) in
     λ i. first i ∷ (ap (λ (m : ℕ). set (each_from (k + 1) f xs) j (g m (get_or xs j d))) at ∙ rest) i
+
+-- by itself
+pub each_same : {A : Type 0} (xs : List A) (k : ℕ) → each_from k (λ i x. x) xs ≡ xs
+each_same [] k = refl
+each_same {A} (x ∷ xs) k = ap (λ (l : List A). x ∷ l) (each_same xs (k + 1))
+
+-- twice
+pub each_each : {A B C : Type 0} (k : ℕ) (f : ℕ → A → B) (g : ℕ → B → C) (xs : List A)
+    → each_from k g (each_from k f xs) ≡ each_from k (λ i x. g i (f i x)) xs
+each_each k f g [] = refl
+each_each {A} {B} {C} k f g (x ∷ xs) = ap (λ (l : List C). g k (f k x) ∷ l) (each_each (k + 1) f g xs)

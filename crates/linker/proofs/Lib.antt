@@ -5,3 +5,9 @@ pub mod Firsts
 pub mod Listed
 pub mod Each
 pub mod Relocated
+pub mod Placed
+pub mod Recorded
+pub mod TaggedSymbols
+pub mod Covered
+pub mod Spanned
+pub mod Staged

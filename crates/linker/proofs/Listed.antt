@@ -13,7 +13,8 @@ use Rattle.linker.specs.declared.names.Numbers.{Numbers}
 use Rattle.linker.specs.declared.bases.Bases.{Bases}
 use Rattle.linker.specs.Names.{Entry, entry, numbered_from, entries_from, is_defined, defines, definition, stands_for, target, main_name}
 use Rattle.linker.specs.Addresses.{entry_address, address, plus}
-use Rattle.linker.specs.Known.{objects_of, numbers_of, number_address_in, number_address}
+use Rattle.linker.specs.Data.{size_of}
+use Rattle.linker.specs.Known.{objects_of, numbers_of, number_address_in, number_address, number_size_in, number_size}
 
 -- the symbol of these numbers is that of the entry
 pub record IsListed (os : List Object) (e : Entry) : Type 0 where
@@ -141,7 +142,34 @@ told_address os bases k number o n there h =
     ap (number_address os bases) (sym t.numbers) ∙ listed_address os bases t.entry (target_listed os k number o t.entry there t.is)
     ∙ sym (ap (address os bases) t.is)
 
+-- its size
+listed_size : (os : List Object) (e : Entry) → IsListed os e → number_size os (numbers_of e) ≡ e.symbol.size
+unfolding number_size
+listed_size os e r =
+    ap (number_size_in (numbers_of e)) r.there
+    ∙ ap (λ (x : Option Symbol). elim x as (λ _. ℕ) [ None ↦ 0 | Some s ↦ s.size ]) r.symbol
+
+pub told_size : (os : List Object) (k number : ℕ) (o : Object) (n : Numbers) → slice_get os k ≡ Some o
+    → option_map numbers_of (target os k o.symbols number) ≡ Some n → number_size os n ≡ size_of (target os k o.symbols number)
+told_size os k number o n there h =
+    let t : Told os k number o n = told os k number o n h in
+    ap (number_size os) (sym t.numbers) ∙ listed_size os t.entry (target_listed os k number o t.entry there t.is)
+    ∙ sym (ap size_of t.is)
+
 -- ---- the object of parts
+
+-- what an index past the end reads as
+abbrev pub blank : Object
+blank = record {
+  words = [];
+  rodata = [];
+  init_bytes = [];
+  zero_bytes = 0;
+  symbols = [];
+  text_relocs = [];
+  init_relocs = [];
+  tagged = [];
+}
 
 pub object_is : (parts : List ObjectParts) (k : ℕ) (o : Object) (d : ObjectParts) → k < length parts
     → slice_get (objects_of parts) k ≡ Some o

@@ -11,15 +11,11 @@ use Rattle.linker.specs.Fields.{relocated}
 use Rattle.linker.specs.Code.{site, word_with}
 use Rattle.linker.specs.Ready.{Relocates}
 use Rattle.linker.proofs.Knowing.{left_is}
-use Rattle.linker.proofs.Each.{each_alike, each_set}
+use Rattle.linker.proofs.Each.{each_alike, each_set, each_same}
 
 -- an instruction of an object by some of its relocations
 abbrev pub word_by : List Object → Bases → ℕ → Object → List Reloc → ℕ → ℕ → ℕ
 word_by os bases k o rs i word = word_with os bases k o (find (λ r. r.offset == 4 * i) rs) word
-
-each_same : (ws : List ℕ) (k : ℕ) → each_from k (λ i w. w) ws ≡ ws
-each_same [] k = refl
-each_same (w ∷ ws) k = ap (λ (l : List ℕ). w ∷ l) (each_same ws (k + 1))
 
 -- without any
 pub words_first : (os : List Object) (bases : Bases) (k : ℕ) (o : Object) (rs : List Reloc) (ws : List ℕ)

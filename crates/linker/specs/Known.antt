@@ -2,7 +2,7 @@
 use Rattle.std.specs.Prelude.{◌≡◌, ◌⊎◌, ℕ, Bool, not, ◌&&◌, List, map}
 use Rattle.std.specs.Prelude.{◌<◌, ◌^◌, Option, Some, None, slice_get, slice_index}
 use Rattle.std.specs.Borrow.{Bor}
-use Rattle.std.specs.List.{find, list_any}
+use Rattle.std.specs.List.{All, find, list_any}
 use Rattle.std.specs.Option.{option_map}
 use Rattle.std.specs.Str.{bytes_eq}
 use Rattle.indexmap.specs.IndexMap.{IndexMap, get_by}
@@ -67,6 +67,11 @@ pub record AreStarts (objects : List Object) (starts_of : Starts) : Type 0 where
   pub init : starts_of.init.items ≡ starts 16 (got_bytes objects) (init_sizes objects)
   pub zero : starts_of.zero.items ≡ starts 16 0 (zero_sizes objects)
 
+-- those of the data are low, whatever the objects are
+pub record AreLow (s : Starts) : Type 0 where
+  pub init : All (λ n. n < 2 ^ 80) s.init.items
+  pub zero : All (λ n. n < 2 ^ 80) s.zero.items
+
 -- all of them are near the start of the image, which is within 256 MiB
 pub record AreNear (l : Layout) : Type 0 where
   pub rodata : l.bases.rodata < 2 ^ 32
@@ -86,3 +91,11 @@ number_address_in objects bases n (Some o) =
 
 unfoldable pub number_address : List Object → Bases → Numbers → ℕ
 number_address objects bases n = number_address_in objects bases n (slice_get objects n.object)
+
+-- its size, likewise
+abbrev pub number_size_in : Numbers → Option Object → ℕ
+number_size_in n None = 0
+number_size_in n (Some o) = elim (slice_get o.symbols n.number) as (λ _. ℕ) [ None ↦ 0 | Some s ↦ s.size ]
+
+unfoldable pub number_size : List Object → Numbers → ℕ
+number_size objects n = number_size_in n (slice_get objects n.object)

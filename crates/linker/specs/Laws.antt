@@ -9,3 +9,9 @@ pub mod Valid
 pub mod Growth
 pub mod Places
 pub mod LaidLaws
+pub mod Starting
+pub mod FilledLaws
+pub mod Spelled
+pub mod FewestLaws
+pub mod PlanLaws
+pub mod MadeLaws

@@ -16,4 +16,6 @@ pub mod Refusal
 pub mod Known
 pub mod Ready
 pub mod Totals
+pub mod Spans
+pub mod Planned
 pub mod Laws

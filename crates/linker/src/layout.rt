@@ -2,7 +2,8 @@ ghost use Rattle.std.specs.Prelude.{◌≡◌, ◌<◌, ◌≤◌, ◌^◌, List
 ghost use Rattle.mt_base.specs.Wrapping.{wrap};
 ghost use Rattle.elf_obj.specs.Object.{Object};
 ghost use Rattle.linker.specs.Names.{Entry};
-ghost use Rattle.linker.specs.Got.{got, got_number};
+ghost use Rattle.linker.specs.Sections.{starts, init_sizes};
+ghost use Rattle.linker.specs.Got.{got, got_number, got_bytes};
 ghost use Rattle.linker.specs.Addresses.{section_address};
 ghost use Rattle.linker.specs.Known.{objects_of, numbers_of, AreStarts, AreNear, number_address};
 
@@ -14,10 +15,10 @@ use elf_obj::{Home, ObjectParts};
 /// The places within the parts of an image at which the sections of the objects begin; those of the instructions are counted in words.
 #[derive(Drop)]
 pub(crate) struct Starts {
-    pub text: Vec<u64>,
-    pub rodata: Vec<u64>,
-    pub init: Vec<u64>,
-    pub zero: Vec<u64>,
+    pub text: Vec<u128>,
+    pub rodata: Vec<u128>,
+    pub init: Vec<u128>,
+    pub zero: Vec<u128>,
 }
 
 /// Where all sections of the objects lie in the image.
@@ -28,16 +29,26 @@ pub(crate) struct Layout {
 }
 
 // The start of the object of a number.
-fn start_at(starts: &[u64], object: usize) -> u64
+fn start_at(starts: &[u128], object: usize) -> u64
+    requires { slice_index starts.now object < 2 ^ 32 }
     ensures { result ≡ slice_index starts.now object }
 {
     match starts.get(object) {
-        Some(start) => *start,
+        Some(start) => *start as u64,
         None => 0,
     }
 }
 
 impl Layout {
+    /// Where the filled bytes of the object of a number begin in the filled data.
+    pub(crate) fn init_start(&self, object: usize) -> u64
+        requires { AreNear self.now }
+        ensures { (objects : List Object) → AreStarts objects self.now.starts
+            → result ≡ slice_index (starts 16 (got_bytes objects) (init_sizes objects)) object }
+    {
+        start_at(&self.starts.init, object)
+    }
+
     /// Where the section lies that the object of a number has of a kind.
     pub(crate) fn section_address(&self, object: usize, home: Home) -> u64
         requires { AreNear self.now }

@@ -1,4 +1,4 @@
-ghost use Rattle.std.specs.Prelude.{◌≡◌, ◌≤◌, ◌<◌, ◌^◌, List, length, IfOk, IfErr};
+ghost use Rattle.std.specs.Prelude.{◌≡◌, ◌≤◌, ◌<◌, ◌^◌, List, All, length, IfOk, IfErr};
 ghost use Rattle.linker.specs.declared.refusal.LinkRefusal.TheVariants.{NoMemory};
 ghost use Rattle.linker.specs.Sections.{round_up, starts, ends};
 ghost use Rattle.linker.specs.Totals.{AreLengths};
@@ -52,14 +52,15 @@ fn round_up(unit: u64, n: u128) -> u128
 }
 
 /// Where sections of these lengths end, of which the first begins at the next multiple of the unit from a place on, and so on.
-pub(crate) fn end_of(unit: u64, at: u64, lengths: &[u64]) -> u128
+pub(crate) fn end_of(unit: u64, at: u128, lengths: &[u64]) -> u128
     requires some { 1 ≤ unit }
     requires few { unit ≤ 16 }
     requires count { length lengths.now ≤ 16 }
+    requires near { at < 2 ^ 68 }
     ensures end { result ≡ ends unit at lengths.now }
     ensures small { result < 2 ^ 80 }
 {
-    let mut end = u128::from(at);
+    let mut end = at;
     for length in lengths {
         end = round_up(unit, end) + u128::from(*length);
     }
@@ -70,17 +71,19 @@ pub(crate) fn end_of(unit: u64, at: u64, lengths: &[u64]) -> u128
 pub(crate) fn starts_of(
     alloc: Global,
     unit: u64,
-    at: u64,
+    at: u128,
     lengths: &[u64],
 ) -> Result<Vec<u128>, LinkRefusal>
     requires some { 1 ≤ unit }
     requires few { unit ≤ 16 }
     requires count { length lengths.now ≤ 16 }
+    requires near { at < 2 ^ 68 }
     ensures starts { IfOk result (λ v. v.items ≡ starts unit at lengths.now) }
+    ensures low { IfOk result (λ v. All (λ n. n < 2 ^ 80) v.items) }
     ensures memory { IfErr result (λ r. r ≡ NoMemory) }
 {
     let mut starts = Vec::new(alloc);
-    let mut end = u128::from(at);
+    let mut end = at;
     for length in lengths {
         let start = round_up(unit, end);
         starts.push(start)?;

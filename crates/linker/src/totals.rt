@@ -59,11 +59,10 @@ pub(crate) fn totals_of(objects: &[ObjectParts], lengths: &Lengths, words: usize
     requires few { length objects.now ≤ 16 }
     requires lengths { AreLengths (objects_of objects.now) lengths.now }
     requires words { words ≡ length (got (objects_of objects.now)) }
-    requires small { words < 2 ^ 60 }
     ensures totals { result ≡ totals_of (objects_of objects.now) }
     ensures small { AreSmall result }
 {
-    let table = 8 * words as u64;
+    let table = 8 * words as u128;
     Totals {
         relocs: words as u128 + data_reloc_count(objects),
         rodata: end_of(16, 0, &lengths.rodata),

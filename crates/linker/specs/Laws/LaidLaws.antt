@@ -17,11 +17,11 @@ round_up_16 n = omega arith
 pub round_up_4 : (n : ℕ) → n ≤ round_up 4 n
 round_up_4 n = omega arith
 
-laid_in_order : (unit at : ℕ) (cs : List (List ℕ)) → ((n : ℕ) → n ≤ round_up unit n) → AreInOrder at (laid unit at cs)
+pub laid_in_order : (unit at : ℕ) (cs : List (List ℕ)) → ((n : ℕ) → n ≤ round_up unit n) → AreInOrder at (laid unit at cs)
 laid_in_order unit at [] h = tt
 laid_in_order unit at (c ∷ cs) h = (h at, laid_in_order unit (round_up unit at + length c) cs h)
 
-laid_end : (unit at : ℕ) (cs : List (List ℕ)) → end_of at (laid unit at cs) ≡ ends unit at (map length cs)
+pub laid_end : (unit at : ℕ) (cs : List (List ℕ)) → end_of at (laid unit at cs) ≡ ends unit at (map length cs)
 laid_end unit at [] = refl
 laid_end unit at (c ∷ cs) = laid_end unit (round_up unit at + length c) cs
 

@@ -5,8 +5,9 @@ use Rattle.std.specs.List.{list_any, AllByRecursion}
 use Rattle.std.proofs.lemmas.Bool.{ltb-false, lt-ltb, le-ltb, eq-eqb, ne_eqb, eqb-true, or_parts, true≢false}
 use Rattle.std.proofs.lemmas.List.Sorted.{list_any-IsPermutation}
 use Rattle.memtag_desc.specs.declared.interval.Interval.{Interval}
-use Rattle.memtag_desc.specs.Descriptors.{end_of, HaveDescription, Describes}
+use Rattle.memtag_desc.specs.Descriptors.{end_of, Describes}
 use Rattle.memtag_desc.specs.Laws.OneSpelling.{have_description}
+use Rattle.linker.specs.Laws.Spelled.{AreSpread, described_spread}
 
 -- the two lists pass the same tests
 abbrev PassAlike : List Interval → List Interval → Type 0
@@ -20,10 +21,10 @@ further : (low high : ℕ) (xs : List Interval) → low ≤ high → AreBehind h
 further low high [] le h = tt
 further low high (x ∷ xs) le h = let here = h.0 in (omega arith, further low high xs le h.1)
 
-behind : (from : ℕ) (xs : List Interval) → HaveDescription from xs → AreBehind from xs
+behind : (from : ℕ) (xs : List Interval) → AreSpread from xs → AreBehind from xs
 behind from [] h = tt
 behind from (i ∷ is) h =
-    let start = h.3 in (start, further from (end_of i) is (omega arith) (behind (end_of i) is h.5))
+    let start = h.1 in (start, further from (end_of i) is (omega arith) (behind (end_of i) is h.2))
 
 none_before : (at from : ℕ) (xs : List Interval) → at ≤ from → AreBehind from xs → list_any (λ i. nat_lt i.start at) xs ≡ false
 none_before at from [] le h = refl
@@ -78,26 +79,30 @@ rest_alike x y xs ys ends others same lt gt h g alike p =
     rw (le-ltb x.start y.start (omega arith)) (all_after x.start others p ys (omega arith) g) in
     sym here ∙ alike (λ i. nat_lt x.start i.start && p i) ∙ there
 
-alike_same : (from other : ℕ) (xs ys : List Interval) → HaveDescription from xs → HaveDescription other ys → PassAlike xs ys → xs ≡ ys
+alike_same : (from other : ℕ) (xs ys : List Interval) → AreSpread from xs → AreSpread other ys → PassAlike xs ys → xs ≡ ys
 alike_same from other [] [] h g alike = refl
 alike_same from other [] (y ∷ ys) h g alike = absurd (true≢false (sym (alike (λ _. true))))
 alike_same from other (x ∷ xs) [] h g alike = absurd (true≢false (alike (λ _. true)))
 alike_same from other (x ∷ xs) (y ∷ ys) h g alike =
-    let size = h.2 in
-    let size2 = g.2 in
-    let after = behind (end_of x) xs h.5 in
-    let after2 = behind (end_of y) ys g.5 in
+    let size = h.0 in
+    let size2 = g.0 in
+    let after = behind (end_of x) xs h.2 in
+    let after2 = behind (end_of y) ys g.2 in
     let le = no_later x y xs ys (end_of x) (omega arith) after alike in
     let ge = no_later y x ys xs (end_of y) (omega arith) after2 (λ p. sym (alike p)) in
     let starts : x.start ≡ y.start = omega arith in
     let bytes : x.bytes ≡ y.bytes = sym (as_long x y xs ys (end_of y) (omega arith) after2 starts alike) in
-    let rest : xs ≡ ys = alike_same (end_of x) (end_of y) xs ys h.5 g.5
+    let rest : xs ≡ ys = alike_same (end_of x) (end_of y) xs ys h.2 g.2
     (rest_alike x y xs ys (end_of x) (end_of y) starts (omega arith) (omega arith) after after2 alike) in
     λ i. record { start = starts i; bytes = bytes i } ∷ rest i
+
+-- lists of the same intervals are equal
+pub spread_order : (all xs ys : List Interval) → IsPermutation all xs → IsPermutation all ys → AreSpread 0 xs → AreSpread 0 ys → xs ≡ ys
+spread_order all xs ys h g d e =
+    alike_same 0 0 xs ys d e (λ p. sym (list_any-IsPermutation p all xs h) ∙ list_any-IsPermutation p all ys g)
 
 -- lists that have descriptions and the same intervals are equal
 pub one_order : (all xs ys : List Interval) (a b : List ℕ) → IsPermutation all xs → IsPermutation all ys → Describes xs a
     → Describes ys b → xs ≡ ys
 one_order all xs ys a b h g d e =
-    alike_same 0 0 xs ys (have_description xs a d) (have_description ys b e)
-    (λ p. sym (list_any-IsPermutation p all xs h) ∙ list_any-IsPermutation p all ys g)
+    spread_order all xs ys h g (described_spread 0 xs (have_description xs a d)) (described_spread 0 ys (have_description ys b e))

@@ -59,7 +59,7 @@ bound objects h = record { few = few; once = once; main = main; defined = define
 pub linked_fewest : (objects : List Object) (image : Image) → Linked objects image → IsFewest objects (length image.descriptors)
 linked_fewest objects image h = record { agrees = linked_agrees objects image h; least = h.descriptors.fewest }
 
-no_excess : (image : Image) → excess image ≡ None → memory_end image ≤ memory_limit
+pub no_excess : (image : Image) → excess image ≡ None → memory_end image ≤ memory_limit
 no_excess image h = by_tests (nat_lt code_limit (4 * length image.words)) (nat_lt memory_limit (memory_end image)) refl h
   where
     by_tests : (b c : Bool) → nat_lt memory_limit (memory_end image) ≡ c

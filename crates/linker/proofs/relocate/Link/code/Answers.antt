@@ -10,6 +10,7 @@ use Rattle.linker.specs.Code.{call_main, end_run, object_words}
 use Rattle.linker.specs.Known.{objects_of}
 use Rattle.linker.specs.Laws.LaidLaws.{laid_more, round_up_4}
 use Rattle.linker.proofs.Knowing.{left_is}
+use Rattle.linker.proofs.Listed.{blank}
 use Rattle.linker.proofs.relocate.Link.code.Goals as goal
 
 pub loop-object-init : goal.loop-object-init
@@ -23,19 +24,6 @@ loop-object-init c =
     ∙ ap (λ (l : List ℕ). l ++ end_run ∷ []) (c.in_ok-push.ensures.items
     ∙ (λ i. c.new-out.ensures.items i ++ c.call_main.ensures i ∷ [])) in
     ap (λ (l : List ℕ). put_all (laid 4 (length l) cs) l) items
-
--- what an index past the end reads as
-abbrev blank : Object
-blank = record {
-  words = [];
-  rodata = [];
-  init_bytes = [];
-  zero_bytes = 0;
-  symbols = [];
-  text_relocs = [];
-  init_relocs = [];
-  tagged = [];
-}
 
 pub loop-object-preserved : goal.loop-object-preserved
 loop-object-preserved c =
