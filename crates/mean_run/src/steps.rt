@@ -1,16 +1,17 @@
 //! The step of a run: what is next is done, or what was done is given to what waits for it.
 
-ghost use Rattle.std.specs.Prelude.{◌≡◌, List};
+ghost use Rattle.std.specs.Prelude.{◌≡◌, List, ◌∷◌};
 ghost use Rattle.block_meaning.specs.Running.{Context, State};
 ghost use Rattle.mean_machine.specs.Frames as waiting;
 ghost use Rattle.mean_machine.specs.Steps as machine;
-ghost use Rattle.mean_run.specs.Stacked.{IsProcess, Moves, standing, flow_of};
+ghost use Rattle.mean_run.specs.Shown.{IsNow};
+ghost use Rattle.mean_run.specs.Stacked.{FrameShown, IsAt, IsProcess, Moves, Stacked, flow_of, standing, world_of};
 
-use crate::flows::flow_given;
 use crate::declaring::declare;
 use crate::done::done_given;
 use crate::evaluate::evaluate;
-use crate::frames::{Control, DoneFrame, Flow, Frame};
+use crate::flows::flow_given;
+use crate::frames::{Control, Flow, Frame};
 use crate::initialising::fill;
 use crate::locate::locate;
 use crate::now::Ending;
@@ -21,14 +22,38 @@ use crate::scopes::execute;
 use crate::values::value_given;
 use block_meaning::{Pointer, Value};
 
+/// A value, for what waited on top of the stack and was taken from there.
+fn value_for<'a>(p: &mut Process<'a>, frame: Frame<'a>, v: Value) -> Result<Control<'a>, Ending>
+    ensures { (here : Context) (k : List waiting.Frame) (g : waiting.Frame) (now : State) → IsAt (world_of p.old) here → IsNow p.old.now now
+        → FrameShown frame.entry (world_of p.old) here g (Stacked k p.old.stack.items)
+        → Moves p.new now result (machine.resume (waiting.GivesValue v) here (g ∷ k) now) }
+{
+    match frame {
+        Frame::OnOperand(frame) => operand_given(&mut p.now, &mut p.stack, p.here, frame, v),
+        Frame::OnValue(frame) => value_given(&mut p.now, &mut p.stack, p.here, frame, v),
+        _ => Err(Ending::NoMemory),
+    }
+}
+
 /// A value is given to what waits for it.
 fn give_value<'a>(p: &mut Process<'a>, v: Value) -> Result<Control<'a>, Ending>
     ensures { (here : Context) (k : List waiting.Frame) (now : State) → IsProcess p.old here k now
-        → Moves p.new now result (machine.step (waiting.Runs (waiting.GivesValue v) here k now)) }
+        → Moves p.new now result (machine.resume (waiting.GivesValue v) here k now) }
 {
     match p.stack.pop() {
-        Some(Frame::OnOperand(frame)) => operand_given(&mut p.now, &mut p.stack, p.here, frame, v),
-        Some(Frame::OnValue(frame)) => value_given(&mut p.now, &mut p.stack, p.here, frame, v),
+        Some(frame) => value_for(p, frame, v),
+        None => Err(Ending::NoMemory),
+    }
+}
+
+/// A place, likewise.
+fn place_for<'a>(p: &mut Process<'a>, frame: Frame<'a>, at: Pointer) -> Result<Control<'a>, Ending>
+    ensures { (here : Context) (k : List waiting.Frame) (g : waiting.Frame) (now : State) → IsAt (world_of p.old) here → IsNow p.old.now now
+        → FrameShown frame.entry (world_of p.old) here g (Stacked k p.old.stack.items)
+        → Moves p.new now result (machine.resume (waiting.GivesPlace at) here (g ∷ k) now) }
+{
+    match frame {
+        Frame::OnPlace(frame) => place_given(&mut p.now, &mut p.stack, p.here, frame, at),
         _ => Err(Ending::NoMemory),
     }
 }
@@ -36,10 +61,22 @@ fn give_value<'a>(p: &mut Process<'a>, v: Value) -> Result<Control<'a>, Ending>
 /// A place is given to what waits for it.
 fn give_place<'a>(p: &mut Process<'a>, at: Pointer) -> Result<Control<'a>, Ending>
     ensures { (here : Context) (k : List waiting.Frame) (now : State) → IsProcess p.old here k now
-        → Moves p.new now result (machine.step (waiting.Runs (waiting.GivesPlace at) here k now)) }
+        → Moves p.new now result (machine.resume (waiting.GivesPlace at) here k now) }
 {
     match p.stack.pop() {
-        Some(Frame::OnPlace(frame)) => place_given(&mut p.now, &mut p.stack, p.here, frame, at),
+        Some(frame) => place_for(p, frame, at),
+        None => Err(Ending::NoMemory),
+    }
+}
+
+/// The end of a statement, likewise.
+fn flow_for<'a>(p: &mut Process<'a>, frame: Frame<'a>, flow: Flow) -> Result<Control<'a>, Ending>
+    ensures { (here : Context) (k : List waiting.Frame) (g : waiting.Frame) (now : State) → IsAt (world_of p.old) here → IsNow p.old.now now
+        → FrameShown frame.entry (world_of p.old) here g (Stacked k p.old.stack.items)
+        → Moves p.new now result (machine.resume (waiting.GivesFlow (flow_of flow)) here (g ∷ k) now) }
+{
+    match frame {
+        Frame::OnFlow(frame) => flow_given(p, frame, flow),
         _ => Err(Ending::NoMemory),
     }
 }
@@ -47,10 +84,22 @@ fn give_place<'a>(p: &mut Process<'a>, at: Pointer) -> Result<Control<'a>, Endin
 /// The end of a statement is given to what waits for it.
 fn give_flow<'a>(p: &mut Process<'a>, flow: Flow) -> Result<Control<'a>, Ending>
     ensures { (here : Context) (k : List waiting.Frame) (now : State) → IsProcess p.old here k now
-        → Moves p.new now result (machine.step (waiting.Runs (waiting.GivesFlow (flow_of flow)) here k now)) }
+        → Moves p.new now result (machine.resume (waiting.GivesFlow (flow_of flow)) here k now) }
 {
     match p.stack.pop() {
-        Some(Frame::OnFlow(frame)) => flow_given(p, frame, flow),
+        Some(frame) => flow_for(p, frame, flow),
+        None => Err(Ending::NoMemory),
+    }
+}
+
+/// The end of a declaration or of an initialiser, likewise.
+fn end_for<'a>(p: &mut Process<'a>, frame: Frame<'a>) -> Result<Control<'a>, Ending>
+    ensures { (here : Context) (k : List waiting.Frame) (g : waiting.Frame) (now : State) → IsAt (world_of p.old) here → IsNow p.old.now now
+        → FrameShown frame.entry (world_of p.old) here g (Stacked k p.old.stack.items)
+        → Moves p.new now result (machine.resume waiting.Finished here (g ∷ k) now) }
+{
+    match frame {
+        Frame::OnDone(frame) => done_given(&mut p.now, &mut p.stack, p.here, frame),
         _ => Err(Ending::NoMemory),
     }
 }
@@ -58,11 +107,11 @@ fn give_flow<'a>(p: &mut Process<'a>, flow: Flow) -> Result<Control<'a>, Ending>
 /// What waits goes on after a declaration or an initialiser.
 fn give_end<'a>(p: &mut Process<'a>) -> Result<Control<'a>, Ending>
     ensures { (here : Context) (k : List waiting.Frame) (now : State) → IsProcess p.old here k now
-        → Moves p.new now result (machine.step (waiting.Runs waiting.Finished here k now)) }
+        → Moves p.new now result (machine.resume waiting.Finished here k now) }
 {
     match p.stack.pop() {
-        Some(Frame::OnDone(frame)) => done_given(&mut p.now, &mut p.stack, p.here, frame),
-        _ => Err(Ending::NoMemory),
+        Some(frame) => end_for(p, frame),
+        None => Err(Ending::NoMemory),
     }
 }
 
@@ -73,13 +122,21 @@ pub fn step<'a>(p: &mut Process<'a>, control: Control<'a>) -> Result<Control<'a>
 {
     match control {
         Control::Evaluate(around, e) => evaluate(&mut p.now, &mut p.stack, p.here, around, e),
-        Control::Locate(e) => {
-            locate(&mut p.now, &mut p.stack, p.here, p.locals.as_slice(), e)
-        }
+        Control::Locate(e) => locate(
+            &mut p.now,
+            &mut p.stack,
+            p.here,
+            p.locals.as_slice(),
+            e,
+        ),
         Control::Execute(s) => execute(p, s),
-        Control::Declare(declarations) => {
-            declare(&mut p.now, &mut p.stack, p.here, p.locals.as_slice(), declarations)
-        }
+        Control::Declare(declarations) => declare(
+            &mut p.now,
+            &mut p.stack,
+            p.here,
+            p.locals.as_slice(),
+            declarations,
+        ),
         Control::Fill(o, i) => fill(&mut p.now, &mut p.stack, p.here, o, i),
         Control::GivesValue(v) => give_value(p, v),
         Control::GivesPlace(at) => give_place(p, at),

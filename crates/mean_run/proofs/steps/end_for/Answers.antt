@@ -1,0 +1,15 @@
+use Rattle.std.proofs.Common.{◌≡◌, refl, sym, subst, ap, ◌∙◌, ◌∷◌, ◌++◌}
+use Rattle.mean_machine.specs.Frames.{Finished}
+use Rattle.mean_machine.specs.Steps.{resume}
+use Rattle.mean_run.specs.declared.process.Process.{Process}
+use Rattle.mean_run.specs.Laws.Standing.{moves-here}
+use Rattle.mean_run.specs.Stacked.{FrameShown, Moves, Stacked, world_of}
+use Rattle.mean_run.proofs.steps.end_for.Goals as goal
+
+pub returns-in-OnDone : goal.returns-in-OnDone
+returns-in-OnDone c = λ here k g now at of_now shown.
+    let p = c.args.p.now in
+    let s = subst (λ x. FrameShown x (world_of p) here g (Stacked k p.stack.items)) c.in-OnDone.is shown in
+    let after : Process = record { now = c.done_given.new.n; locals = p.locals; stack = c.done_given.new.stack; here = p.here } in
+    subst (λ x. Moves after now c.done_given.result (resume (Finished) here (x ∷ k) now)) (sym s.0)
+    (moves-here {p = after} at (c.done_given.ensures (world_of p) here k now at.code s.1 of_now))
