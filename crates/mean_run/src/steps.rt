@@ -46,37 +46,13 @@ fn give_value<'a>(p: &mut Process<'a>, v: Value) -> Result<Control<'a>, Ending>
     }
 }
 
-/// A place, likewise.
-fn place_for<'a>(p: &mut Process<'a>, frame: Frame<'a>, at: Pointer) -> Result<Control<'a>, Ending>
-    ensures { (here : Context) (k : List waiting.Frame) (g : waiting.Frame) (now : State) → IsAt (world_of p.old) here → IsNow p.old.now now
-        → FrameShown frame.entry (world_of p.old) here g (Stacked k p.old.stack.items)
-        → Moves p.new now result (machine.resume (waiting.GivesPlace at) here (g ∷ k) now) }
-{
-    match frame {
-        Frame::OnPlace(frame) => place_given(&mut p.now, &mut p.stack, p.here, frame, at),
-        _ => Err(Ending::NoMemory),
-    }
-}
-
 /// A place is given to what waits for it.
 fn give_place<'a>(p: &mut Process<'a>, at: Pointer) -> Result<Control<'a>, Ending>
     ensures { (here : Context) (k : List waiting.Frame) (now : State) → IsProcess p.old here k now
         → Moves p.new now result (machine.resume (waiting.GivesPlace at) here k now) }
 {
     match p.stack.pop() {
-        Some(frame) => place_for(p, frame, at),
-        None => Err(Ending::NoMemory),
-    }
-}
-
-/// The end of a statement, likewise.
-fn flow_for<'a>(p: &mut Process<'a>, frame: Frame<'a>, flow: Flow) -> Result<Control<'a>, Ending>
-    ensures { (here : Context) (k : List waiting.Frame) (g : waiting.Frame) (now : State) → IsAt (world_of p.old) here → IsNow p.old.now now
-        → FrameShown frame.entry (world_of p.old) here g (Stacked k p.old.stack.items)
-        → Moves p.new now result (machine.resume (waiting.GivesFlow (flow_of flow)) here (g ∷ k) now) }
-{
-    match frame {
-        Frame::OnFlow(frame) => flow_given(p, frame, flow),
+        Some(Frame::OnPlace(frame)) => place_given(&mut p.now, &mut p.stack, p.here, frame, at),
         _ => Err(Ending::NoMemory),
     }
 }
@@ -87,19 +63,7 @@ fn give_flow<'a>(p: &mut Process<'a>, flow: Flow) -> Result<Control<'a>, Ending>
         → Moves p.new now result (machine.resume (waiting.GivesFlow (flow_of flow)) here k now) }
 {
     match p.stack.pop() {
-        Some(frame) => flow_for(p, frame, flow),
-        None => Err(Ending::NoMemory),
-    }
-}
-
-/// The end of a declaration or of an initialiser, likewise.
-fn end_for<'a>(p: &mut Process<'a>, frame: Frame<'a>) -> Result<Control<'a>, Ending>
-    ensures { (here : Context) (k : List waiting.Frame) (g : waiting.Frame) (now : State) → IsAt (world_of p.old) here → IsNow p.old.now now
-        → FrameShown frame.entry (world_of p.old) here g (Stacked k p.old.stack.items)
-        → Moves p.new now result (machine.resume waiting.Finished here (g ∷ k) now) }
-{
-    match frame {
-        Frame::OnDone(frame) => done_given(&mut p.now, &mut p.stack, p.here, frame),
+        Some(Frame::OnFlow(frame)) => flow_given(p, frame, flow),
         _ => Err(Ending::NoMemory),
     }
 }
@@ -110,8 +74,8 @@ fn give_end<'a>(p: &mut Process<'a>) -> Result<Control<'a>, Ending>
         → Moves p.new now result (machine.resume waiting.Finished here k now) }
 {
     match p.stack.pop() {
-        Some(frame) => end_for(p, frame),
-        None => Err(Ending::NoMemory),
+        Some(Frame::OnDone(frame)) => done_given(&mut p.now, &mut p.stack, p.here, frame),
+        _ => Err(Ending::NoMemory),
     }
 }
 

@@ -7,7 +7,7 @@ use Rattle.mean_run.specs.Stacked.{World, FrameShown, Stacked}
 
 -- ---- the last of a list, and those before it
 
-last_of : {A : Type 0} → A → List A → A
+abbrev last_of : {A : Type 0} → A → List A → A
 last_of d [] = d
 last_of d (x ∷ xs) = last_of x xs
 
@@ -15,11 +15,11 @@ last_is : {A : Type 0} (d : A) (xs : List A) (x : A) → last_of d (xs ++ x ∷ 
 last_is d [] x = refl
 last_is d (y ∷ xs) x = last_is y xs x
 
-before_last : {A : Type 0} → A → List A → List A
+abbrev before_last : {A : Type 0} → A → List A → List A
 before_last x [] = []
 before_last x (y ∷ ys) = x ∷ before_last y ys
 
-all_before : {A : Type 0} → List A → List A
+abbrev all_before : {A : Type 0} → List A → List A
 all_before [] = []
 all_before (x ∷ xs) = before_last x xs
 
