@@ -1,6 +1,7 @@
 -- Each address lies in one tagged object at most.
-use Rattle.std.proofs.Common.{◌≡◌, ℕ, zero, suc, ◌+◌, ◌%◌, ◌<◌, ◌≤◌, ◌==◌, Bool, true, false, cond, ◌&&◌, nat_le, nat_lt, List, [], ◌∷◌, ◌++◌}
-use Rattle.std.proofs.Common.{length, map, filter_map, get_or, Option, Some, None, slice_get, refl, sym, ap, subst, ◌∙◌, arith, inl, inr}
+use Rattle.std.proofs.Common.{◌≡◌, ℕ, zero, suc, ◌+◌, ◌%◌, ◌<◌, ◌≤◌, Bool, true, false, cond, ◌&&◌, nat_le, nat_lt}
+use Rattle.std.proofs.Common.{List, [], ◌∷◌, ◌++◌, length, filter_map, get_or, Option, Some, slice_get}
+use Rattle.std.proofs.Common.{refl, sym, ap, subst, ◌∙◌, arith, inl, inr}
 use Rattle.std.specs.Prelude.{◌⊎◌, if◌then◌else◌}
 use Rattle.std.specs.List.{cons_option, AllByRecursion}
 use Rattle.std.specs.Option.{option_map}
@@ -8,7 +9,6 @@ use Rattle.std.proofs.lemmas.Bool.{and_parts, true≢false, leb-true, ltb-true, 
 use Rattle.std.proofs.lemmas.List.{length-map, get_or-map}
 use Rattle.std.proofs.lemmas.Option.{none-some, slice_get-get_or, same_Some}
 use Rattle.elf_obj.specs.declared.parts.Symbol.{Symbol}
-use Rattle.elf_obj.specs.declared.sizes.Sizes.{Sizes}
 use Rattle.elf_obj.specs.Object.{Object}
 use Rattle.elf_obj.specs.ObjectFile.{IsValid}
 use Rattle.elf_obj.specs.Records.{home_number}
@@ -20,7 +20,7 @@ use Rattle.linker.specs.Got.{got_bytes}
 use Rattle.linker.specs.Data.{filled_size, zero_size}
 use Rattle.linker.specs.Spans.{is_init, span_of, object_spans, init_at, zero_at, spans_from}
 use Rattle.linker.specs.Laws.LaidLaws.{round_up_16}
-use Rattle.linker.specs.Laws.Starting.{start_reach, start_next, start_whole, length-starts}
+use Rattle.linker.specs.Laws.Starting.{start_reach, start_next}
 use Rattle.linker.proofs.TaggedSymbols.{IsPlaced, IsTag, tag_is, tags_left, Keeps, keeps_more, keeps_new}
 use Rattle.linker.proofs.Listed.{blank}
 
@@ -102,13 +102,17 @@ share w s e a p q h g =
     by_tests false true m n f k l r order =
         let l0 = l.0 in let l1 = l.1 in let r0 = r.0 in let r1 = r.1 in absurd (omega arith)
 
+-- the symbol of a tag of the object
+abbrev TagOf : Room → List ℕ → ℕ → Type 0
+TagOf w earlier t = IsTag (sizes_of w.object) w.object.symbols earlier t
+
 -- an address of a symbol is in no symbol of a later tag
 none_covers : (w : Room) (e : Symbol) (a : ℕ) → IsPlaced (sizes_of w.object) e → covers a (span_in w e) ≡ true
     → (earlier : List ℕ) (least : ℕ) (ts : List ℕ) → Keeps w.object.symbols earlier e → tags_keep w.object.symbols earlier least ts ≡ true
     → covering a (filter_map (found_in w) ts) ≡ 0
 none_covers w e a q g earlier least [] keeps h = refl
 none_covers w e a q g earlier least (t ∷ ts) keeps h =
-    let tag : IsTag (sizes_of w.object) w.object.symbols earlier t = tag_is (sizes_of w.object) w.object.symbols earlier least t ts w.keep h in
+    let tag : TagOf w earlier t = tag_is (sizes_of w.object) w.object.symbols earlier least t ts w.keep h in
     let rest : covering a (filter_map (found_in w) ts) ≡ 0 =
     none_covers w e a q g (earlier ++ t ∷ []) (t + 1) ts (keeps_more w.object.symbols earlier t e keeps)
     (tags_left w.object.symbols earlier least t ts h) in
@@ -116,7 +120,7 @@ none_covers w e a q g earlier least (t ∷ ts) keeps h =
     ap (λ (x : Option Span). covering a (cons_option x (filter_map (found_in w) ts))) (found_is w t tag.symbol tag.there)
     ∙ (λ i. cond (here i) 1 0 + rest i)
   where
-    by_test : (tag : IsTag (sizes_of w.object) w.object.symbols earlier t) (b : Bool) → covers a (span_in w tag.symbol) ≡ b
+    by_test : (tag : TagOf w earlier t) (b : Bool) → covers a (span_in w tag.symbol) ≡ b
         → covers a (span_in w tag.symbol) ≡ false
     by_test tag true is =
         absurd (true≢false (sym (share w tag.symbol e a tag.place q is g) ∙ keeps tag.symbol tag.apart))
@@ -126,7 +130,7 @@ once : (w : Room) (a : ℕ) (earlier : List ℕ) (least : ℕ) (ts : List ℕ) �
     → covering a (filter_map (found_in w) ts) ≤ 1
 once w a earlier least [] h = omega arith
 once w a earlier least (t ∷ ts) h =
-    let tag : IsTag (sizes_of w.object) w.object.symbols earlier t = tag_is (sizes_of w.object) w.object.symbols earlier least t ts w.keep h in
+    let tag : TagOf w earlier t = tag_is (sizes_of w.object) w.object.symbols earlier least t ts w.keep h in
     let left = tags_left w.object.symbols earlier least t ts h in
     let is : covering a (filter_map (found_in w) (t ∷ ts)) ≡ cond (covers a (span_in w tag.symbol)) 1 0
     + covering a (filter_map (found_in w) ts) =
@@ -147,14 +151,14 @@ where_covered : (w : Room) (a : ℕ) (earlier : List ℕ) (least : ℕ) (ts : Li
     → 0 < covering a (filter_map (found_in w) ts) → InSection w a
 where_covered w a earlier least [] h some = absurd (omega arith)
 where_covered w a earlier least (t ∷ ts) h some =
-    let tag : IsTag (sizes_of w.object) w.object.symbols earlier t = tag_is (sizes_of w.object) w.object.symbols earlier least t ts w.keep h in
+    let tag : TagOf w earlier t = tag_is (sizes_of w.object) w.object.symbols earlier least t ts w.keep h in
     let is : covering a (filter_map (found_in w) (t ∷ ts)) ≡ cond (covers a (span_in w tag.symbol)) 1 0
     + covering a (filter_map (found_in w) ts) =
     ap (λ (x : Option Span). covering a (cons_option x (filter_map (found_in w) ts))) (found_is w t tag.symbol tag.there) in
     by_test tag (covers a (span_in w tag.symbol)) refl (omega arith)
     (where_covered w a (earlier ++ t ∷ []) (t + 1) ts (tags_left w.object.symbols earlier least t ts h))
   where
-    by_test : (tag : IsTag (sizes_of w.object) w.object.symbols earlier t) (b : Bool) → covers a (span_in w tag.symbol) ≡ b
+    by_test : (tag : TagOf w earlier t) (b : Bool) → covers a (span_in w tag.symbol) ≡ b
         → 0 < cond b 1 0 + covering a (filter_map (found_in w) ts)
         → (0 < covering a (filter_map (found_in w) ts) → InSection w a) → InSection w a
     by_test tag true seen more rest =
@@ -169,7 +173,7 @@ IsGood end s = (s.start % 16 ≡ 0) × (s.bytes % 16 ≡ 0) × (0 < s.bytes) × 
 
 good_span : (w : Room) (end : ℕ) (s : Symbol) → w.inits % 16 ≡ 0 → w.zeros % 16 ≡ 0 → w.inits + length w.object.init_bytes ≤ end
     → w.zeros + w.object.zero_bytes ≤ end → IsPlaced (sizes_of w.object) s → IsGood end (span_in w s)
-good_span w end s init_whole zero_whole init_in zero_in p = by_test (is_init s.home) p.fits
+good_span w end s init_whole zero_whole inits_in zeros_in p = by_test (is_init s.home) p.fits
   where
     start : s.value % 16 ≡ 0
     start = p.start
@@ -181,11 +185,12 @@ good_span w end s init_whole zero_whole init_in zero_in p = by_test (is_init s.h
     by_test false fits = (omega (arith, start), p.bytes, p.some, omega arith)
 
 pub good_object : (w : Room) (end : ℕ) → w.inits % 16 ≡ 0 → w.zeros % 16 ≡ 0 → w.inits + length w.object.init_bytes ≤ end
-    → w.zeros + w.object.zero_bytes ≤ end → (earlier : List ℕ) (least : ℕ) (ts : List ℕ) → tags_keep w.object.symbols earlier least ts ≡ true
+    → w.zeros + w.object.zero_bytes ≤ end → (earlier : List ℕ) (least : ℕ) (ts : List ℕ)
+    → tags_keep w.object.symbols earlier least ts ≡ true
     → AllByRecursion (IsGood end) (filter_map (found_in w) ts)
 good_object w end a b c d earlier least [] h = tt
 good_object w end a b c d earlier least (t ∷ ts) h =
-    let tag : IsTag (sizes_of w.object) w.object.symbols earlier t = tag_is (sizes_of w.object) w.object.symbols earlier least t ts w.keep h in
+    let tag : TagOf w earlier t = tag_is (sizes_of w.object) w.object.symbols earlier least t ts w.keep h in
     let rest = good_object w end a b c d (earlier ++ t ∷ []) (t + 1) ts (tags_left w.object.symbols earlier least t ts h) in
     let P : Option Span → Type 0 = λ x. AllByRecursion (IsGood end) (cons_option x (filter_map (found_in w) ts)) in
     subst P (sym (found_is w t tag.symbol tag.there)) (good_span w end tag.symbol a b c d tag.place, rest)
@@ -216,8 +221,8 @@ sited objects k o there =
     get_or-map (λ (x : Object). length x.init_bytes) objects k blank 0 within ∙ ap (λ (x : Object). length x.init_bytes) at in
     let zero_size_is : get_or ms k 0 ≡ o.zero_bytes =
     get_or-map (λ (x : Object). x.zero_bytes) objects k blank 0 within ∙ ap (λ (x : Object). x.zero_bytes) at in
-    let init_in = start_reach 16 (got_bytes objects) ns k round_up_16 (omega arith) in
-    let zero_in = start_reach 16 0 ms k round_up_16 (omega arith) in
+    let inits_in = start_reach 16 (got_bytes objects) ns k round_up_16 (omega arith) in
+    let zeros_in = start_reach 16 0 ms k round_up_16 (omega arith) in
     let next : suc k ≡ k + 1 = omega arith in
     record {
       init_reach = omega arith;

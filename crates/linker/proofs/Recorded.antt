@@ -1,12 +1,13 @@
 -- The places of an image that hold addresses: the words of the table, and the places of the filled data.
-use Rattle.std.proofs.Common.{◌≡◌, ℕ, zero, suc, ◌+◌, ◌*◌, ◌<◌, ◌≤◌, ◌^◌, ◌%◌, Bool, true, false, not, ◌&&◌, nat_le, nat_lt, ◌==◌, List, [], ◌∷◌, ◌++◌}
-use Rattle.std.proofs.Common.{length, drop, map, filter, filter_map, cond, Option, Some, None, get_or, slice_get, refl, sym, ap, ◌∙◌, arith}
+use Rattle.std.proofs.Common.{◌≡◌, ℕ, zero, suc, ◌+◌, ◌*◌, ◌<◌, ◌≤◌, ◌^◌, ◌%◌, Bool, true, false, not, ◌&&◌, nat_le, nat_lt, ◌==◌}
+use Rattle.std.proofs.Common.{List, [], ◌∷◌, ◌++◌, length, drop, map, filter, filter_map, cond, Option, Some, None, get_or, slice_get}
+use Rattle.std.proofs.Common.{refl, sym, ap, ◌∙◌, arith}
 use Rattle.std.proofs.Common.{append_assoc}
 use Rattle.std.specs.Prelude.{if◌then◌else◌}
 use Rattle.std.specs.Int.{w64, cast_signed}
 use Rattle.std.specs.List.{AllByRecursion, cons_option}
 use Rattle.std.proofs.lemmas.Bool.{leb-true, and_parts}
-use Rattle.std.proofs.lemmas.List.{drop_more, drop_all, length-map, get_or-map}
+use Rattle.std.proofs.lemmas.List.{drop_more, length-map, get_or-map}
 use Rattle.std.proofs.lemmas.Option.{none-some, same_Some, slice_get-get_or}
 use Rattle.mt_base.specs.Wrapping.{wrap}
 use Rattle.mt_base.specs.Granules.{round16}
@@ -98,7 +99,8 @@ word_record os bases keys i place address n lt is found at from =
     sym (get_or-map numbers_of (got os) i blank_entry n within) ∙ ap (λ (l : List Numbers). get_or l i n) (sym is)
     ∙ same_Some (get_or keys i n) n (sym (slice_get-get_or keys i n lt) ∙ found) in
     let listed : number_address os bases n ≡ entry_address os bases e =
-    ap (number_address os bases) (sym same) ∙ listed_address os bases e (all_at (IsListed os) (got os) i blank_entry (words_listed os) within) in
+    ap (number_address os bases) (sym same)
+    ∙ listed_address os bases e (all_at (IsListed os) (got os) i blank_entry (words_listed os) within) in
     let wrapped : wrap 64 address ≡ wrap 64 (entry_address os bases e) =
     ap (wrap 64) (at ∙ ap (wrap 64) listed) ∙ twice (entry_address os bases e) in
     (λ j. relative (from j) address) ∙ again (bases.filled + 8 * i) address (entry_address os bases e) wrapped

@@ -1,11 +1,11 @@
 -- The spans of the tagged objects of valid objects, sorted.
-use Rattle.std.proofs.Common.{◌≡◌, ℕ, zero, suc, ◌+◌, ◌%◌, ◌<◌, ◌≤◌, Bool, true, false, cond, List, [], ◌∷◌, ◌++◌, length, map, filter_map}
-use Rattle.std.proofs.Common.{drop, get_or, Option, Some, None, slice_get, refl, sym, ap, subst, ◌∙◌, arith, inl, inr}
+use Rattle.std.proofs.Common.{◌≡◌, ℕ, ◌+◌, ◌%◌, ◌<◌, ◌≤◌, Bool, true, false, cond, List, [], ◌∷◌, ◌++◌, length, map, filter_map}
+use Rattle.std.proofs.Common.{get_or, Option, slice_get, refl, sym, ap, subst, ◌∙◌, arith, inl, inr}
 use Rattle.std.specs.Prelude.{IsPermutation, if◌then◌else◌}
-use Rattle.std.specs.List.{All, AllByRecursion, cons_option, sum_by}
+use Rattle.std.specs.List.{AllByRecursion, cons_option}
 use Rattle.std.specs.List.Sorted.{IsNonDecreasingBy}
 use Rattle.std.specs.Option.{option_map}
-use Rattle.std.proofs.lemmas.Bool.{le-leb, lt-ltb, cases_lt, true≢false}
+use Rattle.std.proofs.lemmas.Bool.{le-leb, lt-ltb, cases_lt}
 use Rattle.std.proofs.lemmas.List.{map-append}
 use Rattle.std.proofs.lemmas.List.Elements.{All-from_recursion, recursion_from_All}
 use Rattle.std.proofs.lemmas.List.Recursion.{is_sum_by}
@@ -21,8 +21,7 @@ use Rattle.elf_obj.specs.Rules.{symbols_keep, tags_keep}
 use Rattle.memtag_desc.specs.declared.interval.Interval.{Interval}
 use Rattle.linker.specs.declared.bases.Bases.{Bases}
 use Rattle.linker.specs.declared.spans.Span.{Span}
-use Rattle.linker.specs.Names.{entry}
-use Rattle.linker.specs.Sections.{ends, starts, init_sizes, zero_sizes}
+use Rattle.linker.specs.Sections.{starts, init_sizes, zero_sizes}
 use Rattle.linker.specs.Got.{got_bytes}
 use Rattle.linker.specs.Addresses.{section_address}
 use Rattle.linker.specs.Data.{filled_size, zero_size}
@@ -32,7 +31,7 @@ use Rattle.linker.specs.Laws.Starting.{start_whole}
 use Rattle.linker.proofs.Recorded.{all_append}
 use Rattle.linker.proofs.TaggedSymbols.{IsPlaced, IsTag, tag_is, tags_left}
 use Rattle.linker.proofs.Covered.{covers, covering, Room, IsGood, good_object, IsSited, sited, site_of, AreFrom, from_first, from_rest}
-use Rattle.linker.proofs.Covered.{CoverOnce, covered_once}
+use Rattle.linker.proofs.Covered.{covered_once}
 
 -- ---- all spans are good
 

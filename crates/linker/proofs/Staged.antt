@@ -1,12 +1,9 @@
 -- What the stages of a link know of each other.
-use Rattle.std.proofs.Common.{◌≡◌, ℕ, ◌+◌, ◌*◌, ◌<◌, ◌≤◌, ◌^◌, List, [], ◌∷◌, map, length, None, Some, refl, sym, ap, subst, ◌∙◌, arith}
-use Rattle.std.proofs.Common.{inl, inr}
-use Rattle.std.specs.Prelude.{◌⊎◌}
+use Rattle.std.proofs.Common.{◌≡◌, ℕ, ◌+◌, ◌<◌, ◌≤◌, ◌^◌, List, [], ◌∷◌, map, length, None, Some, sym, ap, ◌∙◌, arith}
+use Rattle.std.proofs.Common.{inr}
 use Rattle.std.proofs.lemmas.List.{length-map}
 use Rattle.elf_obj.specs.declared.parts.ObjectParts.{ObjectParts}
 use Rattle.elf_obj.specs.Object.{Object, object_of}
-use Rattle.elf_image.specs.Places.{memory_end}
-use Rattle.linker.specs.declared.bases.Bases.{Bases}
 use Rattle.linker.specs.declared.names.Numbers.{Numbers}
 use Rattle.linker.specs.declared.lengths.Lengths.{Lengths}
 use Rattle.linker.specs.declared.layout.Starts.{Starts}
@@ -14,20 +11,19 @@ use Rattle.linker.specs.declared.layout.Layout.{Layout}
 use Rattle.linker.specs.declared.plan.Plan.{Plan}
 use Rattle.linker.specs.declared.spans.Span.{Span}
 use Rattle.linker.specs.declared.totals.Totals.{Totals}
-use Rattle.linker.specs.declared.refusal.LinkRefusal.{LinkRefusal}
 use Rattle.linker.specs.declared.refusal.LinkRefusal.TheVariants.{ImageTooLarge}
-use Rattle.linker.specs.Sections.{starts, word_counts, rodata_sizes, init_sizes, zero_sizes}
+use Rattle.linker.specs.Sections.{starts}
 use Rattle.linker.specs.Got.{got, got_bytes}
 use Rattle.linker.specs.Data.{filled_size, zero_size}
 use Rattle.linker.specs.Tagged.{sized}
-use Rattle.linker.specs.LinkFault.{LinkFault, too_large, AreBound, excess}
+use Rattle.linker.specs.LinkFault.{too_large, AreBound, excess}
 use Rattle.linker.specs.Known.{objects_of, numbers_of, Refuses, AreStarts, AreNear}
 use Rattle.linker.specs.Totals.{AreLengths, totals_of, memory_by}
-use Rattle.linker.specs.Spans.{AreApart, AreSpans}
+use Rattle.linker.specs.Spans.{AreApart}
 use Rattle.linker.specs.Planned.{AreStartsOf, bases_by, excess_by, IsPlan, IsAccepted}
 use Rattle.linker.specs.Laws.Places.{memory_is}
 use Rattle.linker.specs.Laws.Valid.{no_excess}
-use Rattle.linker.specs.Laws.PlanLaws.{AreWithin, within, sizes, excess_is, near, few_words}
+use Rattle.linker.specs.Laws.PlanLaws.{within, sizes, excess_is, near, few_words}
 
 -- ---- lengths and starts
 

@@ -1,9 +1,8 @@
 -- Which numbers of descriptor bytes agree with themselves, by the spans of the tagged objects.
-use Rattle.std.proofs.Common.{◌≡◌, ℕ, zero, suc, ◌+◌, ◌*◌, ◌/◌, ◌%◌, ◌<◌, ◌≤◌, ◌==◌, Bool, true, false, cond, nat_lt, List, [], ◌∷◌, map, length, get_or}
-use Rattle.std.proofs.Common.{refl, sym, ap, subst, ◌∙◌, arith}
-use Rattle.std.specs.Prelude.{IsPermutation, IsSortedByKey, replicate}
+use Rattle.std.proofs.Common.{◌≡◌, ℕ, zero, suc, ◌+◌, ◌*◌, ◌%◌, ◌≤◌, ◌==◌, Bool, true, false, cond}
+use Rattle.std.proofs.Common.{List, [], ◌∷◌, map, get_or, refl, sym, ap, subst, ◌∙◌, arith}
+use Rattle.std.specs.Prelude.{IsSortedByKey}
 use Rattle.std.specs.Ordering.{nat_cmp, is_lt}
-use Rattle.std.specs.declared.cmp.Ordering.{Ordering}
 use Rattle.std.specs.declared.cmp.Ordering.TheVariants.{Less, Equal, Greater}
 use Rattle.std.proofs.lemmas.Bool.{le-ltb}
 use Rattle.std.proofs.lemmas.List.{length-replicate}
@@ -19,7 +18,7 @@ use Rattle.linker.specs.Addresses.{bases_of}
 use Rattle.linker.specs.Data.{filled_size, zero_size}
 use Rattle.linker.specs.Tagged.{tagged_from, AreTagged, SpellsFrom, sized, Agrees}
 use Rattle.linker.specs.Totals.{entry_count, totals_of, rodata_by, code_by, filled_by}
-use Rattle.linker.specs.Spans.{at_place, AreApart, AreSpans, HasLength}
+use Rattle.linker.specs.Spans.{at_place, AreSpans, HasLength}
 use Rattle.linker.specs.Laws.Places.{filled_is}
 use Rattle.linker.specs.Laws.Spelled.{AreSpread, spelled_spread, apart_spread}
 use Rattle.linker.specs.Laws.OneOrder.{spread_order}
@@ -54,8 +53,9 @@ filled_grows t a b le =
     let c = code_grows t a b le in
     let p = round_page_grows (code_by t a + 4 * t.words) (code_by t b + 4 * t.words) (omega arith) in
     let e = entries_grow a b le in
-    round16_grows (round_page (code_by t a + 4 * t.words) + 16 * entry_count a) (round_page (code_by t b + 4 * t.words) + 16 * entry_count b)
-    (omega arith)
+    let before : ℕ = round_page (code_by t a + 4 * t.words) + 16 * entry_count a in
+    let after : ℕ = round_page (code_by t b + 4 * t.words) + 16 * entry_count b in
+    round16_grows before after (omega arith)
 
 pub filled_whole : (t : Totals) (n : ℕ) → filled_by t n % 16 ≡ 0
 unfolding filled_by

@@ -1,9 +1,8 @@
 -- The filled data of an image: sections that are laid out one after the other, and zeros up to a whole granule.
-use Rattle.std.proofs.Common.{◌≡◌, ℕ, zero, suc, ◌+◌, ◌*◌, ◌<◌, ◌≤◌, List, [], ◌∷◌, ◌++◌, length, map, take, drop, find, get_or, refl, sym, ap}
-use Rattle.std.proofs.Common.{subst, ◌∙◌, arith, inl, inr}
+use Rattle.std.proofs.Common.{◌≡◌, ℕ, suc, ◌+◌, ◌<◌, ◌≤◌, List, [], ◌∷◌, ◌++◌, length, map, take, find, get_or}
+use Rattle.std.proofs.Common.{refl, sym, ap, subst, ◌∙◌, arith, inl, inr}
 use Rattle.std.proofs.lemmas.Bool.{cases_lt}
 use Rattle.std.proofs.lemmas.List.{append-nil, length-map, get_or-map}
-use Rattle.mt_base.specs.Granules.{round16}
 use Rattle.elf_base.specs.Layout.{Piece, piece, AllStand, IsGap, IsLaidOut}
 use Rattle.elf_base.specs.Laying.{pad, put, put_all}
 use Rattle.elf_base.specs.Laws.LaidOut.{AreInOrder, end_of, length-put_all, all_stand, gaps_zero}
@@ -12,7 +11,7 @@ use Rattle.linker.specs.Sections.{round_up, starts, ends, laid, init_sizes, each
 use Rattle.linker.specs.Got.{got_bytes}
 use Rattle.linker.specs.Data.{covers, byte_with, object_bytes, filled_pieces, filled_size}
 use Rattle.linker.specs.Laws.Sizes.{length-each_from}
-use Rattle.linker.specs.Laws.Starting.{start_is, ends_more, ends_grow}
+use Rattle.linker.specs.Laws.Starting.{start_is, ends_more}
 use Rattle.linker.specs.Laws.LaidLaws.{laid_in_order, laid_end, round_up_16}
 
 -- ---- pieces with zeros behind them

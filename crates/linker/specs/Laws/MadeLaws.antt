@@ -1,6 +1,5 @@
 -- The image that is made of objects which no condition refuses is theirs.
-use Rattle.std.proofs.Common.{◌≡◌, ℕ, ◌+◌, ◌≤◌, List, [], map, length, None, refl, sym, ap, subst, ◌∙◌, arith}
-use Rattle.std.specs.Prelude.{replicate}
+use Rattle.std.proofs.Common.{◌≡◌, ℕ, ◌+◌, List, [], map, length, None, refl, sym, ap, subst, ◌∙◌, arith}
 use Rattle.std.proofs.lemmas.List.{length-replicate}
 use Rattle.std.proofs.lemmas.Option.{none-some}
 use Rattle.elf_base.specs.Layout.{IsLaidOut}
@@ -11,13 +10,12 @@ use Rattle.memtag_desc.specs.declared.interval.Interval.{Interval}
 use Rattle.memtag_desc.specs.Descriptors.{Describes}
 use Rattle.linker.specs.declared.bases.Bases.{Bases}
 use Rattle.linker.specs.declared.spans.Span.{Span}
-use Rattle.linker.specs.declared.totals.Totals.{Totals}
 use Rattle.linker.specs.declared.refusal.LinkRefusal.{LinkRefusal}
 use Rattle.linker.specs.Addresses.{bases_of}
 use Rattle.linker.specs.Code.{code_pieces, code_words}
 use Rattle.linker.specs.Data.{rodata_pieces, rodata_size, filled_pieces, filled_size, zero_size}
 use Rattle.linker.specs.Relocations.{relative, relocations, relocation_count}
-use Rattle.linker.specs.Tagged.{AreTagged, SpellsFrom, sized, Agrees, IsFewest}
+use Rattle.linker.specs.Tagged.{AreTagged, SpellsFrom, sized, IsFewest}
 use Rattle.linker.specs.LinkFault.{LinkFault, too_many, repeated, no_main, missing, too_large, AreBound, excess}
 use Rattle.linker.specs.Linked.{Linked}
 use Rattle.linker.specs.Totals.{totals_of, filled_by, end_by}
@@ -30,7 +28,7 @@ use Rattle.linker.specs.Laws.LaidLaws.{rodata_laid, code_laid}
 use Rattle.linker.specs.Laws.FilledLaws.{filled_laid}
 use Rattle.linker.specs.Laws.Spelled.{longer}
 use Rattle.linker.specs.Laws.FewestLaws.{spans_tagged, agreed}
-use Rattle.linker.specs.Laws.PlanLaws.{bases_is, sizes}
+use Rattle.linker.specs.Laws.PlanLaws.{bases_is}
 
 -- ---- no condition refuses the objects
 

@@ -1,11 +1,10 @@
 -- The places of an image by the sizes of its parts: their order, and that all are near its start where its memory ends there.
-use Rattle.std.proofs.Common.{◌≡◌, ℕ, zero, suc, ◌+◌, ◌*◌, ◌<◌, ◌≤◌, ◌^◌, Bool, nat_lt, List, [], ◌∷◌, length, get_or, Option, Some, None}
-use Rattle.std.proofs.Common.{refl, sym, ap, subst, ◌∙◌, arith, inl, inr}
-use Rattle.std.specs.Prelude.{replicate, slice_index, if◌then◌else◌}
+use Rattle.std.proofs.Common.{◌≡◌, ℕ, ◌+◌, ◌*◌, ◌<◌, ◌≤◌, ◌^◌, nat_lt, List, length, get_or, Option, Some, None}
+use Rattle.std.proofs.Common.{refl, ap, arith, inl, inr}
+use Rattle.std.specs.Prelude.{slice_index, if◌then◌else◌}
 use Rattle.std.proofs.lemmas.Bool.{cases_lt}
 use Rattle.std.proofs.lemmas.List.{length-replicate, get_or_past}
 use Rattle.elf_obj.specs.Object.{Object}
-use Rattle.elf_image.specs.Places.{memory_end}
 use Rattle.linker.specs.declared.bases.Bases.{Bases}
 use Rattle.linker.specs.declared.layout.Layout.{Layout}
 use Rattle.linker.specs.declared.totals.Totals.{Totals}
@@ -17,7 +16,7 @@ use Rattle.linker.specs.Data.{rodata_size, filled_size, zero_size}
 use Rattle.linker.specs.Tagged.{sized}
 use Rattle.linker.specs.LinkFault.{excess, told_bytes, code_limit, memory_limit}
 use Rattle.linker.specs.Known.{AreStarts, AreNear}
-use Rattle.linker.specs.Totals.{totals_of, entry_count, rodata_by, code_by, filled_by, end_by, memory_by}
+use Rattle.linker.specs.Totals.{totals_of, rodata_by, code_by, filled_by, end_by, memory_by}
 use Rattle.linker.specs.Planned.{bases_by, excess_by}
 use Rattle.linker.specs.Laws.LaidLaws.{round_up_4, round_up_16}
 use Rattle.linker.specs.Laws.Places.{rodata_is, code_is, filled_is, end_is, memory_is}
@@ -132,7 +131,8 @@ near objects l n bases at low =
           let le = near_start 4 2 (word_counts objects) l.starts.text.items (code_words objects) round_up_4 at.text (omega arith) k in
           omega arith;
       rodatas = λ k.
-          let le = near_start 16 0 (rodata_sizes objects) l.starts.rodata.items (rodata_size objects) round_up_16 at.rodata (omega arith) k in
+          let le = near_start 16 0 (rodata_sizes objects) l.starts.rodata.items (rodata_size objects) round_up_16 at.rodata
+          (omega arith) k in
           omega arith;
       inits = λ k.
           let le = near_start 16 (got_bytes objects) (init_sizes objects) l.starts.init.items (filled_size objects) round_up_16 at.init

@@ -1,9 +1,10 @@
 -- Where the section of a number begins.
-use Rattle.std.proofs.Common.{◌≡◌, ℕ, zero, suc, ◌+◌, ◌%◌, ◌<◌, ◌≤◌, List, [], ◌∷◌, length, take, get_or, refl, sym, ap, ◌∙◌, arith}
+use Rattle.std.proofs.Common.{◌≡◌, ℕ, zero, suc, ◌+◌, ◌%◌, ◌<◌, ◌≤◌, List, [], ◌∷◌, length, take, get_or, refl, ap, arith}
 use Rattle.linker.specs.Sections.{round_up, starts, ends}
 
 -- behind the sections before it
-pub start_is : (unit at : ℕ) (ns : List ℕ) (k : ℕ) → k < length ns → get_or (starts unit at ns) k 0 ≡ round_up unit (ends unit at (take k ns))
+pub start_is : (unit at : ℕ) (ns : List ℕ) (k : ℕ) → k < length ns
+    → get_or (starts unit at ns) k 0 ≡ round_up unit (ends unit at (take k ns))
 start_is unit at [] k lt = absurd (omega arith)
 start_is unit at (n ∷ ns) zero lt = refl
 start_is unit at (n ∷ ns) (suc k) lt = start_is unit (round_up unit at + n) ns k (omega arith)

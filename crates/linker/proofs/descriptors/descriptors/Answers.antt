@@ -1,5 +1,4 @@
-use Rattle.std.proofs.Common.{◌≡◌, ◌^◌, List, sym, subst, ◌∙◌, arith}
-use Rattle.memtag_desc.specs.declared.interval.Interval.{Interval}
+use Rattle.std.proofs.Common.{◌^◌, sym, subst, ◌∙◌, arith}
 use Rattle.memtag_desc.specs.Descriptors.{HaveDescription}
 use Rattle.linker.specs.Laws.Spelled.{apart_described}
 use Rattle.linker.proofs.descriptors.descriptors.Goals as goal

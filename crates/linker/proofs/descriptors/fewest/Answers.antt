@@ -1,12 +1,11 @@
-use Rattle.std.proofs.Common.{◌≡◌, ℕ, ◌+◌, ◌-◌, ◌*◌, ◌%◌, ◌<◌, ◌≤◌, ◌^◌, List, map, length, sym, subst, ap, ◌∙◌, arith}
-use Rattle.elf_obj.specs.Object.{Object}
+use Rattle.std.proofs.Common.{◌≡◌, ℕ, ◌%◌, ◌≤◌, List, map, sym, subst, ap, ◌∙◌, arith}
 use Rattle.linker.specs.declared.spans.Span.{Span}
 use Rattle.linker.specs.declared.totals.Totals.{Totals}
-use Rattle.linker.specs.Tagged.{SpellsFrom, Agrees}
-use Rattle.linker.specs.Totals.{totals_of, filled_by}
-use Rattle.linker.specs.Spans.{at_place, AreSpans, HasLength}
+use Rattle.linker.specs.Tagged.{SpellsFrom}
+use Rattle.linker.specs.Totals.{filled_by}
+use Rattle.linker.specs.Spans.{at_place, HasLength}
 use Rattle.linker.specs.Laws.Spelled.{longer}
-use Rattle.linker.specs.Laws.FewestLaws.{filled_grows, filled_whole, SpellsAfter, agrees, agreed}
+use Rattle.linker.specs.Laws.FewestLaws.{filled_grows, filled_whole, agrees, agreed}
 use Rattle.linker.proofs.descriptors.fewest.Goals as goal
 
 pub spelled_len-next-requires-clause-whole : goal.spelled_len-next-requires-clause-whole

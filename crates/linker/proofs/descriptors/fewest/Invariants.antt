@@ -1,4 +1,4 @@
-use Rattle.std.proofs.Common.{◌≡◌, ℕ, ◌+◌, ◌-◌, ◌*◌, ◌≤◌, List, map, length}
+use Rattle.std.proofs.Common.{◌≡◌, ℕ, ◌-◌, ◌*◌, ◌≤◌, List, map, length}
 use Rattle.elf_obj.specs.Object.{Object}
 use Rattle.linker.specs.Tagged.{SpellsFrom, Agrees}
 use Rattle.linker.specs.Totals.{totals_of, filled_by}

@@ -1,4 +1,4 @@
-use Rattle.std.proofs.Common.{◌≡◌, ℕ, ◌+◌, ◌-◌, ◌/◌, ◌≤◌, ◌<◌, subst, arith}
+use Rattle.std.proofs.Common.{◌≡◌, ℕ, ◌+◌, ◌-◌, ◌/◌, ◌<◌, subst, arith}
 use Rattle.memtag_desc.specs.Numbers.{IsShortest}
 use Rattle.linker.specs.Spans.{HasLength}
 use Rattle.linker.specs.Laws.Spelled.{digits_hold, number_last, number_more, fewer_digits}

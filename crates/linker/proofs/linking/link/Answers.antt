@@ -1,4 +1,4 @@
-use Rattle.std.proofs.Common.{◌≡◌, ℕ, ◌*◌, List, Some, None, Ok, Err, sym, ap, ◌∙◌, arith}
+use Rattle.std.proofs.Common.{◌≡◌, ℕ, ◌*◌, List, sym, ap, ◌∙◌, arith}
 use Rattle.std.proofs.lemmas.Result.{IfOk-weaker}
 use Rattle.elf_obj.specs.Object.{Object}
 use Rattle.elf_image.specs.Image.{image_of}
@@ -7,7 +7,7 @@ use Rattle.linker.specs.declared.plan.Plan.{Plan}
 use Rattle.linker.specs.Got.{got_bytes}
 use Rattle.linker.specs.Linked.{Linked}
 use Rattle.linker.specs.Known.{objects_of, AreStarts}
-use Rattle.linker.specs.Planned.{excess_by, IsAccepted}
+use Rattle.linker.specs.Planned.{IsAccepted}
 use Rattle.linker.specs.Laws.Valid.{linked_valid}
 use Rattle.linker.proofs.Staged.{starts_are, as_many_words, too_large_refused, accept, memory_low, layout_near, few_keys}
 use Rattle.linker.proofs.linking.link.Goals as goal

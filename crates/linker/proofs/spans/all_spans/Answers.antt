@@ -1,5 +1,4 @@
-use Rattle.std.proofs.Common.{◌≡◌, ℕ, ◌+◌, ◌<◌, ◌++◌, List, ◌∷◌, drop, length, get_or, sym, ap, ◌∙◌, arith, append_assoc}
-use Rattle.std.proofs.lemmas.List.{length-map, get_or_default}
+use Rattle.std.proofs.Common.{◌≡◌, ℕ, ◌+◌, ◌++◌, List, ◌∷◌, drop, get_or, sym, ap, ◌∙◌, append_assoc}
 use Rattle.elf_obj.specs.declared.parts.ObjectParts.{ObjectParts}
 use Rattle.elf_obj.specs.Object.{Object, object_of}
 use Rattle.linker.specs.declared.spans.Span.{Span}

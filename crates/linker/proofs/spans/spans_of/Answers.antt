@@ -1,4 +1,4 @@
-use Rattle.std.proofs.Common.{List, rules}
+use Rattle.std.proofs.Common.{rules}
 use Rattle.std.proofs.lemmas.List.Sorted.{IsNonDecreasingBy-from_sort_by_key}
 use Rattle.linker.specs.declared.spans.Span.{Span}
 use Rattle.linker.specs.Known.{objects_of}

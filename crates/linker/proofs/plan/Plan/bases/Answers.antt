@@ -1,5 +1,5 @@
 use Rattle.std.proofs.Common.{arith}
-use Rattle.linker.specs.Laws.PlanLaws.{AreWithin, within}
+use Rattle.linker.specs.Laws.PlanLaws.{within}
 use Rattle.linker.proofs.plan.Plan.bases.Goals as goal
 
 pub overflow_cast-result : goal.overflow_cast-result

@@ -3,7 +3,7 @@ use Rattle.elf_obj.specs.declared.parts.Reloc.{Reloc}
 use Rattle.elf_obj.specs.Object.{Object}
 use Rattle.linker.specs.Sections.{each_from}
 use Rattle.linker.specs.Known.{objects_of}
-use Rattle.linker.specs.Ready.{with_bytes, content_of}
+use Rattle.linker.specs.Ready.{with_bytes}
 use Rattle.linker.proofs.Placed.{byte_by, places_first, places_more}
 use Rattle.linker.proofs.relocate.Link.fill_places.Goals as goal
 

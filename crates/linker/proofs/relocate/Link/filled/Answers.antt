@@ -1,8 +1,8 @@
-use Rattle.std.proofs.Common.{◌≡◌, ℕ, ◌+◌, ◌<◌, List, [], ◌∷◌, Some, drop, length, get_or, slice_get, refl, sym, ap, ◌∙◌, arith}
+use Rattle.std.proofs.Common.{◌≡◌, ℕ, ◌+◌, ◌<◌, List, ◌∷◌, Some, drop, length, get_or, slice_get, refl, sym, ap, ◌∙◌, arith}
 use Rattle.std.proofs.lemmas.List.{length-map, get_or_default}
 use Rattle.std.proofs.lemmas.Option.{slice_get-get_or}
 use Rattle.elf_base.specs.Layout.{piece}
-use Rattle.elf_base.specs.Laying.{pad, put, put_all}
+use Rattle.elf_base.specs.Laying.{put, put_all}
 use Rattle.elf_obj.specs.declared.parts.ObjectParts.{ObjectParts}
 use Rattle.elf_obj.specs.Object.{Object, object_of}
 use Rattle.linker.specs.Sections.{laid, each_from}
@@ -10,7 +10,6 @@ use Rattle.linker.specs.Data.{object_bytes}
 use Rattle.linker.specs.Known.{objects_of}
 use Rattle.linker.specs.Laws.FilledLaws.{filled_so_far, filled_more}
 use Rattle.linker.proofs.Knowing.{left_is}
-use Rattle.linker.proofs.Binding.{none_left}
 use Rattle.linker.proofs.Listed.{blank}
 use Rattle.linker.proofs.relocate.Link.filled.Goals as goal
 

@@ -1,7 +1,6 @@
-use Rattle.std.proofs.Common.{◌≡◌, ℕ, ◌%◌, ◌<◌, ◌^◌, List, [], map, sym, ap, subst, ◌∙◌, arith}
-use Rattle.elf_base.specs.Laying.{pad, put_all}
+use Rattle.std.proofs.Common.{◌≡◌, ℕ, ◌%◌, ◌^◌, List, [], map, sym, ap, subst, ◌∙◌, arith}
+use Rattle.elf_base.specs.Laying.{put_all}
 use Rattle.elf_obj.specs.Object.{Object}
-use Rattle.elf_image.specs.Image.{Image, image_of}
 use Rattle.memtag_desc.specs.Descriptors.{Describes}
 use Rattle.linker.specs.declared.bases.Bases.{Bases}
 use Rattle.linker.specs.declared.plan.Plan.{Plan}
@@ -13,7 +12,7 @@ use Rattle.linker.specs.Totals.{totals_of, filled_by}
 use Rattle.linker.specs.Spans.{at_place, AreApart}
 use Rattle.linker.specs.Planned.{bases_by}
 use Rattle.linker.specs.Laws.FewestLaws.{filled_whole}
-use Rattle.linker.specs.Laws.MadeLaws.{IsMade, made_linked}
+use Rattle.linker.specs.Laws.MadeLaws.{made_linked}
 use Rattle.linker.proofs.Staged.{same_bases_by, AreSized, sized_parts, spans_near}
 use Rattle.linker.proofs.relocate.Link.image.Goals as goal
 

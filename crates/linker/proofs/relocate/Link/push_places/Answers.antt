@@ -1,11 +1,11 @@
-use Rattle.std.proofs.Common.{◌≡◌, ℕ, pos, ◌+◌, ◌++◌, ◌∷◌, [], List, map, drop, get_or, ap, sym, ◌∙◌, arith}
-use Rattle.std.proofs.lemmas.List.{drop_all, append-nil, get_or_read}
+use Rattle.std.proofs.Common.{ℕ, pos, ◌+◌, ◌++◌, ◌∷◌, [], List, map, drop, ap, sym, ◌∙◌}
+use Rattle.std.proofs.lemmas.List.{drop_all, append-nil}
 use Rattle.elf_obj.specs.declared.parts.Reloc.{Reloc}
 use Rattle.elf_obj.specs.Object.{Object}
 use Rattle.elf_image.specs.declared.parts.RelativeReloc.{RelativeReloc}
 use Rattle.linker.specs.Relocations.{data_reloc}
 use Rattle.linker.specs.Known.{objects_of}
-use Rattle.linker.proofs.Recorded.{all_at, map_left}
+use Rattle.linker.proofs.Recorded.{map_left}
 use Rattle.linker.proofs.relocate.Link.push_places.Goals as goal
 
 -- what an index past the end reads as
@@ -19,7 +19,8 @@ loop-reloc-preserved c = λ o there.
     let rs : List Reloc = c.args.relocs.now in
     let f : Reloc → RelativeReloc = data_reloc os c.args.self.now.layout.bases c.args.object o in
     let pushed = c.in_ok-push.ensures.items ∙ ap (λ (r : RelativeReloc). c.loop-reloc.out.items ++ r ∷ []) (c.data_reloc.ensures o there) in
-    ap (λ (l : List RelativeReloc). l ++ map f (drop (i + 1) rs)) pushed ∙ map_left f rs i no_reloc c.loop-reloc.out.items c.loop-reloc-test.true
+    ap (λ (l : List RelativeReloc). l ++ map f (drop (i + 1) rs)) pushed
+    ∙ map_left f rs i no_reloc c.loop-reloc.out.items c.loop-reloc-test.true
     ∙ c.loop-reloc.invariant o there
 
 pub returns-clause-places : goal.returns-clause-places

@@ -1,4 +1,4 @@
-use Rattle.std.proofs.Common.{◌≡◌, ℕ, ◌<◌, ◌≤◌, ◌+◌, ◌++◌, ◌∷◌, drop, [], List, length, ap, sym, ◌∙◌, arith}
+use Rattle.std.proofs.Common.{ℕ, ◌<◌, ◌≤◌, ◌+◌, ◌++◌, ◌∷◌, drop, [], List, length, ap, sym, ◌∙◌, arith}
 use Rattle.std.proofs.lemmas.List.{length-map, drop_all, append-nil}
 use Rattle.elf_obj.specs.Object.{Object}
 use Rattle.elf_image.specs.declared.parts.RelativeReloc.{RelativeReloc}

@@ -1,4 +1,5 @@
-use Rattle.std.proofs.Common.{◌≡◌, ℕ, ◌+◌, ◌<◌, ◌^◌, ◌++◌, ◌∷◌, [], List, Some, map, drop, length, get_or, slice_get, subst, ap, sym, ◌∙◌, arith}
+use Rattle.std.proofs.Common.{◌≡◌, ℕ, ◌+◌, ◌<◌, ◌^◌, ◌++◌, ◌∷◌, List, Some, map, drop, length, get_or, slice_get}
+use Rattle.std.proofs.Common.{subst, ap, sym, ◌∙◌, arith}
 use Rattle.std.specs.List.{AllByRecursion}
 use Rattle.std.proofs.lemmas.List.{append-nil, length-map, get_or_default}
 use Rattle.std.proofs.lemmas.Option.{slice_get-get_or}
@@ -56,4 +57,5 @@ push_places-requires-clause-near c =
     let relocs : c.deref.result.now ≡ o.init_relocs =
     c.deref.ensures.value ∙ ap (λ (x : Object). x.init_relocs)
     (object_is ps k o c.index-self-object.result c.loop-object-test.true there) in
-    subst (AllByRecursion (λ (r : Reloc). r.offset < 2 ^ 63)) (sym relocs) (offsets_near o (all_at IsValid os k blank c.requires.valid within))
+    subst (AllByRecursion (λ (r : Reloc). r.offset < 2 ^ 63)) (sym relocs)
+    (offsets_near o (all_at IsValid os k blank c.requires.valid within))

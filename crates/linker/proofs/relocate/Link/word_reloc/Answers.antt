@@ -1,4 +1,4 @@
-use Rattle.std.proofs.Common.{◌≡◌, ℕ, List, Some, None, ap, sym, ◌∙◌, arith, refl}
+use Rattle.std.proofs.Common.{List, ap, sym, ◌∙◌, arith, refl}
 use Rattle.std.specs.Option.{option_copied}
 use Rattle.elf_obj.specs.Object.{Object}
 use Rattle.linker.specs.Known.{objects_of}
