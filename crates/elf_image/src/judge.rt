@@ -8,10 +8,10 @@ ghost use Rattle.elf_image.specs.Laws.Within.{Reaching};
 use crate::bytes::agrees;
 use crate::entries::{gap_fault, last_fault, mode_fault, table_fault};
 use crate::heads::{Heads, heads_of};
+use crate::records::header_with;
 use crate::refusal::ImageRefusal;
 use crate::same::same_header;
 use crate::segments::{ends_by, is_code, is_dynamic, is_read_only, is_writable};
-use crate::records::header_with;
 use elf_base::{IDENTIFICATION, Phdr, read_ehdr};
 
 // The headers of a file that has them, or its fault up to there.

@@ -90,12 +90,24 @@ pub(crate) fn table_entries(relocs: u64) -> [Dyn; 6]
     ensures { result ≡ table_entries relocs }
 {
     [
-        Dyn { tag: 5, value: STRINGS_PLACE },
-        Dyn { tag: 6, value: SYMBOLS_PLACE },
+        Dyn {
+            tag: 5,
+            value: STRINGS_PLACE,
+        },
+        Dyn {
+            tag: 6,
+            value: SYMBOLS_PLACE,
+        },
         Dyn { tag: 10, value: 1 },
         Dyn { tag: 11, value: 24 },
-        Dyn { tag: 7, value: RELOCS_PLACE },
-        Dyn { tag: 8, value: relocs },
+        Dyn {
+            tag: 7,
+            value: RELOCS_PLACE,
+        },
+        Dyn {
+            tag: 8,
+            value: relocs,
+        },
     ]
 }
 
@@ -105,9 +117,18 @@ pub(crate) fn mode_entries() -> [Dyn; 4]
 {
     [
         Dyn { tag: 9, value: 24 },
-        Dyn { tag: 0x7000_0009, value: 0 },
-        Dyn { tag: 0x7000_000b, value: 0 },
-        Dyn { tag: 0x7000_000c, value: 1 },
+        Dyn {
+            tag: 0x7000_0009,
+            value: 0,
+        },
+        Dyn {
+            tag: 0x7000_000b,
+            value: 0,
+        },
+        Dyn {
+            tag: 0x7000_000c,
+            value: 1,
+        },
     ]
 }
 
@@ -116,8 +137,14 @@ pub(crate) fn described_entries(place: u64, bytes: u64) -> [Dyn; 2]
     ensures { result ≡ described_entries place bytes }
 {
     [
-        Dyn { tag: 0x7000_000d, value: place },
-        Dyn { tag: 0x7000_000f, value: bytes },
+        Dyn {
+            tag: 0x7000_000d,
+            value: place,
+        },
+        Dyn {
+            tag: 0x7000_000f,
+            value: bytes,
+        },
     ]
 }
 

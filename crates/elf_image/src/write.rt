@@ -12,8 +12,10 @@ ghost use Rattle.elf_image.specs.Places.{IsValid, descriptors_place};
 use crate::layout::{RELOCS_PLACE, SYMBOLS_PLACE};
 use crate::parts::ImageParts;
 use crate::put::{push_entries, put_relocs};
-use crate::records::{code_with, described_entries, dynamic_at, header_with, last_entries, mode_entries, read_only_with};
-use crate::records::{table_entries, writable_with};
+use crate::records::{
+    code_with, described_entries, dynamic_at, header_with, last_entries, mode_entries,
+    read_only_with, table_entries, writable_with,
+};
 use elf_base::{Phdr, pad_to, put_bytes, put_words, write_ehdr, write_phdr};
 use std::alloc::{AllocError, Global};
 

@@ -86,13 +86,7 @@ pub fn step<'a>(p: &mut Process<'a>, control: Control<'a>) -> Result<Control<'a>
 {
     match control {
         Control::Evaluate(around, e) => evaluate(&mut p.now, &mut p.stack, p.here, around, e),
-        Control::Locate(e) => locate(
-            &mut p.now,
-            &mut p.stack,
-            p.here,
-            p.locals.as_slice(),
-            e,
-        ),
+        Control::Locate(e) => locate(&mut p.now, &mut p.stack, p.here, p.locals.as_slice(), e),
         Control::Execute(s) => execute(p, s),
         Control::Declare(declarations) => declare(
             &mut p.now,

@@ -61,7 +61,11 @@ fn frames(alloc: Global, asked: &Asked, file: &Typed) -> Result<Vec<u64>, AllocE
 }
 
 /// Runs the program with so much work.
-pub fn outcome(alloc: Global, asked: &Asked, work: u64) -> Result<Result<Found, String>, AllocError> {
+pub fn outcome(
+    alloc: Global,
+    asked: &Asked,
+    work: u64,
+) -> Result<Result<Found, String>, AllocError> {
     let mut units = Vec::new(alloc);
     let mut bytes = Vec::new(alloc);
     for source in asked.sources.iter() {
@@ -79,7 +83,15 @@ pub fn outcome(alloc: Global, asked: &Asked, work: u64) -> Result<Result<Found, 
     let frames = FrameSizes { bytes };
     let mut source = MemSource::new(copied(alloc, asked.input.as_slice())?, Vec::new(alloc));
     let mut sink = MemSink::new(alloc, 100_000, Vec::new(alloc))?;
-    let ended = mean(alloc, &units, &frames, &mut source, &mut sink, asked.stack, work);
+    let ended = mean(
+        alloc,
+        &units,
+        &frames,
+        &mut source,
+        &mut sink,
+        asked.stack,
+        work,
+    );
     let end = said(alloc, asked, ended)?;
     Ok(Ok(Found {
         end,
@@ -107,7 +119,11 @@ fn rest(alloc: Global, source: &mut MemSource) -> Result<Vec<u8>, AllocError> {
 }
 
 /// How a run ended, as rows say it.
-fn said(alloc: Global, asked: &Asked, ended: Result<MeanEnd, MeanFault>) -> Result<String, AllocError> {
+fn said(
+    alloc: Global,
+    asked: &Asked,
+    ended: Result<MeanEnd, MeanFault>,
+) -> Result<String, AllocError> {
     match ended {
         Ok(MeanEnd::Done(status)) => format!(in alloc; "done {status}"),
         Ok(MeanEnd::Divide) => String::from_str(alloc, "divide"),
@@ -120,7 +136,9 @@ fn said(alloc: Global, asked: &Asked, ended: Result<MeanEnd, MeanFault>) -> Resu
                 None => "?",
             };
             let part = match asked.sources.get(file) {
-                Some(text) => text.get(span.start as usize..span.end as usize).unwrap_or(&[]),
+                Some(text) => text
+                    .get(span.start as usize..span.end as usize)
+                    .unwrap_or(&[]),
                 None => &[],
             };
             let part = str::from_utf8(part).unwrap_or("?");

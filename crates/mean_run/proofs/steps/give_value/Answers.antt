@@ -10,6 +10,6 @@ pub returns-in-Some : goal.returns-in-Some
 returns-in-Some c = λ here k now is.
     let p = c.args.p.now in
     let q = popped k p.stack.items c.pop.new.self.items c.in-Some.frame (world_of p) here
-        (c.pop.ensures.items ∙ ap (λ x. c.pop.new.self.items ++ option_to_list x) c.in-Some.is) is.stack in
+    (c.pop.ensures.items ∙ ap (λ x. c.pop.new.self.items ++ option_to_list x) c.in-Some.is) is.stack in
     subst (λ x. Moves c.value_for.new.p now c.value_for.result (resume (GivesValue c.args.v) here x now)) (sym q.is)
     (c.value_for.ensures here q.below q.top now is.at is.shown q.shown)
