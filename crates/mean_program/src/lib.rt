@@ -2,7 +2,8 @@
 #![tactic(auto)]
 
 mod end;
+mod mean;
 mod turn;
 
 pub use end::{MeanEnd, MeanFault};
-pub use turn::{Turn, turn};
+pub use mean::mean;
