@@ -1,5 +1,5 @@
 -- From what a program means to what its run keeps from the first step on.
-use Rattle.std.proofs.Common.{◌≡◌, refl, sym, subst, ap, ◌∙◌, append-nil, ℕ, List, [], ◌++◌, Option, Some, Result, Ok, Err}
+use Rattle.std.proofs.Common.{◌≡◌, ◌<◌, ◌≤◌, refl, sym, subst, ap, ◌∙◌, arith, append-nil, ℕ, List, [], ◌++◌, Option, Some, Result, Ok, Err}
 use Rattle.block_meaning.specs.Laws.Bound.Meaning.{whole_meaning}
 use Rattle.block_meaning.specs.Meaning.{Meaning, Outcome, outcome_of, run_program, before}
 use Rattle.block_meaning.specs.Running.{Program}
@@ -17,6 +17,7 @@ use Rattle.mean_program.specs.declared.end.MeanFault.{MeanFault}
 use Rattle.mean_program.specs.declared.turn.Turn.{Turn}
 use Rattle.mean_program.specs.declared.turn.Turn.TheVariants.{Goes, Ends}
 use Rattle.mean_program.proofs.Turning.{held_part}
+use Rattle.mt_outside.specs.Told.{Rose}
 
 -- what a program's run is to give
 abbrev pub aim_of : {program : Program} {input : List ℕ} {work : ℕ} {o : Outcome} → Meaning program input work o → List ℕ → Aim
@@ -62,3 +63,7 @@ pub turn_part : (aim : Aim) (p : Process) (t : Turn) (input output : Option (Lis
     PutPart aim.before (outcome_of aim.result) output
 turn_part aim p (Goes c) input output holds = held_part aim p c input output holds
 turn_part aim p (Ends end) input output gives = part_of aim.before (outcome_of aim.result) end input output gives
+
+-- a count that never fell before it rose
+pub rises : {a b d : ℕ} → a ≤ b → Rose b d → Rose a d
+rises {a = a} {b = b} {d = d} kept rose below = let more : b < d = rose below in omega arith

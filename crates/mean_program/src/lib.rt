@@ -2,8 +2,8 @@
 #![tactic(auto)]
 
 mod end;
-mod mean;
 mod turn;
+mod whole;
 
 pub use end::{MeanEnd, MeanFault};
-pub use mean::mean;
+pub use whole::mean;

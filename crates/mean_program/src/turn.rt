@@ -86,7 +86,7 @@ fn end_of(why: Ending) -> Result<MeanEnd, MeanFault>
 
 /// What follows an answer of the run.
 pub fn after<'a>(answer: Result<Control<'a>, Ending>) -> Turn<'a>
-    ensures is { result ≡ law.after answer }
+    ensures is { result ≡ law.after answer.entry }
     ensures no_input_fault { result ≢ Turn.Ends (Err MeanFault.InputFault) }
     ensures no_output_fault { result ≢ Turn.Ends (Err MeanFault.OutputFault) }
 {
@@ -116,7 +116,7 @@ pub fn take_turn<'a, S: Source, K: Sink>(
     source: &mut S,
     sink: &mut K,
 ) -> Turn<'a>
-    ensures gives { (aim : Aim) → Holds aim p.old control (S.Source.told source.old) (K.Sink.told sink.old)
+    ensures gives { (aim : Aim) → Holds aim p.old control.entry (S.Source.told source.old) (K.Sink.told sink.old)
         → TurnGives aim p.new result (S.Source.told source.new) (K.Sink.told sink.new) }
     ensures input_fault { result ≡ Turn.Ends (Err MeanFault.InputFault) → Rose (S.Source.faults source.old) (S.Source.faults source.new) }
     ensures output_fault { result ≡ Turn.Ends (Err MeanFault.OutputFault) → Rose (K.Sink.faults sink.old) (K.Sink.faults sink.new) }

@@ -28,7 +28,7 @@ struct Begun<'a> {
 }
 
 /// The run of a program's files from the call of `main` on. A program without `main` finds no memory.
-fn begun<'a>(
+fn from_main<'a>(
     alloc: Global,
     units: &[Typed],
     files: &'a [File<'a>],
@@ -58,7 +58,7 @@ fn run<'a, S: Source, K: Sink>(
     source: &mut S,
     sink: &mut K,
 ) -> Result<MeanEnd, MeanFault>
-    ensures gives { (aim : Aim) → TurnGives aim p.old (law.after answer) (S.Source.told source.old) (K.Sink.told sink.old)
+    ensures gives { (aim : Aim) → TurnGives aim p.old (law.after answer.entry) (S.Source.told source.old) (K.Sink.told sink.old)
         → MeanGives aim.before (outcome_of aim.result) result (S.Source.told source.new) (K.Sink.told sink.new) }
     ensures input_fault { result ≡ Err MeanFault.InputFault → Rose (S.Source.faults source.old) (S.Source.faults source.new) }
     ensures output_fault { result ≡ Err MeanFault.OutputFault → Rose (K.Sink.faults sink.old) (K.Sink.faults sink.new) }
@@ -98,7 +98,7 @@ pub fn mean<S: Source, K: Sink>(
 {
     match files(alloc, units, frames) {
         Err(_) => Err(MeanFault::NoMemory),
-        Ok(files) => match begun(alloc, units, files.as_slice(), stack, work) {
+        Ok(files) => match from_main(alloc, units, files.as_slice(), stack, work) {
             Err(_) => Err(MeanFault::NoMemory),
             Ok(begun) => {
                 let Begun { process, answer } = begun;
