@@ -103,7 +103,7 @@ fn value_given<'a>(p: &mut Process<'a>, v: Value) -> Turn<'a>
     ensures no_input_fault { result ≢ Turn.Ends (Err MeanFault.InputFault) }
     ensures no_output_fault { result ≢ Turn.Ends (Err MeanFault.OutputFault) }
 {
-    if p.stack.is_empty() {
+    if p.stack.as_slice().is_empty() {
         return Turn::Ends(Ok(MeanEnd::Done((number_in(v) % 256) as u8)));
     }
     after(step(p, Control::GivesValue(v)))

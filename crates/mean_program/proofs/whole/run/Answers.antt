@@ -18,7 +18,7 @@ loop-init g c = record {
 pub loop-preserved : goal.loop-preserved
 loop-preserved g c =
     let kept = c.loop.invariant in
-    let turn = c.take_turn.ensures in
+    let turn = c.take_turn-next.ensures in
     record {
       gives = λ aim start. turn.gives aim
           (subst (λ t. TurnGives aim c.loop.p t (g.S.Source.told c.loop.source) (g.K.Sink.told c.loop.sink)) c.in-Goes.is
