@@ -1,10 +1,17 @@
 -- What `mean` answers, by what the program means.
 use Rattle.std.specs.Prelude.{◌≡◌, ℕ, List, ◌++◌, Option, Some, Result, Ok, Err}
 use Rattle.block_meaning.specs.Meaning.{End, Done, Stopped, Outcome}
-use Rattle.block_meaning.specs.Running.{Stop, Divide, Deep, More, IsUndefined}
+use Rattle.block_meaning.specs.Running.{Program, Stop, Divide, Deep, More, IsUndefined}
+use Rattle.c_type_base.specs.declared.typed.Typed.{Typed}
+use Rattle.mean_start.specs.declared.file.FrameSizes.{FrameSizes}
+use Rattle.mean_start.specs.Files.{frames_in}
 use Rattle.mean_program.specs.declared.end.MeanEnd.{MeanEnd}
 use Rattle.mean_program.specs.declared.end.MeanEnd.TheVariants as end
 use Rattle.mean_program.specs.declared.end.MeanFault.{MeanFault}
+
+-- the program of these files, frames and bytes of the stack
+abbrev pub program_of : List Typed → FrameSizes → ℕ → Program
+program_of units frames stack = record { units = units; frames = frames_in frames; stack = stack }
 
 abbrev pub StopIs : MeanEnd → Stop → Type 0
 StopIs end.Divide Divide = Unit {0}

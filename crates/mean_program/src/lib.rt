@@ -3,6 +3,7 @@
 
 mod end;
 mod turn;
+mod whole;
 
 pub use end::{MeanEnd, MeanFault};
-pub use turn::{Turn, turn};
+pub use whole::mean;

@@ -1,6 +1,6 @@
 //! One turn of a run, with the outside.
 
-ghost use Rattle.std.specs.Prelude.{◌≡◌, ℕ, ◌%◌, List, Option};
+ghost use Rattle.std.specs.Prelude.{◌≡◌, ◌≢◌, ◌≤◌, ℕ, ◌%◌, List, Option, Err};
 ghost use Rattle.std.specs.Global.{Vec as Values};
 ghost use Rattle.block_meaning.specs.Expressions.{first_number};
 ghost use Rattle.c_ast.specs.declared.token.Span.{Span as Place};
@@ -42,7 +42,9 @@ fn put<'a, K: Sink>(values: &[Value], sink: &mut K) -> Turn<'a>
     ensures gives { (aim : Aim) (p : Code) (span : Place) (vs : Values Value) (input : Option (List ℕ)) → vs.items ≡ values.now
         → Holds aim p (control.Call span callee.Putchar vs) input (K.Sink.told sink.old)
         → TurnGives aim p result input (K.Sink.told sink.new) }
-    ensures failed { result ≡ Turn.Ends (Err MeanFault.OutputFault) → Rose (K.Sink.faults sink.old) (K.Sink.faults sink.new) }
+    ensures output_fault { result ≡ Turn.Ends (Err MeanFault.OutputFault) → Rose (K.Sink.faults sink.old) (K.Sink.faults sink.new) }
+    ensures no_input_fault { result ≢ Turn.Ends (Err MeanFault.InputFault) }
+    ensures output_never_falls { K.Sink.faults sink.old ≤ K.Sink.faults sink.new }
 {
     let byte = byte_of(values);
     match sink.put(&[byte]) {
@@ -56,7 +58,9 @@ fn take<'a, S: Source>(source: &mut S) -> Turn<'a>
     ensures gives { (aim : Aim) (p : Code) (span : Place) (vs : Values Value) (output : Option (List ℕ))
         → Holds aim p (control.Call span callee.Getchar vs) (S.Source.told source.old) output
         → TurnGives aim p result (S.Source.told source.new) output }
-    ensures failed { result ≡ Turn.Ends (Err MeanFault.InputFault) → Rose (S.Source.faults source.old) (S.Source.faults source.new) }
+    ensures input_fault { result ≡ Turn.Ends (Err MeanFault.InputFault) → Rose (S.Source.faults source.old) (S.Source.faults source.new) }
+    ensures no_output_fault { result ≢ Turn.Ends (Err MeanFault.OutputFault) }
+    ensures input_never_falls { S.Source.faults source.old ≤ S.Source.faults source.new }
 {
     match source.next() {
         NextAnswer::Byte(byte) => Turn::Goes(Control::GivesValue(Value::Number(byte as u64))),
@@ -67,7 +71,9 @@ fn take<'a, S: Source>(source: &mut S) -> Turn<'a>
 
 /// The end that a stop of the run is.
 fn end_of(why: Ending) -> Result<MeanEnd, MeanFault>
-    ensures { result ≡ law.end_of why }
+    ensures is { result ≡ law.end_of why }
+    ensures no_input_fault { result ≢ Err MeanFault.InputFault }
+    ensures no_output_fault { result ≢ Err MeanFault.OutputFault }
 {
     match why {
         Ending::Divide => Ok(MeanEnd::Divide),
@@ -79,8 +85,10 @@ fn end_of(why: Ending) -> Result<MeanEnd, MeanFault>
 }
 
 /// What follows an answer of the run.
-fn after<'a>(answer: Result<Control<'a>, Ending>) -> Turn<'a>
-    ensures { result ≡ law.after answer }
+pub fn after<'a>(answer: Result<Control<'a>, Ending>) -> Turn<'a>
+    ensures is { result ≡ law.after answer.entry }
+    ensures no_input_fault { result ≢ Turn.Ends (Err MeanFault.InputFault) }
+    ensures no_output_fault { result ≢ Turn.Ends (Err MeanFault.OutputFault) }
 {
     match answer {
         Ok(control) => Turn::Goes(control),
@@ -90,24 +98,30 @@ fn after<'a>(answer: Result<Control<'a>, Ending>) -> Turn<'a>
 
 /// The last value, or a step for what waits for it.
 fn value_given<'a>(p: &mut Process<'a>, v: Value) -> Turn<'a>
-    ensures { (aim : Aim) (input output : Option (List ℕ)) → Holds aim p.old (control.GivesValue v) input output
+    ensures gives { (aim : Aim) (input output : Option (List ℕ)) → Holds aim p.old (control.GivesValue v) input output
         → TurnGives aim p.new result input output }
+    ensures no_input_fault { result ≢ Turn.Ends (Err MeanFault.InputFault) }
+    ensures no_output_fault { result ≢ Turn.Ends (Err MeanFault.OutputFault) }
 {
-    if p.stack.is_empty() {
+    if p.stack.as_slice().is_empty() {
         return Turn::Ends(Ok(MeanEnd::Done((number_in(v) % 256) as u8)));
     }
     after(step(p, Control::GivesValue(v)))
 }
 
 /// One turn: a step, or a call, which may put or take a byte.
-pub fn turn<'a, S: Source, K: Sink>(
+pub fn take_turn<'a, S: Source, K: Sink>(
     p: &mut Process<'a>,
     control: Control<'a>,
     source: &mut S,
     sink: &mut K,
 ) -> Turn<'a>
-    ensures gives { (aim : Aim) → Holds aim p.old control (S.Source.told source.old) (K.Sink.told sink.old)
+    ensures gives { (aim : Aim) → Holds aim p.old control.entry (S.Source.told source.old) (K.Sink.told sink.old)
         → TurnGives aim p.new result (S.Source.told source.new) (K.Sink.told sink.new) }
+    ensures input_fault { result ≡ Turn.Ends (Err MeanFault.InputFault) → Rose (S.Source.faults source.old) (S.Source.faults source.new) }
+    ensures output_fault { result ≡ Turn.Ends (Err MeanFault.OutputFault) → Rose (K.Sink.faults sink.old) (K.Sink.faults sink.new) }
+    ensures input_never_falls { S.Source.faults source.old ≤ S.Source.faults source.new }
+    ensures output_never_falls { K.Sink.faults sink.old ≤ K.Sink.faults sink.new }
 {
     match control {
         Control::Call(_, Callee::Putchar, values) => put(values.as_slice(), sink),

@@ -5,4 +5,5 @@ pub mod Agreeing
 pub mod Blocks
 pub mod Filing
 pub mod Meaning
+pub mod Entering
 mod StartExamples

@@ -2,6 +2,7 @@
 #![tactic(auto)]
 
 mod agreement;
+mod entry;
 mod file;
 mod linking;
 mod names;
@@ -13,6 +14,7 @@ mod program;
 mod starts;
 mod zero;
 
+pub use entry::main_of;
 pub use file::{Called, Extern, File, FrameSizes, FunctionId};
 pub use opening::opened;
 pub use places::put_cells;
