@@ -1,5 +1,6 @@
 -- From what a program means to what its run keeps from the first step on.
-use Rattle.std.proofs.Common.{◌≡◌, ◌<◌, ◌≤◌, refl, sym, subst, ap, ◌∙◌, arith, append-nil, ℕ, List, [], ◌++◌, Option, Some, Result, Ok, Err}
+use Rattle.std.proofs.Common.{◌≡◌, ◌<◌, ◌≤◌, refl, sym, subst, ap, ◌∙◌, arith, append-nil, ℕ, List, [], ◌++◌}
+use Rattle.std.proofs.Common.{Option, Some, Result, Ok, Err}
 use Rattle.block_meaning.specs.Laws.Bound.Meaning.{whole_meaning}
 use Rattle.block_meaning.specs.Meaning.{Meaning, Outcome, outcome_of, run_program, before}
 use Rattle.block_meaning.specs.Running.{Program}

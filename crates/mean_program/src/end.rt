@@ -15,11 +15,7 @@ pub enum MeanEnd {
     /// No unit of work is left.
     More,
     /// A step that C leaves undefined: why, the number of the file, and where in it.
-    Undefined {
-        why: Reason,
-        file: u32,
-        span: Span,
-    },
+    Undefined { why: Reason, file: u32, span: Span },
 }
 
 /// Why the run of a program fails.

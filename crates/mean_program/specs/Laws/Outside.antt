@@ -1,5 +1,6 @@
 -- Turns that put or take a byte, and the last one.
-use Rattle.std.proofs.Common.{◌≡◌, refl, sym, subst, ap, ◌∙◌, append_assoc, append-nil, ℕ, List, [], ◌∷◌, ◌++◌, zero, suc, Option, Some, None, Ok}
+use Rattle.std.proofs.Common.{◌≡◌, refl, sym, subst, ap, ◌∙◌, append_assoc, append-nil, ℕ, List, [], ◌∷◌, ◌++◌}
+use Rattle.std.proofs.Common.{zero, suc, Option, Some, None, Ok}
 use Rattle.std.specs.Prelude.{◌%◌, ◌^◌, ◌-◌, take}
 use Rattle.c_ast.specs.declared.token.Span.{Span}
 use Rattle.c_type_base.specs.declared.expr.Callee.TheVariants as callee
@@ -183,18 +184,20 @@ done_so : (aim : Aim) (r : Result Value) (here : Context) (v : Value) (now : Sta
     MeanGives aim.before (outcome_of r) (Ok (end.Done (number_in v % 256))) input output
 done_so aim (Stops why other) here v now input output same left taken = absurd (subst IsRunning same tt)
 done_so aim (Goes u other) here v now input output same left taken =
-    let states : now ≡ other = ap (λ m. state_in m now) same in
-    (ap (λ m. number_in (value_in m) % 256) same, record {
-      input_left = left ∙ ap (λ x. Some x.input) states;
-      put = taken ∙ ap (λ x. Some (aim.before ++ x.output)) states;
-    })
+    let states : now ≡ other = ap (λ m. state_in m now) same in (
+      ap (λ m. number_in (value_in m) % 256) same,
+      record {
+        input_left = left ∙ ap (λ x. Some x.input) states;
+        put = taken ∙ ap (λ x. Some (aim.before ++ x.output)) states;
+      },
+    )
 
 pub turn-done : (aim : Aim) (p : Process) (v : Value) (input output : Option (List ℕ)) → p.stack.items ≡ [] →
     Holds aim p (control.GivesValue v) input output →
     MeanGives aim.before (outcome_of aim.result) (Ok (end.Done (number_in v % 256))) input output
 turn-done aim p v input output empty holds =
     let none : holds.waiting ≡ [] = nothing_waits holds.waiting (world_of p) holds.here
-        (subst (λ x. Stacked holds.waiting x (world_of p) holds.here) empty holds.is.stack) in
+    (subst (λ x. Stacked holds.waiting x (world_of p) holds.here) empty holds.is.stack) in
     let rests : Leads (Runs (GivesValue v) holds.here [] holds.now) (last aim.program aim.result) =
-        subst (λ k. Leads (Runs (GivesValue v) holds.here k holds.now) (last aim.program aim.result)) none holds.leads in
+    subst (λ k. Leads (Runs (GivesValue v) holds.here k holds.now) (last aim.program aim.result)) none holds.leads in
     done_so aim aim.result holds.here v holds.now input output (leads-rests refl rests) holds.left holds.taken
