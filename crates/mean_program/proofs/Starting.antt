@@ -1,5 +1,6 @@
 -- From what a program means to what its run keeps from the first step on.
-use Rattle.std.proofs.Common.{◌≡◌, ◌<◌, ◌≤◌, refl, sym, subst, ap, ◌∙◌, arith, append-nil, ℕ, List, [], ◌++◌, Option, Some, Result, Ok, Err}
+use Rattle.std.proofs.Common.{◌≡◌, ◌<◌, ◌≤◌, refl, sym, subst, ap, ◌∙◌, arith, append-nil, ℕ, List, []}
+use Rattle.std.proofs.Common.{Option, Some, Result, Ok, Err}
 use Rattle.block_meaning.specs.Laws.Bound.Meaning.{whole_meaning}
 use Rattle.block_meaning.specs.Meaning.{Meaning, Outcome, outcome_of, run_program, before}
 use Rattle.block_meaning.specs.Running.{Program}
@@ -9,7 +10,7 @@ use Rattle.mean_run.specs.Stacked.{Moves}
 use Rattle.mean_run.specs.declared.frames.Control.{Control}
 use Rattle.mean_run.specs.declared.now.Ending.{Ending}
 use Rattle.mean_run.specs.declared.process.Process.{Process}
-use Rattle.mean_program.specs.Answers.{Begins, Leaves, PutPart, MeanGives}
+use Rattle.mean_program.specs.Answers.{PutPart, MeanGives}
 use Rattle.mean_program.specs.Held.{Aim, TurnGives}
 use Rattle.mean_program.specs.Laws.Turns.{after, turn-moves}
 use Rattle.mean_program.specs.declared.end.MeanEnd.{MeanEnd}

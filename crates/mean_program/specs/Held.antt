@@ -1,5 +1,5 @@
 -- What a run of the code keeps from step to step.
-use Rattle.std.specs.Prelude.{◌≡◌, ℕ, List, ◌++◌, Option, Some, Result}
+use Rattle.std.specs.Prelude.{◌≡◌, ℕ, List, ◌++◌, Option, Some}
 use Rattle.block_meaning.specs.Laws.Settled.{IsWhole}
 use Rattle.block_meaning.specs.Meaning.{outcome_of}
 use Rattle.block_meaning.specs.Running.{Program, Context, State}
@@ -12,8 +12,6 @@ use Rattle.mean_run.specs.Stacked.{IsProcess, standing}
 use Rattle.mean_run.specs.declared.frames.Control.{Control}
 use Rattle.mean_run.specs.declared.process.Process.{Process}
 use Rattle.mean_program.specs.Answers.{MeanGives}
-use Rattle.mean_program.specs.declared.end.MeanEnd.{MeanEnd}
-use Rattle.mean_program.specs.declared.end.MeanFault.{MeanFault}
 use Rattle.mean_program.specs.declared.turn.Turn.{Turn}
 use Rattle.mean_program.specs.declared.turn.Turn.TheVariants.{Goes, Ends}
 

@@ -73,8 +73,8 @@ fn run<'a, S: Source, K: Sink>(
     Err(MeanFault::NoMemory)
 }
 
-/// Runs a program: its files with the bytes of their functions' frames, over a source and a sink, with a stack of so many bytes and at most
-/// so many units of work.
+/// Runs a program (C11 5.1.2.3): its files with the bytes of their functions' frames, over a source and a sink, with a stack of so
+/// many bytes and at most so many units of work.
 ///
 /// # Errors
 ///

@@ -1,10 +1,10 @@
 -- A step or a call of the code, from what the run keeps to what it keeps or gives.
-use Rattle.std.proofs.Common.{◌≡◌, refl, ◌∙◌, ap, append_assoc, ℕ, List, ◌++◌, Option, Result}
+use Rattle.std.proofs.Common.{ℕ, List, Option, Result}
 use Rattle.block_meaning.specs.Laws.Steady.{begins-itself}
 use Rattle.block_meaning.specs.Laws.Steady as steady
 use Rattle.block_meaning.specs.Meaning.{outcome_of}
 use Rattle.block_meaning.specs.Running.{Context, State}
-use Rattle.mean_machine.specs.Frames.{Machine, Frame}
+use Rattle.mean_machine.specs.Frames.{Frame}
 use Rattle.mean_machine.specs.Laws.Computes.{Leads}
 use Rattle.mean_machine.specs.Laws.Programs.{last}
 use Rattle.mean_machine.specs.Laws.Putting.{put_by, call_puts}

@@ -1,13 +1,13 @@
 -- Turns that put or take a byte, and the last one.
-use Rattle.std.proofs.Common.{◌≡◌, refl, sym, subst, ap, ◌∙◌, append_assoc, append-nil, ℕ, List, [], ◌∷◌, ◌++◌, zero, suc, Option, Some, None, Ok}
+use Rattle.std.proofs.Common.{◌≡◌, refl, sym, subst, ap, ◌∙◌, append_assoc, append-nil, ℕ, List, [], ◌∷◌, ◌++◌}
+use Rattle.std.proofs.Common.{zero, suc, Option, Some, None, Ok}
 use Rattle.std.specs.Prelude.{◌%◌, ◌^◌, ◌-◌, take}
 use Rattle.c_ast.specs.declared.token.Span.{Span}
 use Rattle.c_type_base.specs.declared.expr.Callee.TheVariants as callee
 use Rattle.block_meaning.specs.Expressions.{take_byte, first_number}
-use Rattle.block_meaning.specs.Laws.Settled.{IsWhole}
 use Rattle.block_meaning.specs.Laws.Steady.{begins-itself, begins-through}
 use Rattle.block_meaning.specs.Laws.Steady as steady
-use Rattle.block_meaning.specs.Meaning.{outcome_of, outside_of_calls}
+use Rattle.block_meaning.specs.Meaning.{outcome_of}
 use Rattle.block_meaning.specs.Running.{Program, Context, State, Result, Goes, Stops}
 use Rattle.block_meaning.specs.Values.{number_in}
 use Rattle.block_meaning.specs.declared.value.Value.{Value}
@@ -19,7 +19,6 @@ use Rattle.mean_machine.specs.Laws.Programs.{last}
 use Rattle.mean_machine.specs.Laws.Putting.{put_by}
 use Rattle.mean_machine.specs.Laws.PuttingOn.{leads-puts}
 use Rattle.mean_machine.specs.Laws.Resting.{leads-rests}
-use Rattle.mean_run.specs.Shown.{IsNow}
 use Rattle.mean_run.specs.Stacked.{IsProcess, Stacked, World, world_of, standing}
 use Rattle.mean_run.specs.declared.frames.Control.{Control}
 use Rattle.mean_run.specs.declared.frames.Control.TheVariants as control

@@ -1,18 +1,16 @@
 -- A turn of the code, from what the run keeps to what it keeps or gives.
-use Rattle.std.proofs.Common.{◌≡◌, refl, sym, subst, ap, ◌∙◌, inl, inr, ℕ, List, [], ◌∷◌, ◌++◌, Option, Some, None, Result, Ok, Err}
+use Rattle.std.proofs.Common.{◌≡◌, refl, sym, subst, ap, ◌∙◌, inl, inr, ℕ, List, ◌++◌, Option, Some, Result, Ok, Err}
 use Rattle.block_meaning.specs.Laws.Settled.{IsWhole}
 use Rattle.block_meaning.specs.Meaning.{outcome_of}
 use Rattle.block_meaning.specs.Running.{Program, Context, State, Stop, Divide, Deep, More, IsUndefined, Stuck}
 use Rattle.block_meaning.specs.Running as meaning
 use Rattle.block_meaning.specs.declared.value.Value.{Value}
-use Rattle.mean_machine.specs.Frames.{Machine, Runs, Ended, GivesValue}
-use Rattle.mean_machine.specs.Frames as machine
+use Rattle.mean_machine.specs.Frames.{Machine, Runs, Ended}
 use Rattle.mean_machine.specs.Laws.Computes.{Leads}
 use Rattle.mean_machine.specs.Laws.Programs.{last}
-use Rattle.mean_machine.specs.Laws.Resting.{leads-step, leads-rests, last-rests}
-use Rattle.mean_machine.specs.Steps.{step}
-use Rattle.mean_run.specs.Shown.{Quiet, EndsAs, IsStuck, IsNoMemory}
-use Rattle.mean_run.specs.Stacked.{Stood, Sticks, StopsBy, Moved, MovesBy, Moves, standing}
+use Rattle.mean_machine.specs.Laws.Resting.{leads-rests}
+use Rattle.mean_run.specs.Shown.{Quiet, EndsAs}
+use Rattle.mean_run.specs.Stacked.{Sticks, StopsBy, Moved, MovesBy}
 use Rattle.mean_run.specs.declared.frames.Control.{Control}
 use Rattle.mean_run.specs.declared.now.Ending.{Ending}
 use Rattle.mean_run.specs.declared.now.Ending.TheVariants as ending

@@ -1,6 +1,3 @@
-use Rattle.std.proofs.Common.{subst}
-use Rattle.block_meaning.specs.Meaning.{outcome_of}
-use Rattle.mean_program.specs.Answers.{PutPart}
 use Rattle.c_type_base.specs.declared.expr.Callee.TheVariants as callee
 use Rattle.mean_run.specs.declared.frames.Control.TheVariants as control
 use Rattle.mean_program.proofs.Turning.{held_part}

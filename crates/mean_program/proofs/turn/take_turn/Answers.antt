@@ -1,4 +1,4 @@
-use Rattle.std.proofs.Common.{◌≡◌, ◌≤◌, sym, subst, arith}
+use Rattle.std.proofs.Common.{◌≡◌, sym, subst, arith}
 use Rattle.c_type_base.specs.declared.expr.Callee.TheVariants as callee
 use Rattle.mean_run.specs.declared.frames.Control.TheVariants as control
 use Rattle.mean_program.specs.Held.{Holds, TurnGives}

@@ -1,6 +1,5 @@
-use Rattle.std.proofs.Common.{◌≡◌, ◌≤◌, sym, subst, ap, ◌∙◌, arith, Err}
+use Rattle.std.proofs.Common.{sym, subst, ap, ◌∙◌, arith}
 use Rattle.mean_program.specs.Held.{TurnGives}
-use Rattle.mean_program.specs.Laws.Turns.{after}
 use Rattle.mean_program.specs.declared.turn.Turn.TheVariants.{Ends}
 use Rattle.mean_program.proofs.Starting.{rises, turn_part}
 use Rattle.mean_program.proofs.whole.run.Goals as goal
