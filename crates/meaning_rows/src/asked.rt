@@ -24,7 +24,8 @@ pub struct Asked {
     pub output: Vec<u8>,
     pub end: String,
     pub left: Vec<u8>,
-    pub spends: u64,
+    /// None where the row does not say it.
+    pub spends: Option<u64>,
 }
 
 impl Asked {
@@ -40,7 +41,7 @@ impl Asked {
             output: Vec::new(alloc),
             end: String::new(alloc),
             left: Vec::new(alloc),
-            spends: 0,
+            spends: None,
         }
     }
 
@@ -72,7 +73,7 @@ impl Asked {
             "output" => self.output = unquoted(alloc, rest)?,
             "end" => self.end = String::from_str(alloc, rest)?,
             "left" => self.left = unquoted(alloc, rest)?,
-            "spends" => self.spends = number(rest),
+            "spends" => self.spends = Some(number(rest)),
             _ => {}
         }
         Ok(())

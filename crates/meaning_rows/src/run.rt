@@ -165,8 +165,8 @@ fn name_of(why: Reason) -> &'static str {
     }
 }
 
-/// How a program differs from its row; nothing where it does not. With the units that the row says it ends so, and with one less it runs
-/// out of work.
+/// How a program differs from its row; nothing where it does not. With the units that a row says it ends so, and with one less it runs out
+/// of work.
 pub fn differences(alloc: Global, asked: &Asked, found: &Found) -> Result<String, AllocError> {
     if found.end.as_str() != asked.end.as_str() {
         return format!(in alloc; "ends {}, not {}", found.end, asked.end);
@@ -180,16 +180,19 @@ pub fn differences(alloc: Global, asked: &Asked, found: &Found) -> Result<String
     if asked.end.as_str() == "more" {
         return Ok(String::new(alloc));
     }
-    let exact = ends_with(alloc, asked, asked.spends)?;
+    let Some(spends) = asked.spends else {
+        return Ok(String::new(alloc));
+    };
+    let exact = ends_with(alloc, asked, spends)?;
     if exact.as_str() != asked.end.as_str() {
-        return format!(in alloc; "ends {exact} with {} units", asked.spends);
+        return format!(in alloc; "ends {exact} with {spends} units");
     }
-    if asked.spends == 0 {
+    if spends == 0 {
         return Ok(String::new(alloc));
     }
-    let less = ends_with(alloc, asked, asked.spends - 1)?;
+    let less = ends_with(alloc, asked, spends - 1)?;
     if less.as_str() != "more" {
-        return format!(in alloc; "ends {less} with a unit less than {}", asked.spends);
+        return format!(in alloc; "ends {less} with a unit less than {spends}");
     }
     Ok(String::new(alloc))
 }
