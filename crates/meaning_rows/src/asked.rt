@@ -23,8 +23,9 @@ pub struct Asked {
     pub stack: u64,
     pub output: Vec<u8>,
     pub end: String,
-    pub left: Vec<u8>,
     /// None where the row does not say it.
+    pub left: Option<Vec<u8>>,
+    /// Likewise.
     pub spends: Option<u64>,
 }
 
@@ -40,7 +41,7 @@ impl Asked {
             stack: 8_388_608,
             output: Vec::new(alloc),
             end: String::new(alloc),
-            left: Vec::new(alloc),
+            left: None,
             spends: None,
         }
     }
@@ -72,7 +73,7 @@ impl Asked {
             "stack" => self.stack = number(rest),
             "output" => self.output = unquoted(alloc, rest)?,
             "end" => self.end = String::from_str(alloc, rest)?,
-            "left" => self.left = unquoted(alloc, rest)?,
+            "left" => self.left = Some(unquoted(alloc, rest)?),
             "spends" => self.spends = Some(number(rest)),
             _ => {}
         }

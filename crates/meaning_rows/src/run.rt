@@ -174,8 +174,10 @@ pub fn differences(alloc: Global, asked: &Asked, found: &Found) -> Result<String
     if found.output.as_slice() != asked.output.as_slice() {
         return String::from_str(alloc, "puts another output");
     }
-    if found.left.as_slice() != asked.left.as_slice() {
-        return String::from_str(alloc, "leaves another input");
+    if let Some(left) = &asked.left {
+        if found.left.as_slice() != left.as_slice() {
+            return String::from_str(alloc, "leaves another input");
+        }
     }
     if asked.end.as_str() == "more" {
         return Ok(String::new(alloc));
