@@ -1,7 +1,9 @@
 pub mod Opened
 pub mod SizeLaws
 pub mod LayoutLaws
+pub mod ByteLaws
 pub mod FirstScalarLaws
 pub mod StructLaws
 pub mod TypeLaws
+pub mod SameLaws
 pub mod GrowthLaws

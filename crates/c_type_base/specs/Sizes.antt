@@ -1,7 +1,7 @@
 -- How many bytes a type has and on what multiples it stands: LP64 for AArch64 (the procedure call standard, "fundamental data types";
 -- ISO C11 6.2.6, 6.2.8).
 -- A struct's two numbers are read off the table of structs; `Layout` says what they are.
-use Rattle.std.specs.Prelude.{◌≤◌, ℕ, ◌*◌, Bool, true, false, ◌&&◌, ltb, IsTrue, List, [], ◌∷◌, slice_get, Option, Some, None}
+use Rattle.std.specs.Prelude.{◌≡◌, ◌≤◌, ℕ, ◌*◌, Bool, true, false, ◌&&◌, ltb, IsTrue, List, [], ◌∷◌, slice_get, Option, Some, None}
 use Rattle.c_ast.specs.declared.int_type.IntType.{IntType}
 use Rattle.c_ast.specs.declared.int_type.IntType.TheVariants as int
 use Rattle.c_type_base.specs.declared.ty.Ty.{Ty}
@@ -9,6 +9,8 @@ use Rattle.c_type_base.specs.declared.ty.Ty.TheOpen.{Ty-F}
 use Rattle.c_type_base.specs.declared.ty.Ty.TheFolds.{fold-Ty}
 use Rattle.c_type_base.specs.declared.typed.StructInfo.{StructInfo}
 use Rattle.c_type_base.specs.declared.typed.MemberInfo.{MemberInfo}
+use Rattle.c_type_base.specs.declared.typed.LocalInfo.{LocalInfo}
+use Rattle.c_type_base.specs.declared.typed.TFunction.{TFunction}
 
 -- the bytes of an integer type, which are its alignment too
 abbrev pub int_bytes : IntType → ℕ
@@ -79,3 +81,16 @@ largest = 16777216
 pub record IsObject (structs : List StructInfo) (ty : Ty) : Type 0 where
   pub complete : IsTrue (is_complete structs ty)
   pub small : size structs ty ≤ largest
+
+-- each of some locals has a type that an object may have
+abbrev pub AreObjects : List StructInfo → List LocalInfo → Type 0
+AreObjects structs locals = (k : ℕ) (l : LocalInfo) → slice_get locals k ≡ Some l → IsObject structs l.ty
+
+-- the parameters and locals of each function have types that objects may have
+abbrev pub HaveObjects : List StructInfo → List TFunction → Type 0
+HaveObjects structs functions = (k : ℕ) (f : TFunction) → slice_get functions k ≡ Some f → AreObjects structs f.locals
+
+-- each struct of a table that has members has bytes, as each that the types of members make (ISO C11 6.2.6.1 and 6.7.2.1)
+abbrev pub HaveBytes : List StructInfo → Type 0
+HaveBytes structs =
+    (number : ℕ) (info : StructInfo) → slice_get structs number ≡ Some info → IsTrue (has_members info.members) → 1 ≤ info.bytes

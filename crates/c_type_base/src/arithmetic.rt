@@ -103,6 +103,7 @@ pub fn is_negative(t: IntType, n: u64) -> bool
     is_signed(t) && 9223372036854775808 <= n
 }
 
+/// The number with the other sign, modulo 2^64 (C11 6.5.3.3; signed arithmetic wraps, this project's own).
 pub fn negated(n: u64) -> u64
     ensures { result ≡ number.negated n }
 {
@@ -121,7 +122,9 @@ fn with_sign(negative: bool, n: u64) -> u64
     if negative { negated(n) } else { n }
 }
 
-fn quotient(t: IntType, a: u64, b: u64) -> Option<u64>
+/// What the operator `/` gives on two values of a type (C11 6.5.5): toward 0; a division by 0 has no value. The least number divided by -1
+/// is itself (this project's own).
+pub fn quotient(t: IntType, a: u64, b: u64) -> Option<u64>
     ensures { result ≡ number.divided (number.quotient t) a b }
 {
     if b == 0 {
@@ -198,7 +201,8 @@ fn comparison(operator: BinaryOperator, t: IntType, a: u64, b: u64) -> Option<u6
     }
 }
 
-/// An operator on two values of a type.
+/// What an operator on two values of a type gives, on values modulo 2^64 (C11 6.5.5 to 6.5.14). A division by 0 has no value; `&&` and `||`
+/// ask whether the two are 0.
 pub fn binary_value(operator: BinaryOperator, t: IntType, a: u64, b: u64) -> Option<u64>
     ensures { result ≡ number.binary_value operator t a b }
 {
@@ -217,7 +221,7 @@ pub fn binary_value(operator: BinaryOperator, t: IntType, a: u64, b: u64) -> Opt
     }
 }
 
-/// An operator on one value of a type.
+/// What an operator on one value of a type gives, on values modulo 2^64 (C11 6.5.3.3). `&` and `*` have no value.
 pub fn unary_value(operator: UnaryOperator, t: IntType, a: u64) -> Option<u64>
     ensures { result ≡ number.unary_value operator t a }
 {

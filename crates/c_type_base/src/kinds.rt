@@ -85,16 +85,6 @@ pub fn target_of(ty: &Ty) -> Option<&Ty>
     }
 }
 
-/// The elements of an array.
-pub fn element_of(ty: &Ty) -> Option<&Ty>
-    ensures { option_copied result ≡ spec.element_of ty.now }
-{
-    match ty {
-        Ty::Array(element, _) => Some(element.get()),
-        _ => None,
-    }
-}
-
 /// The number of a struct.
 pub fn struct_of(ty: &Ty) -> Option<u32>
     ensures { result ≡ spec.struct_of ty.now }

@@ -12,7 +12,9 @@ mod ty;
 mod typed;
 mod values;
 
-pub use arithmetic::{is_negative, promoted, usual, wrap};
+pub use arithmetic::{
+    binary_value, is_negative, negated, promoted, quotient, unary_value, usual, wrap,
+};
 pub use constant::{chosen, constant_of, constant_of_one, moved, wrapped};
 pub use expr::{Callee, TExpr, TNode};
 pub use kinds::{

@@ -191,7 +191,7 @@ pub fn written(
 /// The length of an array (C11 6.7.6.2 paragraph 1). The error is want of memory.
 #[cycle(expression)]
 #[tactic(auto, using(crate::proofs::ArmLaws::arm_length))]
-pub fn array_length(walk: &mut Walk, alloc: Global, e: &Expr) -> Result<Option<u64>, AllocError>
+fn array_length(walk: &mut Walk, alloc: Global, e: &Expr) -> Result<Option<u64>, AllocError>
     ensures { IfOk result (λ n. Walked (said.judged_length (spec.expression e.now)) walk.old walk.new n) }
 {
     let k = expression(walk, alloc, e)?;

@@ -12,7 +12,7 @@ use c_ast::{Expr, IntType, Node, Span, UnaryOperator};
 use c_type_base::{Constancy, Known, int_of, is_negative};
 
 /// The length that an expression gives, where it is an integer constant expression of at least 1.
-pub fn length_known(walk: &mut Walk, span: Span, k: &Known) -> Option<u64>
+fn length_known(walk: &mut Walk, span: Span, k: &Known) -> Option<u64>
     ensures { Walked (said.length_known span k.now) walk.old walk.new result }
 {
     let length = length_in(int_of(&k.tree.ty), k.constant);

@@ -12,11 +12,11 @@ mod type_rows;
 mod walk;
 
 pub use fault::Fault;
-pub use judged::{array_length, expression, judged_value, written};
-pub use length::{computes, length_known};
+pub use judged::{expression, judged_value, written};
+pub use length::computes;
 pub use parts::whole_on;
 pub use rows::call::{copy_signature, copy_types};
 pub use rows::leaf::text_bytes;
 pub use scopes::{Binding, Called, Meaning, Place, Scopes, Signature};
-pub use type_rows::{struct_tag, tag_number, whole};
+pub use type_rows::{tag_number, whole};
 pub use walk::Walk;

@@ -1,5 +1,5 @@
 -- Declarations of objects in blocks, and what a declared type is (ISO C11 6.7, 6.7.6.2, 6.7.9 paragraph 22).
-use Rattle.std.specs.Prelude.{ℕ, Bool, true, false, ◌&&◌, leb, List, [], ◌∷◌, length, codes, Option, Some, None, if◌then◌else◌}
+use Rattle.std.specs.Prelude.{ℕ, Bool, true, false, not, ◌&&◌, leb, List, [], ◌∷◌, length, codes, Option, Some, None, if◌then◌else◌}
 use Rattle.std.specs.Str.{bytes_eq}
 use Rattle.c_ast.specs.declared.token.Span.{Span}
 use Rattle.c_ast.specs.declared.declaration.Decl.{Decl}
@@ -20,9 +20,6 @@ use Rattle.c_type_base.specs.declared.known.Written.TheVariants.{Whole, Open}
 use Rattle.c_type_expr.specs.Expressions.{written}
 use Rattle.c_type_stmt.specs.declared.fitted.Fitted.{Fitted}
 use Rattle.c_type_stmt.specs.Initials.{InitSaid, initialiser, tree_of}
-
-abbrev pub no : Bool → Bool
-no b = (if b then false else true)
 
 abbrev pub init_of : Decl → Option InitSaid
 init_of d = option_map initialiser d.init
@@ -78,11 +75,11 @@ abbrev pub eof_name : List ℕ
 eof_name = codes "EOF"
 
 abbrev pub is_free : Env → List ℕ → Bool
-is_free env name = no (env.stdio && bytes_eq name eof_name)
+is_free env name = not (env.stdio && bytes_eq name eof_name)
 
 -- in one scope a name is declared once (6.7 paragraph 3)
 abbrev pub is_new : Env → List ℕ → Bool
-is_new env name = no (is_there (in_scope name (innermost env.scopes))) && is_free env name
+is_new env name = not (is_there (in_scope name (innermost env.scopes))) && is_free env name
 
 abbrev pub local_info : List ℕ → Span → Option Ty → List LocalInfo
 local_info name span None = []

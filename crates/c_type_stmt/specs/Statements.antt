@@ -1,5 +1,5 @@
 -- Statements (ISO C11 6.8). One case a statement; a rule on one without a span belongs to the expression in it.
-use Rattle.std.specs.Prelude.{◌&&◌, List, [], ◌∷◌, map, Option, Some, None}
+use Rattle.std.specs.Prelude.{◌&&◌, List, [], ◌∷◌, map, Option, Some, None, not}
 use Rattle.c_ast.specs.declared.token.Span.{Span}
 use Rattle.c_ast.specs.declared.expr.Expr.{Expr}
 use Rattle.c_ast.specs.declared.declaration.Decl.{Decl}
@@ -19,7 +19,7 @@ use Rattle.c_type_expr.specs.Outcomes.{Judged, sure, not_known, both, each, perh
 use Rattle.c_type_base.specs.declared.known.Known.{Known}
 use Rattle.c_type_base.specs.Known.{converted, assignable}
 use Rattle.c_type_expr.specs.Expressions.{judged_value}
-use Rattle.c_type_stmt.specs.Declarations.{no, local}
+use Rattle.c_type_stmt.specs.Declarations.{local}
 
 -- what is said of a statement: as it stands, and as the body of a function, whose names share a scope with the parameters (6.2.1
 -- paragraph 4)
@@ -53,7 +53,7 @@ abbrev pub returned : Span → Option Ty → Option Known → Judged TStmt
 returned span None k = not_known
 returned span (Some t) None = ruled span (rule 12 (is_void t) ∷ []) (tstmt.Return None span)
 returned span (Some t) (Some k) =
-    ruled span (rule 12 (no (is_void t) && assignable t k) ∷ []) (tstmt.Return (Some (converted t k).tree) span)
+    ruled span (rule 12 (not (is_void t) && assignable t k) ∷ []) (tstmt.Return (Some (converted t k).tree) span)
 
 abbrev pub return_row : Span → Option Known → Judged TStmt
 return_row span k env = returned span env.result k env

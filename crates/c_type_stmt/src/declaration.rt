@@ -1,6 +1,6 @@
 //! Declarations of objects in blocks, and the type that a declaration gives its object (C11 6.7).
 
-ghost use Rattle.std.specs.Prelude.{◌≡◌, ◌∷◌, ◌++◌, ◌&&◌, leb, length, IfOk, OnOk, None, Some, option_copied, if◌then◌else◌};
+ghost use Rattle.std.specs.Prelude.{◌≡◌, ◌∷◌, ◌++◌, ◌&&◌, not, leb, length, IfOk, OnOk, None, Some, option_copied, if◌then◌else◌};
 ghost use Rattle.std.specs.Str.{bytes_eq};
 ghost use Rattle.c_type_expr.specs.declared.scopes.Meaning.TheVariants as means;
 ghost use Rattle.c_type_expr.specs.declared.scopes.Place.TheVariants as place;
@@ -89,7 +89,7 @@ pub fn is_new(walk: &Walk, name: &[u8]) -> bool
 
 /// Whether it is not the name of the include line's constant, while that is in scope.
 pub fn is_free(stdio: bool, name: &[u8]) -> bool
-    ensures { result ≡ spec.no (stdio && bytes_eq name.now spec.eof_name) }
+    ensures { result ≡ not (stdio && bytes_eq name.now spec.eof_name) }
 {
     !(stdio && name == b"EOF".as_slice())
 }

@@ -9,7 +9,6 @@ use Rattle.c_type_base.specs.declared.typed.Typed.{Typed}
 use Rattle.c_type_expr.specs.declared.fault.Fault.{Fault}
 use Rattle.c_type_expr.specs.declared.walk.Walk.{Walk}
 use Rattle.c_type_expr.specs.Environment.{Env}
-use Rattle.c_type_expr.specs.Faults.{fault}
 use Rattle.c_type_expr.specs.Laws.LeastLaws.{found_first, found_none}
 use Rattle.c_types.specs.declared.file_walk.FileWalk.{FileWalk}
 use Rattle.c_types.specs.declared.refusal.TypeRefusal.{TypeRefusal}

@@ -10,7 +10,6 @@ use Rattle.c_type_base.specs.declared.expr.Callee.TheVariants as callee
 use Rattle.c_type_expr.specs.declared.scopes.Binding.{Binding}
 use Rattle.c_type_expr.specs.declared.scopes.Meaning.{Meaning}
 use Rattle.c_type_expr.specs.declared.scopes.Meaning.TheVariants as means
-use Rattle.c_type_expr.specs.declared.scopes.Signature.{Signature}
 use Rattle.c_type_expr.specs.declared.walk.Walk.{Walk}
 use Rattle.c_type_expr.specs.Environment.{binds, tag_number}
 use Rattle.c_type_expr.specs.Scoping.{with_binding}

@@ -1,5 +1,5 @@
 -- Where the walk over a file stands behind a function.
-use Rattle.std.proofs.Common.{◌≡◌, refl, sym, ◌∙◌, ap, subst, Bool, List, [], ◌∷◌, ◌++◌, Option, Some, None}
+use Rattle.std.proofs.Common.{◌≡◌, sym, ◌∙◌, ap, subst, Bool, List, [], ◌∷◌, ◌++◌, Option, Some, None}
 use Rattle.c_ast.specs.declared.program.Function.{Function}
 use Rattle.c_ast.specs.declared.statement.Stmt.{Stmt}
 use Rattle.c_type_base.specs.declared.ty.Ty.{Ty}

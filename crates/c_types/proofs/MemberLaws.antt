@@ -1,5 +1,5 @@
 -- The members of a body are walked one by one.
-use Rattle.std.proofs.Common.{◌≡◌, refl, sym, ◌∙◌, ap, subst, ℕ, ◌+◌, ◌<◌, Bool, true, false, ◌||◌, List, [], ◌∷◌, ◌++◌, take, get_or}
+use Rattle.std.proofs.Common.{◌≡◌, refl, sym, ◌∙◌, ap, subst, ℕ, ◌+◌, ◌<◌, Bool, true, false, not, ◌||◌, List, [], ◌∷◌, ◌++◌, take, get_or}
 use Rattle.std.proofs.Common.{length, Option, Some, None, append-nil, append_assoc}
 use Rattle.std.specs.List.{list_any}
 use Rattle.std.specs.Str.{bytes_eq}
@@ -12,7 +12,7 @@ use Rattle.c_type_expr.specs.Outcomes.{Judged, sure, behind}
 use Rattle.c_type_expr.specs.Walked.{env_of, blamed, passed_by, Walked}
 use Rattle.c_type_expr.specs.Laws.EachLaws.{from}
 use Rattle.c_type_expr.specs.Laws.WalkedLaws.{first_with-append, walked_sure, after_sure, after_two, judged_next, split_after}
-use Rattle.c_type_stmt.specs.Declarations.{no, object_rules}
+use Rattle.c_type_stmt.specs.Declarations.{object_rules}
 use Rattle.c_types.specs.Structs.{Member, found_member, with_member, member_type, member, members}
 
 -- ---- the names so far
@@ -38,9 +38,9 @@ any_onto test seen (d ∷ ds) =
     any_onto test (d.name ∷ seen) ds ∙ or_moved (test d.name) (list_any test seen) (list_any (λ d. test d.name) ds)
 
 -- a name is new where no declaration so far has it
-pub new_among : (name : List ℕ) (ds : List Decl) → no (list_any (λ d. bytes_eq name d.name) ds) ≡
-    no (list_any (bytes_eq name) (names_onto [] ds))
-new_among name ds = ap no (sym (any_onto (bytes_eq name) [] ds))
+pub new_among : (name : List ℕ) (ds : List Decl) → not (list_any (λ d. bytes_eq name d.name) ds) ≡
+    not (list_any (bytes_eq name) (names_onto [] ds))
+new_among name ds = ap not (sym (any_onto (bytes_eq name) [] ds))
 
 -- ---- a member
 
@@ -67,7 +67,7 @@ more_behind m None ms = refl
 more_behind m (Some found) ms = ap (λ (l : List Member). Some l) (append_assoc m found ms)
 
 abbrev member_behind : List (List ℕ) → Decl → Judged Ty
-member_behind seen d = member (no (list_any (bytes_eq d.name) seen)) d
+member_behind seen d = member (not (list_any (bytes_eq d.name) seen)) d
 
 pub members_more : (seen : List (List ℕ)) (ds : List Decl) (d : Decl) (w w1 w2 : Walk) (k : Option (List Member)) (t : Option Ty) →
     Walked (members seen ds) w w1 k → Walked (member_behind (names_onto seen ds) d) w1 w2 t →
@@ -107,7 +107,7 @@ members_more seen (e ∷ ds) d w w1 w2 k t first second =
 
 -- the next member of a body
 pub members_next : (ds : List Decl) (i : ℕ) (d e : Decl) (w w1 w2 : Walk) (new : Bool) (ms : List Member) (t : Option Ty) →
-    i < length ds → e ≡ get_or ds i d → new ≡ no (list_any (λ d. bytes_eq e.name d.name) (take i ds)) →
+    i < length ds → e ≡ get_or ds i d → new ≡ not (list_any (λ d. bytes_eq e.name d.name) (take i ds)) →
     Walked (members [] (take i ds)) w w1 (Some ms) → Walked (member new e) w1 w2 t →
     Walked (members [] (take (i + 1) ds)) w w2 (Some (ms ++ found_member e.name t))
 members_next ds i d e w w1 w2 new ms t below is first_one before here =

@@ -1,7 +1,6 @@
 -- Tables of names, and which names a file declares.
-use Rattle.std.proofs.Common.{◌≡◌, refl, sym, ◌∙◌, ap, ℕ, ◌+◌, ◌<◌, Bool, true, false, ◌&&◌, ◌||◌, cond, List, [], ◌∷◌, ◌++◌, map, take}
-use Rattle.std.proofs.Common.{length, get_or, position}
-use Rattle.std.proofs.Common.{Some}
+use Rattle.std.proofs.Common.{◌≡◌, refl, sym, ◌∙◌, ap, ℕ, ◌+◌, ◌<◌, Bool, true, false, not, ◌&&◌, ◌||◌, cond, List, [], ◌∷◌, ◌++◌, map}
+use Rattle.std.proofs.Common.{take, length, get_or, position, Some}
 use Rattle.std.specs.Prelude.{if◌then◌else◌}
 use Rattle.std.specs.List.{filter, list_any, position_from, IsDistinct as apart}
 use Rattle.std.specs.Str.{bytes_eq}
@@ -13,7 +12,6 @@ use Rattle.std.proofs.lemmas.List.Elements.{filter-append}
 use Rattle.std.proofs.lemmas.Map.Keys.{IsDistinct-head, IsDistinct-tail}
 use Rattle.std.specs.List.{AllByRecursion}
 use Rattle.std.proofs.lemmas.Slice.Eq.{bytes_eq-Decides}
-use Rattle.c_type_stmt.specs.Declarations.{no}
 use Rattle.c_types.specs.Files.{Mention, FileNames, number_among, name_in, once, defined_as, is_library, names_by}
 use Rattle.c_types.specs.Tables.{with_name, IsDistinct, is_elsewhere}
 
@@ -164,19 +162,19 @@ and_regroup true b c = refl
 and_regroup false b c = refl
 
 abbrev defines_it : Bool → Mention → Bool
-defines_it function m = m.defines && (if m.function then function else no function)
+defines_it function m = m.defines && (if m.function then function else not function)
 
 pub defined_more : (function : Bool) (ms : List Mention) (i : ℕ) (m : Mention) (take_it : Bool) (old new : List Name) (name : Name) →
     i < length ms →
     m ≡ get_or ms i m → take_it ≡ defines_it function m → list_any (bytes_eq name) old ≡ defined_as function (take i ms) name →
     new ≡ (if take_it then with_name old m.name else old) → list_any (bytes_eq name) new ≡ defined_as function (take (i + 1) ms) name
 defined_more function ms i m take_it old new name within is told was now =
-    let test : Mention → Bool = λ m. bytes_eq m.name name && m.defines && (if m.function then function else no function) in
+    let test : Mention → Bool = λ m. bytes_eq m.name name && m.defines && (if m.function then function else not function) in
     ap (list_any (bytes_eq name)) now ∙ chosen take_it
     ∙ ap (λ b. list_any (bytes_eq name) old || (b && take_it)) (nat_list_eq_equiv.symm name m.name)
     ∙ ap (λ b. list_any (bytes_eq name) old || (bytes_eq m.name name && b)) told
     ∙ ap (λ b. list_any (bytes_eq name) old || b) (and_regroup (bytes_eq m.name name) m.defines
-    (if m.function then function else no function))
+    (if m.function then function else not function))
     ∙ ap (λ b. b || test m) was ∙ ap (λ x. defined_as function (take i ms) name || test x) is ∙ sym (list_any_more test ms i m within)
   where
     chosen : (b : Bool) → list_any (bytes_eq name) (if b then with_name old m.name else old) ≡
@@ -235,11 +233,11 @@ pub names_made : (ms : List Mention) (includes : Bool) (objects bodies globals f
     made ≡ names_by ms includes
 names_made ms includes objects bodies globals functions externs objects_are bodies_are globals_are functions_are externs_are =
     let outside : (n : Name) → is_elsewhere objects bodies includes n ≡
-    (no (defined_as false ms n) && no (defined_as true ms n) && no (includes && is_library n)) =
-    λ n. ap (λ b. no b && no (list_any (bytes_eq n) bodies) && no (includes && is_library n)) (objects_are n)
-    ∙ ap (λ b. no (defined_as false ms n) && no b && no (includes && is_library n)) (bodies_are n) in
+    (not (defined_as false ms n) && not (defined_as true ms n) && not (includes && is_library n)) =
+    λ n. ap (λ b. not b && not (list_any (bytes_eq n) bodies) && not (includes && is_library n)) (objects_are n)
+    ∙ ap (λ b. not (defined_as false ms n) && not b && not (includes && is_library n)) (bodies_are n) in
     let g = globals_are ∙ gathered (λ n. list_any (bytes_eq n) objects) (defined_as false ms) objects_are (map name_in ms) in
     let f = functions_are ∙ gathered (λ n. list_any (bytes_eq n) bodies) (defined_as true ms) bodies_are (map name_in ms) in
     let e = externs_are ∙ gathered (is_elsewhere objects bodies includes)
-    (λ n. no (defined_as false ms n) && no (defined_as true ms n) && no (includes && is_library n)) outside (map name_in ms) in
+    (λ n. not (defined_as false ms n) && not (defined_as true ms n) && not (includes && is_library n)) outside (map name_in ms) in
     λ i. record { globals = g i; functions = f i; externs = e i; includes = includes }

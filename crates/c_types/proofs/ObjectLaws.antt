@@ -1,39 +1,33 @@
 -- An object at file scope is walked part by part.
-use Rattle.std.proofs.Common.{◌≡◌, refl, sym, ◌∙◌, ap, subst, ℕ, ◌+◌, ◌<◌, Bool, true, false, List, [], ◌∷◌, ◌++◌, length, take}
-use Rattle.std.proofs.Common.{get_or, Option, Some, None, append-nil}
-use Rattle.std.specs.Prelude.{leb, if◌then◌else◌}
+use Rattle.std.proofs.Common.{◌≡◌, refl, sym, ◌∙◌, ap, subst, ℕ, ◌+◌, ◌<◌, Bool, true, false, not, List, [], ◌∷◌, ◌++◌, length, take}
+use Rattle.std.proofs.Common.{get_or, Option, Some, None}
+use Rattle.std.specs.Prelude.{leb}
 use Rattle.std.specs.Str.{bytes_eq}
 use Rattle.std.proofs.lemmas.List.{take_more}
 use Rattle.c_ast.specs.declared.declaration.Decl.{Decl}
-use Rattle.c_ast.specs.declared.declaration.Init.{Init}
 use Rattle.c_ast.specs.declared.declaration.Storage.{Storage}
 use Rattle.c_ast.specs.declared.declaration.Storage.TheVariants as storage
 use Rattle.c_ast.specs.declared.token.Span.{Span}
 use Rattle.c_type_base.specs.declared.ty.Ty.{Ty}
-use Rattle.c_type_base.specs.declared.typed.GlobalInfo.{GlobalInfo}
-use Rattle.c_type_base.specs.declared.typed.StructInfo.{StructInfo}
 use Rattle.c_type_base.specs.Sizes.{is_complete, size, largest}
 use Rattle.c_type_expr.specs.declared.fault.Fault.{Fault}
 use Rattle.c_type_expr.specs.declared.scopes.Meaning.TheVariants as means
 use Rattle.c_type_expr.specs.declared.walk.Walk.{Walk}
 use Rattle.c_type_expr.specs.Environment.{binds}
 use Rattle.c_type_expr.specs.Faults.{Rule, rule, broken}
-use Rattle.c_type_expr.specs.Least.{first_with}
-use Rattle.c_type_expr.specs.Outcomes.{option_map}
 use Rattle.c_type_expr.specs.Scoping.{with_binding}
-use Rattle.c_type_expr.specs.Walked.{env_of, blamed}
+use Rattle.c_type_expr.specs.Walked.{blamed}
 use Rattle.c_type_expr.specs.Laws.WalkedLaws.{first_with-append}
 use Rattle.c_type_stmt.specs.declared.fitted.Fitted.{Fitted}
-use Rattle.c_type_stmt.specs.Declarations.{no, init_of, declared_type, object_rules, initialised}
-use Rattle.c_type_stmt.specs.Initials.{InitSaid, initialiser}
+use Rattle.c_type_stmt.specs.Declarations.{init_of, declared_type, object_rules, initialised}
+use Rattle.c_type_stmt.specs.Initials.{InitSaid}
 use Rattle.c_types.specs.declared.file_walk.FileWalk.{FileWalk}
-use Rattle.c_types.specs.declared.redeclared.Redeclared.{Redeclared}
 use Rattle.c_types.specs.Files.{FileNames, object_place, is_extern}
 use Rattle.c_types.specs.Functions.{main_name}
 use Rattle.c_types.specs.Recalled.{Recalls}
 use Rattle.c_types.specs.Redeclarations.{Declared, may_stand}
 use Rattle.c_types.specs.Standing.{Stands, FileStands, Passed}
-use Rattle.c_types.specs.Units.{Judgement, with_outcome, with_faults, with_names, extern_rules, misfits, pieces_in, global_of}
+use Rattle.c_types.specs.Units.{Judgement, with_outcome, with_faults, with_names, extern_rules, pieces_in, global_of}
 use Rattle.c_types.specs.Units.{object_declared, object_judged, objects_judged}
 use Rattle.c_types.specs.Laws.StandingLaws.{stands_faults, stands_names}
 
@@ -57,7 +51,7 @@ typed_asked w w1 w2 span agrees other complete small t first second whole fits =
     ∙ (λ i. blamed w (broken span (rule 10 agrees ∷ rule 19 other ∷ rule 15 (whole i) ∷ rule 17 (fits i) ∷ [])))
 
 pub extern_asked : (w : Walk) (c : Storage) (i : InitSaid) →
-    blamed w (broken i.span (rule 16 (no (is_extern c)) ∷ [])) ≡ blamed w (extern_rules c (Some i))
+    blamed w (broken i.span (rule 16 (not (is_extern c)) ∷ [])) ≡ blamed w (extern_rules c (Some i))
 extern_asked w storage.None i = refl
 extern_asked w storage.Static i = refl
 extern_asked w storage.Extern i = refl
@@ -79,7 +73,7 @@ behind_type names c j d typed t =
     let named = with_names typed (binds d.name (means.Object (object_place names d.name) t) ∷ []) in
     let i = initialised true t (init_of d) named.env in
     let this = object_declared c d t in
-    let rules = rule 10 (may_stand names j.declared this) ∷ rule 19 (no (bytes_eq d.name main_name)) ∷ object_rules j.env.structs t in
+    let rules = rule 10 (may_stand names j.declared this) ∷ rule 19 (not (bytes_eq d.name main_name)) ∷ object_rules j.env.structs t in
     let judged = with_faults (with_outcome named i) (extern_rules c (init_of d) ++ broken d.span rules) in
     record judged { declared = this ∷ j.declared; globals = j.globals ++ global_of c d t (pieces_in i.known) }
 
@@ -97,7 +91,7 @@ pub record Found (names : FileNames) (c : Storage) (d : Decl) (f : FileWalk) (w1
   pub agrees_is : (ds : List Declared) → Recalls f.declared ds → agrees ≡ may_stand names ds this
   pub apart : w4 ≡ blamed w3 (extern_rules c (init_of d))
   pub asked : after.walk ≡
-      blamed w4 (broken d.span (rule 10 agrees ∷ rule 19 (no (bytes_eq d.name main_name)) ∷ object_rules w4.structs t))
+      blamed w4 (broken d.span (rule 10 agrees ∷ rule 19 (not (bytes_eq d.name main_name)) ∷ object_rules w4.structs t))
   pub grows : (ds : List Declared) → Recalls f.declared ds → Recalls after.declared (this ∷ ds)
   pub globals_are : after.globals ≡ f.globals ++ global_of c d t (pieces_in i)
   pub functions_are : after.functions ≡ f.functions
@@ -116,12 +110,12 @@ found_stands names c d f after w1 t found j typed before first same functions =
     ap (λ (x : Walk). x.structs) found.apart ∙ ap (λ e. e.structs) third.stands.env_is ∙ same in
     let agrees : found.agrees ≡ may_stand names j.declared (object_declared c d t) =
     found.agrees_is j.declared before.recalls ∙ ap (may_stand names j.declared) found.this_is in
-    let rules = rule 10 (may_stand names j.declared (object_declared c d t)) ∷ rule 19 (no (bytes_eq d.name main_name)) ∷
+    let rules = rule 10 (may_stand names j.declared (object_declared c d t)) ∷ rule 19 (not (bytes_eq d.name main_name)) ∷
     object_rules j.env.structs t in
     let asked : after.walk ≡ blamed found.w4 (broken d.span rules) =
     found.asked
     ∙ (λ k. blamed found.w4 (broken d.span
-    (rule 10 (agrees k) ∷ rule 19 (no (bytes_eq d.name main_name)) ∷ object_rules (structs k) t))) in
+    (rule 10 (agrees k) ∷ rule 19 (not (bytes_eq d.name main_name)) ∷ object_rules (structs k) t))) in
     let last : Stands after.walk (with_faults (with_outcome named i) (extern_rules c (init_of d) ++ broken d.span rules)) =
     stands_faults (extern_rules c (init_of d) ++ broken d.span rules) found.w3 after.walk (with_outcome named i) third.stands
     (blamed_both found.w3 found.w4 after.walk (extern_rules c (init_of d)) (broken d.span rules) found.apart asked) in

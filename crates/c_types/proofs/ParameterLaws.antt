@@ -1,5 +1,5 @@
 -- Parameters are walked one by one, and rules in several lists are one list.
-use Rattle.std.proofs.Common.{◌≡◌, refl, sym, ◌∙◌, ap, subst, ℕ, Bool, true, false, List, [], ◌∷◌, ◌++◌, length, Option, Some, None}
+use Rattle.std.proofs.Common.{◌≡◌, refl, sym, ◌∙◌, ap, ℕ, Bool, true, false, List, [], ◌∷◌, ◌++◌, length, Option, Some, None}
 use Rattle.std.specs.Prelude.{leb, if◌then◌else◌}
 use Rattle.c_ast.specs.declared.declaration.Decl.{Decl}
 use Rattle.c_ast.specs.declared.token.Span.{Span}
@@ -14,7 +14,6 @@ use Rattle.c_type_expr.specs.declared.walk.Walk.{Walk}
 use Rattle.c_type_expr.specs.Environment.{Env, binds}
 use Rattle.c_type_expr.specs.Expressions.{written}
 use Rattle.c_type_expr.specs.Faults.{Rule, rule, fault, broken, all_kept}
-use Rattle.c_type_expr.specs.Least.{first_with}
 use Rattle.c_type_expr.specs.Scoping.{with_binding}
 use Rattle.c_type_expr.specs.Walked.{env_of, blamed, Walked}
 use Rattle.c_type_expr.specs.Laws.EachLaws.{as_known}
@@ -23,7 +22,7 @@ use Rattle.c_type_stmt.specs.Declarations.{local_info}
 use Rattle.c_type_stmt.specs.Laws.LocalLaws.{local_declared}
 use Rattle.c_type_stmt.specs.Laws.PartLaws.{walked_given}
 use Rattle.c_types.specs.Inside.{rules_on}
-use Rattle.c_types.specs.Functions.{adjusted, counted, parameter_rules, adjusted_in, is_new_parameter, declares_parameter, parameter}
+use Rattle.c_types.specs.Functions.{adjusted, counted, parameter_rules, is_new_parameter, declares_parameter, parameter}
 
 -- ---- rules in two lists
 

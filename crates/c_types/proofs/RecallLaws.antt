@@ -1,5 +1,5 @@
 -- What is kept of the declarations of a name decides the next one, and tells what another file defines.
-use Rattle.std.proofs.Common.{◌≡◌, refl, sym, ◌∙◌, ap, subst, ℕ, suc, ◌+◌, ◌<◌, Bool, true, false, ◌&&◌, ◌||◌, cond, List, [], ◌∷◌}
+use Rattle.std.proofs.Common.{◌≡◌, refl, sym, ◌∙◌, ap, subst, ℕ, suc, ◌+◌, ◌<◌, Bool, true, false, not, ◌&&◌, ◌||◌, cond, List, [], ◌∷◌}
 use Rattle.std.proofs.Common.{flat_map, length, drop, get_or, ◌++◌}
 use Rattle.std.proofs.Common.{Option, Some, None}
 use Rattle.std.specs.Prelude.{if◌then◌else◌}
@@ -13,7 +13,6 @@ use Rattle.std.proofs.lemmas.Slice.Eq.{bytes_eq-Decides}
 use Rattle.c_type_base.specs.declared.ty.Ty.{Ty}
 use Rattle.c_type_base.specs.Types.{same_type}
 use Rattle.c_type_base.specs.declared.typed.ExternInfo.{ExternInfo}
-use Rattle.c_type_stmt.specs.Declarations.{no}
 use Rattle.c_types.specs.declared.redeclared.Earlier.{Earlier}
 use Rattle.c_types.specs.declared.redeclared.Redeclared.{Redeclared}
 use Rattle.c_types.specs.Ordered.{option_list, extern_of, externs_by}
@@ -22,7 +21,8 @@ use Rattle.c_types.specs.Recalled.{fits, told_of}
 use Rattle.c_types.specs.Redeclarations.{Kind, AnObject, AFunction, Declared, same_types, same_signature, same_kind, equal, agree}
 use Rattle.c_types.specs.Redeclarations.{may_stand, agrees_with_library}
 use Rattle.c_types.specs.Files.{FileNames}
-use Rattle.c_types.proofs.SameLaws.{type_is, signature_is}
+use Rattle.c_type_base.specs.Laws.SameLaws.{one-type}
+use Rattle.c_types.proofs.SameLaws.{signature_is}
 
 abbrev Name : Type 0
 Name = List ℕ
@@ -52,14 +52,14 @@ type_step : {A : Type 0} (same : A → A → Bool) → ((s t : A) → same s t �
     (same d x && fits_type mixed same (Some d) old) ≡ fits_type (mixed || differs same x old) same (Some d) (Some x)
 type_step {A} same alike mixed old d x = chosen (same d x) refl
   where
-    joined : (mixed : Bool) (b : Bool) → (no mixed && no b) ≡ (no (mixed || b) && true)
+    joined : (mixed : Bool) (b : Bool) → (not mixed && not b) ≡ (not (mixed || b) && true)
     joined true b = refl
     joined false true = refl
     joined false false = refl
 
-    chosen : (b : Bool) → same d x ≡ b → (b && (no mixed && no (differs same d old))) ≡ (no (mixed || differs same x old) && no (no b))
-    chosen true is = ap (λ (y : A). no mixed && no (differs same y old)) (alike d x is) ∙ joined mixed (differs same x old)
-    chosen false is = sym (and_false (no (mixed || differs same x old)))
+    chosen : (b : Bool) → same d x ≡ b → (b && (not mixed && not (differs same d old))) ≡ (not (mixed || differs same x old) && not (not b))
+    chosen true is = ap (λ (y : A). not mixed && not (differs same y old)) (alike d x is) ∙ joined mixed (differs same x old)
+    chosen false is = sym (and_false (not (mixed || differs same x old)))
 
 kind_step : (e : Earlier) (d x : Kind) → (same_kind d x && fits_kind e d) ≡ fits_kind (with_kind e x) d
 kind_step e (AnObject None) (AnObject None) = refl
@@ -68,8 +68,8 @@ kind_step e (AnObject None) (AFunction None) = refl
 kind_step e (AnObject None) (AFunction (Some s)) = refl
 kind_step e (AnObject (Some t)) (AnObject None) = refl
 kind_step e (AnObject (Some t)) (AnObject (Some s)) =
-    and_front (same_type t s) (no e.functions) (fits_type e.mixed same_type (Some t) e.object)
-    ∙ ap (λ b. no e.functions && b) (type_step same_type type_is e.mixed e.object t s)
+    and_front (same_type t s) (not e.functions) (fits_type e.mixed same_type (Some t) e.object)
+    ∙ ap (λ b. not e.functions && b) (type_step same_type one-type e.mixed e.object t s)
 kind_step e (AnObject (Some t)) (AFunction None) = refl
 kind_step e (AnObject (Some t)) (AFunction (Some s)) = refl
 kind_step e (AFunction None) (AnObject None) = refl
@@ -80,11 +80,11 @@ kind_step e (AFunction (Some f)) (AnObject None) = refl
 kind_step e (AFunction (Some f)) (AnObject (Some s)) = refl
 kind_step e (AFunction (Some f)) (AFunction None) = refl
 kind_step e (AFunction (Some f)) (AFunction (Some g)) =
-    and_front (same_signature f g) (no e.objects) (fits_type e.mixed same_signature (Some f) e.signature)
-    ∙ ap (λ b. no e.objects && b) (type_step same_signature signature_is e.mixed e.signature f g)
+    and_front (same_signature f g) (not e.objects) (fits_type e.mixed same_signature (Some f) e.signature)
+    ∙ ap (λ b. not e.objects && b) (type_step same_signature signature_is e.mixed e.signature f g)
 
-local_step : (d x shared local : Bool) → (equal d x && (if d then no shared else no local)) ≡
-    (if d then no (shared || no x) else no (local || x))
+local_step : (d x shared local : Bool) → (equal d x && (if d then not shared else not local)) ≡
+    (if d then not (shared || not x) else not (local || x))
 local_step true true true local = refl
 local_step true true false local = refl
 local_step true false true local = refl
@@ -94,7 +94,7 @@ local_step false true shared false = refl
 local_step false false shared true = refl
 local_step false false shared false = refl
 
-defined_step : (d x e : Bool) → (no (d && x) && no (d && e)) ≡ no (d && (e || x))
+defined_step : (d x e : Bool) → (not (d && x) && not (d && e)) ≡ not (d && (e || x))
 defined_step true true true = refl
 defined_step true true false = refl
 defined_step true false true = refl
@@ -103,17 +103,17 @@ defined_step false x e = refl
 
 step : (e : Earlier) (d x : Declared) → (agree d x && fits e d) ≡ fits (with_declared e x) d
 step e d x =
-    let local = if d.local then no e.shared else no e.local in
-    and_pairs (same_kind d.kind x.kind && equal d.local x.local) (no (d.defined && x.defined)) (fits_kind e d.kind && local)
-    (no (d.defined && e.defined))
-    ∙ ap (λ b. b && (no (d.defined && x.defined) && no (d.defined && e.defined)))
+    let local = if d.local then not e.shared else not e.local in
+    and_pairs (same_kind d.kind x.kind && equal d.local x.local) (not (d.defined && x.defined)) (fits_kind e d.kind && local)
+    (not (d.defined && e.defined))
+    ∙ ap (λ b. b && (not (d.defined && x.defined) && not (d.defined && e.defined)))
     (and_pairs (same_kind d.kind x.kind) (equal d.local x.local) (fits_kind e d.kind) local)
     ∙ (λ i. (kind_step e d.kind x.kind i && local_step d.local x.local e.shared e.local i) && defined_step d.defined x.defined e.defined i)
 
 nothing_before : (d : Declared) → fits nothing d ≡ true
 nothing_before d = chosen d.kind d.local d.defined
   where
-    chosen : (k : Kind) (l f : Bool) → ((fits_kind nothing k && (if l then true else true)) && no (f && false)) ≡ true
+    chosen : (k : Kind) (l f : Bool) → ((fits_kind nothing k && (if l then true else true)) && not (f && false)) ≡ true
     chosen (AnObject None) true true = refl
     chosen (AnObject None) true false = refl
     chosen (AnObject None) false true = refl

@@ -1,5 +1,5 @@
 -- Where the walk stands behind a tag, and behind the body of one.
-use Rattle.std.proofs.Common.{◌≡◌, refl, sym, ◌∙◌, ap, subst, ℕ, suc, ◌+◌, ◌<◌, ◌≤◌, Bool, true, false, cond, List, [], ◌∷◌, ◌++◌, map}
+use Rattle.std.proofs.Common.{◌≡◌, refl, sym, ◌∙◌, ap, subst, ℕ, suc, ◌+◌, ◌<◌, Bool, true, false, not, cond, List, [], ◌∷◌, ◌++◌, map}
 use Rattle.std.proofs.Common.{length, slice_get, slice_set, Option, Some, None, arith}
 use Rattle.std.specs.Prelude.{leb, min}
 use Rattle.std.specs.List.{position_from}
@@ -14,12 +14,11 @@ use Rattle.c_type_base.specs.Sizes.{largest}
 use Rattle.c_type_base.specs.Layout.{struct_size}
 use Rattle.c_type_expr.specs.declared.walk.Walk.{Walk}
 use Rattle.c_type_expr.specs.Environment.{Env, tag_number}
-use Rattle.c_type_expr.specs.Faults.{Rule, rule, broken}
+use Rattle.c_type_expr.specs.Faults.{rule, broken}
 use Rattle.c_type_expr.specs.Walked.{blamed, Walked}
-use Rattle.c_type_stmt.specs.Declarations.{no}
 use Rattle.c_types.specs.Standing.{Stands}
 use Rattle.c_types.specs.Structs.{Member, ty_in, greatest, capped, members, struct_with, tag_alone, has_body, body_rules}
-use Rattle.c_types.specs.Units.{Judgement, with_outcome, with_faults, with_structs, with_tag, known_members, with_body}
+use Rattle.c_types.specs.Units.{Judgement, with_outcome, with_faults, with_tag, known_members, with_body}
 use Rattle.c_types.specs.Laws.StandingLaws.{stands_outcome, known_at, stands_faults, stands_structs}
 
 pub structs_at : (w : Walk) (j : Judgement) → Stands w j → w.structs ≡ j.env.structs
@@ -100,7 +99,7 @@ capped_small n = small_by greatest largest n (omega arith)
 -- a body: its members, its two rules, and then the struct of the tag
 pub body_stands : (d : StructDecl) (number : ℕ) (ds : List Decl) (ms : List Member) (info : StructInfo) (new small : Bool)
     (w w1 w2 w3 w4 : Walk) → Walked (members [] ds) w w1 (Some ms) → w2 ≡ record w1 { locals = [] } →
-    info ≡ struct_with w2.structs d.name ms → new ≡ no (has_body (slice_get w2.structs number)) → small ≡ leb info.bytes largest →
+    info ≡ struct_with w2.structs d.name ms → new ≡ not (has_body (slice_get w2.structs number)) → small ≡ leb info.bytes largest →
     w3 ≡ blamed w2 (broken d.span (rule 10 new ∷ rule 17 small ∷ [])) →
     w4 ≡ record w3 { structs = slice_set w3.structs number info } →
     (j : Judgement) → Stands w j → Stands w4 (with_body j d (Some number) ds)
@@ -111,7 +110,7 @@ body_stands d number ds ms info new small w w1 w2 w3 w4 walked leaves info_is ne
     let same : w2.structs ≡ j.env.structs = structs_at w2 (with_outcome j o) read in
     let there : ms ≡ found = ap known_members (known_at (members [] ds) w w1 j (Some ms) stands walked) in
     let made : info ≡ struct_with j.env.structs d.name found = info_is ∙ (λ i. struct_with (same i) d.name (there i)) in
-    let fresh : new ≡ no (has_body (slice_get j.env.structs number)) = new_is ∙ ap (λ s. no (has_body (slice_get s number))) same in
+    let fresh : new ≡ not (has_body (slice_get j.env.structs number)) = new_is ∙ ap (λ s. not (has_body (slice_get s number))) same in
     let fits : small ≡ leb (struct_size j.env.structs (map ty_in found)) largest =
     small_is ∙ ap (λ (x : StructInfo). leb x.bytes largest) made
     ∙ capped_small (struct_size j.env.structs (map ty_in found)) in

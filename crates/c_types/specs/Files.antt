@@ -1,6 +1,6 @@
 -- The names of a file: which it declares, in order, and which of them it defines (ISO C11 6.2.2, 6.9); these give the numbers of
 -- objects and functions.
-use Rattle.std.specs.Prelude.{ℕ, Bool, true, false, ◌&&◌, ◌||◌, List, [], ◌∷◌, map, flat_map, codes, Option, Some, None, if◌then◌else◌}
+use Rattle.std.specs.Prelude.{ℕ, Bool, true, false, not, ◌&&◌, ◌||◌, List, [], ◌∷◌, map, flat_map, codes, Option, Some, None, if◌then◌else◌}
 use Rattle.std.specs.List.{filter, list_any, position_from}
 use Rattle.std.specs.Str.{bytes_eq}
 use Rattle.c_ast.specs.declared.declaration.Decl.{Decl}
@@ -14,7 +14,6 @@ use Rattle.c_type_base.specs.declared.expr.Callee.TheVariants as callee
 use Rattle.c_type_expr.specs.declared.scopes.Place.{Place}
 use Rattle.c_type_expr.specs.declared.scopes.Place.TheVariants as place
 use Rattle.c_type_base.specs.Types.{is_there}
-use Rattle.c_type_stmt.specs.Declarations.{no}
 -- a declaration at file scope, of a function or of an object, and whether it defines it
 pub use Rattle.c_types.specs.declared.names.Mention.{Mention}
 -- the names that a file declares, by what they are, each list in the order of first declarations; and whether it has the include line
@@ -29,7 +28,7 @@ is_static storage.Static = true
 is_static _ = false
 
 abbrev pub mentioned_object : Storage → Decl → Mention
-mentioned_object c d = record { name = d.name; function = false; defines = no (is_extern c) }
+mentioned_object c d = record { name = d.name; function = false; defines = not (is_extern c) }
 
 -- an object is defined unless it is `extern`, a function where it has a body
 abbrev pub mentions : External → List Mention
@@ -58,7 +57,7 @@ abbrev pub is_library : List ℕ → Bool
 is_library name = bytes_eq name putchar_name || bytes_eq name getchar_name
 
 abbrev pub defined_as : Bool → List Mention → List ℕ → Bool
-defined_as function ms name = list_any (λ m. bytes_eq m.name name && m.defines && (if m.function then function else no function)) ms
+defined_as function ms name = list_any (λ m. bytes_eq m.name name && m.defines && (if m.function then function else not function)) ms
 
 abbrev pub name_in : Mention → List ℕ
 name_in m = m.name
@@ -68,7 +67,7 @@ names_by ms includes =
     let names = once [] (map name_in ms) in record {
       globals = filter (defined_as false ms) names;
       functions = filter (defined_as true ms) names;
-      externs = filter (λ n. no (defined_as false ms n) && no (defined_as true ms n) && no (includes && is_library n)) names;
+      externs = filter (λ n. not (defined_as false ms n) && not (defined_as true ms n) && not (includes && is_library n)) names;
       includes = includes;
     }
 

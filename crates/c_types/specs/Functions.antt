@@ -1,5 +1,6 @@
 -- Functions: parameters, heads and bodies (ISO C11 6.7.6.3, 6.9.1, 5.1.2.2.1).
-use Rattle.std.specs.Prelude.{ℕ, Bool, true, false, ◌&&◌, ◌||◌, leb, List, [], ◌∷◌, length, map, codes, Option, Some, None, if◌then◌else◌}
+use Rattle.std.specs.Prelude.{ℕ, Bool, true, false, not, ◌&&◌, ◌||◌, leb, List, [], ◌∷◌, length, map, codes, Option, Some, None}
+use Rattle.std.specs.Prelude.{if◌then◌else◌}
 use Rattle.std.specs.Str.{bytes_eq}
 use Rattle.c_ast.specs.declared.int_type.IntType.TheVariants as int
 use Rattle.c_ast.specs.declared.declaration.Decl.{Decl}
@@ -18,7 +19,7 @@ use Rattle.c_type_base.specs.declared.known.Written.{Written}
 use Rattle.c_type_base.specs.declared.known.Written.TheVariants.{Whole, Open}
 use Rattle.c_type_expr.specs.Said.{whole}
 use Rattle.c_type_expr.specs.Expressions.{written}
-use Rattle.c_type_stmt.specs.Declarations.{no, is_new, declares_local}
+use Rattle.c_type_stmt.specs.Declarations.{is_new, declares_local}
 use Rattle.c_types.specs.Files.{is_static}
 
 -- ---- parameters
@@ -92,7 +93,7 @@ is_int_in (Some t) = same_type t (ty.Int int.Int)
 -- a function `main` is `int main(void)` and not static (5.1.2.2.1)
 abbrev pub main_form : Function → Option Ty → Bool
 main_form f result =
-    (if bytes_eq f.name main_name then is_int_in result && leb (length f.params) 0 && no (is_static f.storage) else true)
+    (if bytes_eq f.name main_name then is_int_in result && leb (length f.params) 0 && not (is_static f.storage) else true)
 
 -- the rules on the head, but for those on parameters by themselves
 abbrev pub head_rules : Function → Bool → Option Ty → List Rule

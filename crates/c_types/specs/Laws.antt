@@ -9,3 +9,4 @@ pub mod DeclaredObjects
 pub mod ParameterObjects
 pub mod ByteLaws
 pub mod TypedObjects
+pub mod NumberLaws

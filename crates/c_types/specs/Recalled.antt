@@ -1,5 +1,5 @@
 -- What is kept of the declarations of a name, so that the next one is judged by it alone.
-use Rattle.std.specs.Prelude.{◌≡◌, ℕ, Bool, true, false, ◌&&◌, ◌||◌, List, [], ◌∷◌, Option, Some, None, if◌then◌else◌}
+use Rattle.std.specs.Prelude.{◌≡◌, ℕ, Bool, true, false, not, ◌&&◌, ◌||◌, List, [], ◌∷◌, Option, Some, None, if◌then◌else◌}
 use Rattle.std.specs.Str.{bytes_eq}
 use Rattle.std.specs.HashMap.{get_by}
 use Rattle.c_type_base.specs.declared.ty.Ty.{Ty}
@@ -7,7 +7,6 @@ use Rattle.c_type_base.specs.declared.ty.Ty.TheVariants as ty
 use Rattle.c_type_base.specs.declared.typed.ExternInfo.{ExternInfo}
 pub use Rattle.c_type_base.specs.Types.{same_type}
 use Rattle.c_type_expr.specs.declared.scopes.Signature.{Signature}
-use Rattle.c_type_stmt.specs.Declarations.{no}
 use Rattle.c_types.specs.declared.redeclared.Earlier.{Earlier}
 use Rattle.c_types.specs.declared.redeclared.Redeclared.{Redeclared}
 use Rattle.c_types.specs.declared.redeclared.Told.TheVariants as told
@@ -34,7 +33,7 @@ or_nothing (Some e) = e
 -- an earlier type that is known is another
 abbrev pub differs : {A : Type 0} → (A → A → Bool) → A → Option A → Bool
 differs same new None = false
-differs same new (Some old) = no (same new old)
+differs same new (Some old) = not (same new old)
 
 abbrev pub with_kind : Earlier → Kind → Earlier
 with_kind e (AnObject None) = record e { objects = true; told = told.Nothing }
@@ -47,7 +46,7 @@ with_kind e (AFunction (Some s)) =
 -- with one declaration more
 abbrev pub grown : Earlier → Kind → Bool → Bool → Earlier
 grown e kind local defined =
-    record (with_kind e kind) { local = e.local || local; shared = e.shared || no local; defined = e.defined || defined }
+    record (with_kind e kind) { local = e.local || local; shared = e.shared || not local; defined = e.defined || defined }
 
 abbrev pub with_declared : Earlier → Declared → Earlier
 with_declared e d = grown e d.kind d.local d.defined
@@ -69,14 +68,14 @@ pub record Recalls (r : Redeclared) (ds : List Declared) : Type 0 where
 
 abbrev pub fits_type : {A : Type 0} → Bool → (A → A → Bool) → Option A → Option A → Bool
 fits_type mixed same None old = true
-fits_type mixed same (Some new) old = no mixed && no (differs same new old)
+fits_type mixed same (Some new) old = not mixed && not (differs same new old)
 
 abbrev pub fits_kind : Earlier → Kind → Bool
-fits_kind e (AnObject t) = no e.functions && fits_type e.mixed same_type t e.object
-fits_kind e (AFunction s) = no e.objects && fits_type e.mixed same_signature s e.signature
+fits_kind e (AnObject t) = not e.functions && fits_type e.mixed same_type t e.object
+fits_kind e (AFunction s) = not e.objects && fits_type e.mixed same_signature s e.signature
 
 abbrev pub fits : Earlier → Declared → Bool
-fits e d = fits_kind e d.kind && (if d.local then no e.shared else no e.local) && no (d.defined && e.defined)
+fits e d = fits_kind e d.kind && (if d.local then not e.shared else not e.local) && not (d.defined && e.defined)
 
 -- ---- what another file defines under a name
 

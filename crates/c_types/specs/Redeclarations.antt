@@ -1,6 +1,6 @@
 -- What may be declared again at file scope (ISO C11 6.2.7, 6.7 paragraph 4, 6.9 paragraph 5; that all or none are `static` is this
 -- project's own).
-use Rattle.std.specs.Prelude.{ℕ, Bool, true, false, ◌&&◌, List, [], ◌∷◌, Some, if◌then◌else◌}
+use Rattle.std.specs.Prelude.{ℕ, Bool, true, false, not, ◌&&◌, List, [], ◌∷◌, Some, if◌then◌else◌}
 use Rattle.std.specs.List.{list_all}
 use Rattle.std.specs.Str.{bytes_eq}
 use Rattle.c_ast.specs.declared.int_type.IntType.TheVariants as int
@@ -8,7 +8,7 @@ use Rattle.c_type_base.specs.declared.ty.Ty.{Ty}
 use Rattle.c_type_base.specs.declared.ty.Ty.TheVariants as ty
 use Rattle.c_type_base.specs.Types.{same_type}
 use Rattle.c_type_expr.specs.declared.scopes.Signature.{Signature}
-use Rattle.c_type_stmt.specs.Declarations.{no, eof_name}
+use Rattle.c_type_stmt.specs.Declarations.{eof_name}
 use Rattle.c_types.specs.Files.{FileNames, putchar_name, getchar_name}
 -- what a declaration at file scope declares, and its type where that is known
 pub use Rattle.c_types.specs.declared.redeclared.Kind.{Kind}
@@ -32,11 +32,11 @@ same_kind (AFunction _) (AFunction _) = true
 same_kind _ _ = false
 
 abbrev pub equal : Bool → Bool → Bool
-equal a b = (if a then b else no b)
+equal a b = (if a then b else not b)
 
 -- two declarations of one name agree: one type, all or none static, and at most one defines it
 abbrev pub agree : Declared → Declared → Bool
-agree new old = same_kind new.kind old.kind && equal new.local old.local && no (new.defined && old.defined)
+agree new old = same_kind new.kind old.kind && equal new.local old.local && not (new.defined && old.defined)
 
 -- int putchar(int)
 abbrev pub putchar_type : Signature
@@ -54,7 +54,7 @@ library name s = record { name = name; kind = AFunction (Some s); local = false;
 abbrev pub agrees_with_library : FileNames → Declared → Bool
 agrees_with_library names d =
     (if names.includes then
-    no (bytes_eq d.name eof_name)
+    not (bytes_eq d.name eof_name)
     && (if bytes_eq d.name putchar_name then agree d (library putchar_name putchar_type) else true)
     && (if bytes_eq d.name getchar_name then agree d (library getchar_name getchar_type) else true)
     else true)

@@ -1,5 +1,5 @@
 -- Struct declarations (ISO C11 6.7.2.1, 6.7.2.3).
-use Rattle.std.specs.Prelude.{ℕ, Bool, false, leb, min, List, [], ◌∷◌, ◌++◌, map, slice_get, Option, Some, None}
+use Rattle.std.specs.Prelude.{ℕ, Bool, false, not, leb, min, List, [], ◌∷◌, ◌++◌, map, slice_get, Option, Some, None}
 use Rattle.std.specs.List.{list_any}
 use Rattle.std.specs.Str.{bytes_eq}
 use Rattle.c_ast.specs.declared.declaration.Decl.{Decl}
@@ -12,7 +12,7 @@ use Rattle.c_type_expr.specs.Faults.{Rule, rule, broken}
 use Rattle.c_type_expr.specs.Outcomes.{Judged, sure, on, behind, joined}
 use Rattle.c_type_expr.specs.Said.{whole}
 use Rattle.c_type_expr.specs.Expressions.{written}
-use Rattle.c_type_stmt.specs.Declarations.{no, object_rules}
+use Rattle.c_type_stmt.specs.Declarations.{object_rules}
 pub use Rattle.c_types.specs.declared.body.Member.{Member}
 
 abbrev pub ty_in : Member → Ty
@@ -39,7 +39,7 @@ member new d env =
 abbrev pub members : List (List ℕ) → List Decl → Judged (List Member)
 members seen [] = sure []
 members seen (d ∷ ds) = λ env.
-    let one = member (no (list_any (bytes_eq d.name) seen)) d env in
+    let one = member (not (list_any (bytes_eq d.name) seen)) d env in
     let rest = members (d.name ∷ seen) ds (behind one env) in
     joined one rest (with_member (found_member d.name one.known) rest.known)
 
@@ -75,4 +75,4 @@ has_body (Some info) = has_members info.members
 -- a tag has one body, and a struct at most so many bytes
 abbrev pub body_rules : List StructInfo → ℕ → List Member → List Rule
 body_rules structs number ms =
-    rule 10 (no (has_body (slice_get structs number))) ∷ rule 17 (leb (struct_size structs (map ty_in ms)) largest) ∷ []
+    rule 10 (not (has_body (slice_get structs number))) ∷ rule 17 (leb (struct_size structs (map ty_in ms)) largest) ∷ []

@@ -1,8 +1,7 @@
 -- Tables of names.
-use Rattle.std.specs.Prelude.{◌≡◌, ℕ, Bool, false, ◌&&◌, List, [], ◌∷◌, ◌++◌, if◌then◌else◌}
+use Rattle.std.specs.Prelude.{◌≡◌, ℕ, Bool, false, not, ◌&&◌, List, [], ◌∷◌, ◌++◌, if◌then◌else◌}
 use Rattle.std.specs.List.{list_any}
 use Rattle.std.specs.Str.{bytes_eq}
-use Rattle.c_type_stmt.specs.Declarations.{no}
 use Rattle.c_types.specs.Files.{is_library}
 
 -- with a name at the end, where it is not there yet
@@ -17,4 +16,4 @@ IsDistinct (n ∷ ns) = (list_any (bytes_eq n) ns ≡ false) × IsDistinct ns
 -- another file defines a name, by the names that this one defines as objects and as functions, and whether it has the include line
 abbrev pub is_elsewhere : List (List ℕ) → List (List ℕ) → Bool → List ℕ → Bool
 is_elsewhere objects functions includes name =
-    no (list_any (bytes_eq name) objects) && no (list_any (bytes_eq name) functions) && no (includes && is_library name)
+    not (list_any (bytes_eq name) objects) && not (list_any (bytes_eq name) functions) && not (includes && is_library name)

@@ -1,5 +1,5 @@
 -- A whole file (ISO C11 6.9): its parts in order, each with what was declared before it.
-use Rattle.std.specs.Prelude.{ℕ, true, false, List, [], ◌∷◌, ◌++◌, length, slice_set, Option, Some, None, if◌then◌else◌}
+use Rattle.std.specs.Prelude.{ℕ, true, false, not, List, [], ◌∷◌, ◌++◌, length, slice_set, Option, Some, None, if◌then◌else◌}
 use Rattle.std.specs.Str.{bytes_eq}
 use Rattle.c_ast.specs.declared.declaration.Decl.{Decl}
 use Rattle.c_ast.specs.declared.declaration.Storage.{Storage}
@@ -28,7 +28,7 @@ use Rattle.c_type_expr.specs.Environment.{Env, binds, tag_number}
 use Rattle.c_type_expr.specs.Outcomes.{Outcome, behind}
 use Rattle.c_type_stmt.specs.declared.fitted.Fitted.{Fitted}
 use Rattle.c_type_stmt.specs.Initials.{InitSaid}
-use Rattle.c_type_stmt.specs.Declarations.{no, init_of, declared_type, object_rules, initialised, eof_name}
+use Rattle.c_type_stmt.specs.Declarations.{init_of, declared_type, object_rules, initialised, eof_name}
 use Rattle.c_type_stmt.specs.Statements.{statement}
 use Rattle.c_types.specs.Files.{FileNames, file_names, is_extern, is_static, object_place, function_callee, putchar_name, getchar_name}
 use Rattle.c_types.specs.Redeclarations.{AnObject, AFunction, Declared, may_stand, putchar_type, getchar_type}
@@ -136,7 +136,7 @@ global_of c d (Some t) pieces =
     (if is_extern c then [] else record { name = d.name; ty = t; local = is_static c; init = pieces; span = d.span } ∷ [])
 
 abbrev pub object_declared : Storage → Decl → Option Ty → Declared
-object_declared c d t = record { name = d.name; kind = AnObject t; local = is_static c; defined = no (is_extern c) }
+object_declared c d t = record { name = d.name; kind = AnObject t; local = is_static c; defined = not (is_extern c) }
 
 -- an object of the file: its type, its name, its initialiser, and then its rules
 abbrev pub object_judged : FileNames → Storage → Judgement → Decl → Judgement
@@ -146,7 +146,8 @@ object_judged names c j d =
     let named = with_names typed (binds d.name (means.Object (object_place names d.name) t.known) ∷ []) in
     let i = initialised true t.known (init_of d) named.env in
     let this = object_declared c d t.known in
-    let rules = rule 10 (may_stand names j.declared this) ∷ rule 19 (no (bytes_eq d.name main_name)) ∷ object_rules j.env.structs t.known in
+    let rules = rule 10 (may_stand names j.declared this) ∷ rule 19 (not (bytes_eq d.name main_name)) ∷
+    object_rules j.env.structs t.known in
     let judged = with_faults (with_outcome named i) (extern_rules c (init_of d) ++ broken d.span rules) in
     record judged { declared = this ∷ j.declared; globals = j.globals ++ global_of c d t.known (pieces_in i.known) }
 

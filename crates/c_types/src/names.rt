@@ -1,9 +1,8 @@
 //! The names that a file declares, and their numbers (C11 6.2.2, 6.9).
 
-ghost use Rattle.std.specs.Prelude.{◌≡◌, [], ◌++◌, ◌&&◌, List, ℕ, length, map, flat_map, if◌then◌else◌, IfOk, OnOk};
+ghost use Rattle.std.specs.Prelude.{◌≡◌, [], ◌++◌, ◌&&◌, List, ℕ, length, map, flat_map, if◌then◌else◌, IfOk, OnOk, not};
 ghost use Rattle.std.specs.List.{filter, list_any};
 ghost use Rattle.std.specs.Str.{bytes_eq};
-ghost use Rattle.c_type_stmt.specs.Declarations.{no};
 ghost use Rattle.c_types.specs.Files as spec;
 ghost use Rattle.c_types.specs.Files.{number_among, mentions, mentioned_object, name_in, once, defined_as};
 ghost use Rattle.c_types.specs.Tables.{with_name, IsDistinct, is_elsewhere};
@@ -178,7 +177,7 @@ fn mentioned(alloc: Global, parts: &[External]) -> Result<Items<Mention>, AllocE
 
 /// Whether it defines a function, or else an object.
 fn defines_as(mention: &Mention, function: bool) -> bool
-    ensures { result ≡ (mention.now.defines && (if mention.now.function then function else no function)) }
+    ensures { result ≡ (mention.now.defines && (if mention.now.function then function else not function)) }
 {
     let fits = if mention.function {
         function

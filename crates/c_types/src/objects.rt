@@ -1,6 +1,6 @@
 //! Objects at file scope (C11 6.7, 6.9.2).
 
-ghost use Rattle.std.specs.Prelude.{◌≡◌, ◌∷◌, ◌++◌, true, Some, IfOk, OnOk};
+ghost use Rattle.std.specs.Prelude.{◌≡◌, ◌∷◌, ◌++◌, true, not, Some, IfOk, OnOk};
 ghost use Rattle.std.specs.Str.{bytes_eq};
 ghost use Rattle.c_type_expr.specs.declared.scopes.Meaning.TheVariants as means;
 ghost use Rattle.c_type_expr.specs.Environment.{binds};
@@ -8,7 +8,7 @@ ghost use Rattle.c_type_expr.specs.Faults.{rule, broken};
 ghost use Rattle.c_type_expr.specs.Scoping.{with_binding};
 ghost use Rattle.c_type_expr.specs.Walked.{blamed};
 ghost use Rattle.c_type_stmt.specs.Declarations as locals;
-ghost use Rattle.c_type_stmt.specs.Declarations.{no, init_of, object_rules};
+ghost use Rattle.c_type_stmt.specs.Declarations.{init_of, object_rules};
 ghost use Rattle.c_types.specs.Files.{object_place};
 ghost use Rattle.c_types.specs.Functions.{main_name};
 ghost use Rattle.c_types.specs.Standing.{Stands, FileStands, Passed};
@@ -82,7 +82,7 @@ fn ask_extern(walk: &mut Walk, storage: Storage, d: &Decl)
 /// may have the type.
 fn ask_rules(walk: &mut Walk, d: &Decl, agrees: bool, t: &Option<Ty>)
     ensures { walk.new ≡ blamed walk.old (broken d.now.span
-        (rule 10 agrees ∷ rule 19 (no (bytes_eq d.now.name main_name)) ∷ object_rules walk.old.structs t.now)) }
+        (rule 10 agrees ∷ rule 19 (not (bytes_eq d.now.name main_name)) ∷ object_rules walk.old.structs t.now)) }
 {
     let other = d.name.as_slice() != b"main".as_slice();
     match t {

@@ -1,11 +1,10 @@
 //! Struct declarations (C11 6.7.2.1, 6.7.2.3).
 
-ghost use Rattle.std.specs.Prelude.{◌≡◌, ◌<◌, [], ◌++◌, length, IfOk, OnOk, Some};
+ghost use Rattle.std.specs.Prelude.{◌≡◌, ◌<◌, [], ◌++◌, length, IfOk, OnOk, Some, not};
 ghost use Rattle.std.specs.List.{list_any};
 ghost use Rattle.std.specs.Str.{bytes_eq};
 ghost use Rattle.c_type_expr.specs.Environment.{tag_number};
 ghost use Rattle.c_type_expr.specs.Walked.{Walked};
-ghost use Rattle.c_type_stmt.specs.Declarations.{no};
 ghost use Rattle.c_types.specs.Standing.{Stands};
 ghost use Rattle.c_types.specs.Structs as spec;
 ghost use Rattle.c_types.specs.Units as said;
@@ -106,7 +105,7 @@ fn with_member(
 
 /// Whether no earlier member has the name.
 fn is_new_member(earlier: &[Decl], name: &[u8]) -> bool
-    ensures { result ≡ no (list_any (λ d. bytes_eq name.now d.name) earlier.now) }
+    ensures { result ≡ not (list_any (λ d. bytes_eq name.now d.name) earlier.now) }
 {
     !has_name(earlier, name)
 }

@@ -3,13 +3,14 @@ use Rattle.std.proofs.Common.{◌≡◌, ℕ, List, sym, ◌∙◌, ap, subst, �
 use Rattle.c_type_base.specs.declared.typed.StructInfo.{StructInfo}
 use Rattle.c_type_base.specs.declared.typed.TFunction.{TFunction}
 use Rattle.c_type_base.specs.Layout.{LaidOut}
+use Rattle.c_type_base.specs.Sizes.{AreObjects, HaveBytes}
 use Rattle.frame_layout.specs.declared.frame.Frame.{Frame}
 use Rattle.frame_layout.specs.declared.placed.Part.{Part}
-use Rattle.frame_layout.specs.Parts.{parts, AreObjects}
+use Rattle.frame_layout.specs.Parts.{parts}
 use Rattle.frame_layout.specs.StatementNeeds.{stmt_need}
 use Rattle.frame_layout.specs.Frames.{frame_by, frame, largest_frame}
 use Rattle.frame_layout.specs.Layouts.{IsLaid}
-use Rattle.frame_layout.specs.WellFormed.{IsWellFormed, HaveBytes}
+use Rattle.frame_layout.specs.WellFormed.{IsWellFormed}
 use Rattle.frame_layout.specs.Laws.WellFormedLaws.{well_formed}
 
 pub laid_well : (structs : List StructInfo) (f : TFunction) → LaidOut structs → AreObjects structs f.locals → HaveBytes structs →

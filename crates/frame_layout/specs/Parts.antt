@@ -3,7 +3,7 @@ use Rattle.std.specs.Prelude.{◌≡◌, ℕ, suc, ◌≤◌, Bool, ltb, List, [
 use Rattle.c_type_base.specs.declared.typed.StructInfo.{StructInfo}
 use Rattle.c_type_base.specs.declared.typed.LocalInfo.{LocalInfo}
 use Rattle.c_type_base.specs.declared.typed.TFunction.{TFunction}
-use Rattle.c_type_base.specs.Sizes.{size, align, IsObject}
+use Rattle.c_type_base.specs.Sizes.{size, align}
 use Rattle.slot_safety.specs.declared.kind.Kind.{Kind}
 use Rattle.slot_safety.specs.Kinds.{is_tagged, kind_by}
 use Rattle.frame_layout.specs.declared.placed.Part.{Part}
@@ -40,7 +40,3 @@ parts_by given k _ _ _ = []
 -- each stands on multiples of a positive number
 abbrev pub ArePositive : List Part → Type 0
 ArePositive parts = (k : ℕ) (p : Part) → slice_get parts k ≡ Some p → 1 ≤ p.align
-
--- each has a type that an object may have
-abbrev pub AreObjects : List StructInfo → List LocalInfo → Type 0
-AreObjects structs locals = (k : ℕ) (l : LocalInfo) → slice_get locals k ≡ Some l → IsObject structs l.ty

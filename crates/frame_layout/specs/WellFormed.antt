@@ -1,8 +1,6 @@
 -- Well-formed frames (this project's own): what the code that tags and clears a frame relies on.
-use Rattle.std.specs.Prelude.{◌≡◌, ℕ, ◌+◌, ◌%◌, ◌<◌, ◌≤◌, Bool, true, false, IsTrue, List, [], ◌∷◌, slice_get, Some}
+use Rattle.std.specs.Prelude.{◌≡◌, ℕ, ◌+◌, ◌%◌, ◌<◌, ◌≤◌, Bool, true, false, List, [], ◌∷◌, slice_get, Some}
 use Rattle.std.specs.List.{filter}
-use Rattle.c_type_base.specs.declared.typed.StructInfo.{StructInfo}
-use Rattle.c_type_base.specs.Sizes.{has_members}
 use Rattle.slot_safety.specs.declared.kind.Kind.{Kind}
 use Rattle.slot_safety.specs.declared.kind.Kind.TheVariants.{Safe, Tagged}
 use Rattle.frame_layout.specs.declared.frame.Slot.{Slot}
@@ -44,8 +42,3 @@ pub record IsWellFormed (f : Frame) : Type 0 where
   pub filled : Fill first (tagged_slots f.slots) f.bytes
   pub tagged : (k : ℕ) (s : Slot) → slice_get f.slots k ≡ Some s → s.kind ≡ Tagged → IsTaggedWell s
   pub safe : (k : ℕ) (s : Slot) → slice_get f.slots k ≡ Some s → s.kind ≡ Safe → s.start < f.bytes
-
--- each struct of a table that has members has bytes, as each that the types of members make (ISO C11 6.2.6.1 and 6.7.2.1)
-abbrev pub HaveBytes : List StructInfo → Type 0
-HaveBytes structs =
-    (number : ℕ) (info : StructInfo) → slice_get structs number ≡ Some info → IsTrue (has_members info.members) → 1 ≤ info.bytes

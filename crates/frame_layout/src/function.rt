@@ -2,11 +2,12 @@
 
 ghost use Rattle.std.specs.Prelude.{◌≡◌, ◌≤◌, min, IfOk, IfErr};
 ghost use Rattle.c_type_base.specs.Layout.{LaidOut};
+ghost use Rattle.c_type_base.specs.Sizes.{AreObjects, HaveBytes};
 ghost use Rattle.frame_layout.specs.Needs.{greatest};
-ghost use Rattle.frame_layout.specs.Parts.{ArePositive, AreObjects};
+ghost use Rattle.frame_layout.specs.Parts.{ArePositive};
 ghost use Rattle.frame_layout.specs.Frames as spec;
 ghost use Rattle.frame_layout.specs.Layouts.{IsLaid, Refuses};
-ghost use Rattle.frame_layout.specs.WellFormed.{IsWellFormed, HaveBytes};
+ghost use Rattle.frame_layout.specs.WellFormed.{IsWellFormed};
 
 use crate::ends::{rounded_up, safe_end, tagged_end};
 use crate::frame::{Frame, LayoutRefusal};

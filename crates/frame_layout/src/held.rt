@@ -1,7 +1,7 @@
 //! What the slots of a function have to hold.
 
 ghost use Rattle.std.specs.Prelude.{◌≡◌, length, ltb, IfOk};
-ghost use Rattle.c_type_base.specs.Sizes.{IsObject};
+ghost use Rattle.c_type_base.specs.Sizes.{AreObjects, IsObject};
 ghost use Rattle.c_type_base.specs.Layout.{LaidOut};
 ghost use Rattle.frame_layout.specs.Scopes as scope;
 ghost use Rattle.frame_layout.specs.Parts as spec;
@@ -46,7 +46,7 @@ fn collect(
 ) -> Result<Vec<Part>, AllocError>
     requires kinds { length kinds.now ≡ length locals.now }
     requires outer { length outer.now ≡ length locals.now }
-    requires objects { spec.AreObjects structs.now locals.now }
+    requires objects { AreObjects structs.now locals.now }
     ensures { IfOk result (λ parts. parts.items ≡ spec.parts_by (spec.setting structs.now params) 0 locals.now kinds.now outer.now) }
 {
     let mut parts = Vec::new(alloc);
@@ -64,7 +64,7 @@ pub fn parts(
     structs: &[StructInfo],
 ) -> Result<Vec<Part>, AllocError>
     requires laid_out { LaidOut structs.now }
-    requires objects { spec.AreObjects structs.now function.now.locals }
+    requires objects { AreObjects structs.now function.now.locals }
     ensures value { IfOk result (λ parts. parts.items ≡ spec.parts structs.now function.now) }
     ensures positive { IfOk result (λ parts. spec.ArePositive parts.items) }
 {

@@ -1,5 +1,5 @@
 -- The lines that tell the frames of a program's functions (this project's own).
-use Rattle.std.specs.Prelude.{◌≡◌, ℕ, List, [], ◌∷◌, ◌++◌, codes, decimal, flat_map, slice_get, Some}
+use Rattle.std.specs.Prelude.{ℕ, List, [], ◌∷◌, ◌++◌, codes, decimal, flat_map}
 use Rattle.c_type_base.specs.declared.typed.LocalInfo.{LocalInfo}
 use Rattle.c_type_base.specs.declared.typed.TFunction.{TFunction}
 use Rattle.c_type_base.specs.declared.typed.StructInfo.{StructInfo}
@@ -9,7 +9,6 @@ use Rattle.slot_safety.specs.declared.kind.Kind.TheVariants.{Safe, Tagged}
 use Rattle.frame_layout.specs.declared.frame.Frame.{Frame}
 use Rattle.frame_layout.specs.declared.frame.Slot.{Slot}
 use Rattle.frame_layout.specs.Frames.{frame}
-use Rattle.frame_layout.specs.Parts.{AreObjects}
 
 -- what the line of a slot says before the name: how it is kept, where it starts and its bytes, and of a tagged one its index
 abbrev pub slot_words : Slot → Kind → List ℕ
@@ -41,7 +40,3 @@ lines_of structs f = function_lines f (frame structs f)
 -- the lines of all functions that a program defines, in order
 abbrev pub lines : Typed → List ℕ
 lines typed = flat_map (lines_of typed.structs) typed.functions
-
--- the parameters and locals of each function have types that objects may have
-abbrev pub HaveObjects : List StructInfo → List TFunction → Type 0
-HaveObjects structs functions = (k : ℕ) (f : TFunction) → slice_get functions k ≡ Some f → AreObjects structs f.locals

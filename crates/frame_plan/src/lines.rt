@@ -2,10 +2,10 @@
 ghost use Rattle.std.specs.Prelude.{◌≡◌, ◌⊎◌, ◌++◌, ℕ, List, length, IfOk, IfErr, OnOk, MatchResult};
 ghost use Rattle.std.specs.String.{string_bytes};
 ghost use Rattle.c_type_base.specs.Layout.{LaidOut};
+ghost use Rattle.c_type_base.specs.Sizes.{AreObjects, HaveObjects};
 ghost use Rattle.frame_layout.specs.Frames as spec;
 ghost use Rattle.frame_layout.specs.Layouts.{IsLaid};
-ghost use Rattle.frame_layout.specs.Parts.{AreObjects};
-ghost use Rattle.frame_plan.specs.Lines.{HaveObjects, function_lines, slot_lines, slot_words};
+ghost use Rattle.frame_plan.specs.Lines.{function_lines, slot_lines, slot_words};
 ghost use Rattle.frame_plan.specs.Refusal.{HasNoText, HasText};
 ghost use Rattle.frame_plan.specs.Laws.OneText.{ArePlanned, AreRefused, IsLargeRefusal};
 

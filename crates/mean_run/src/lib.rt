@@ -2,7 +2,6 @@
 #![tactic(auto)]
 
 mod access;
-mod arithmetic;
 mod effects;
 mod evaluation;
 mod frames;

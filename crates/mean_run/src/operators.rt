@@ -14,14 +14,13 @@ ghost use Rattle.mean_run.specs.Laws.Comparing.{compares};
 ghost use Rattle.mean_run.specs.Shown.{IsNow, IsHere, Gives};
 ghost use Rattle.mean_run.specs.declared.now.Now.{Now as Code};
 
-use crate::arithmetic::{binary_value, negated, quotient, unary_value};
 use crate::effects::{comparison, is_true};
 use crate::here::Here;
 use crate::now::{Ending, Now};
 use crate::sizes::{exact_target, target_size};
 use block_meaning::{Pointer, Reason, Value};
 use c_ast::{BinaryOperator, IntType, Span, UnaryOperator};
-use c_type_base::{TExpr, Ty, int_of};
+use c_type_base::{TExpr, Ty, binary_value, int_of, negated, quotient, unary_value};
 use mean_memory::{difference, number_in};
 
 /// An operator and two pointers.

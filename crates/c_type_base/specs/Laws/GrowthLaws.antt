@@ -2,6 +2,7 @@
 -- places.
 use Rattle.std.proofs.Common.{◌≡◌, refl, sym, ◌∙◌, ap, subst, ℕ, ◌*◌, ◌+◌, max, Bool, true, false, ◌&&◌, List, [], ◌∷◌, map, slice_get}
 use Rattle.std.specs.Prelude.{ltb}
+use Rattle.std.proofs.lemmas.Bool.{and_parts}
 use Rattle.c_type_base.specs.Laws.Opened.{given_types}
 use Rattle.c_type_base.specs.declared.ty.Ty.{Ty, roll-Ty, map-Ty}
 use Rattle.c_type_base.specs.declared.ty.Ty.TheOpen.{Ty-F}
@@ -26,10 +27,6 @@ pub record Same (s t : List StructInfo) (ty : Ty) : Type 0 where
 pub data AllComplete (s : List StructInfo) : List Ty → Type 0 where
   none : AllComplete s []
   some : {ty : Ty} {tys : List Ty} → is_complete s ty ≡ true → AllComplete s tys → AllComplete s (ty ∷ tys)
-
-and_second : (a b : Bool) → (a && b) ≡ true → b ≡ true
-and_second true b is = is
-and_second false b is = cc
 
 and_with : (a b c : Bool) → (a && b) ≡ true → c ≡ true → (a && c) ≡ true
 and_with true b c is same = same
@@ -60,7 +57,7 @@ module _ (s t : List StructInfo) (more : Extends s t) where
   }
   level (Ty-F.Array e n) is =
       let both : (ltb 0 n && is_complete s e.0) ≡ true = sym (complete-array s e.0 n) ∙ is in
-      let inner = e.1 (and_second (ltb 0 n) (is_complete s e.0) both) in record {
+      let inner = e.1 (and_parts (ltb 0 n) (is_complete s e.0) both).1 in record {
         sized = size-array t e.0 n ∙ ap (λ x. n * x) inner.sized ∙ sym (size-array s e.0 n);
         aligned = align-array t e.0 n ∙ inner.aligned ∙ sym (align-array s e.0 n);
         complete = complete-array t e.0 n ∙ and_with (ltb 0 n) (is_complete s e.0) (is_complete t e.0) both inner.complete;

@@ -1,5 +1,5 @@
 -- What a program that keeps its rules promises of its structs: each is laid out, its members are complete, and it is not too large.
-use Rattle.std.proofs.Common.{◌≡◌, refl, sym, subst, ℕ, Bool, true, false, List, [], ◌∷◌, ◌++◌, map, slice_get, Option, Some, None}
+use Rattle.std.proofs.Common.{◌≡◌, refl, sym, subst, ℕ, Bool, true, false, not, List, [], ◌∷◌, ◌++◌, map, slice_get, Option, Some, None}
 use Rattle.c_ast.specs.declared.token.Span.{Span}
 use Rattle.c_ast.specs.declared.declaration.Decl.{Decl}
 use Rattle.c_ast.specs.declared.declaration.Storage.{Storage}
@@ -17,7 +17,7 @@ use Rattle.c_type_base.specs.Layout.{LaidOut, struct_size}
 use Rattle.c_type_expr.specs.Faults.{Rule, rule, broken}
 use Rattle.c_type_expr.specs.Environment.{Env, tag_number}
 use Rattle.c_type_expr.specs.Outcomes.{Outcome, behind}
-use Rattle.c_type_stmt.specs.Declarations.{no, object_rules}
+use Rattle.c_type_stmt.specs.Declarations.{object_rules}
 use Rattle.c_types.specs.Files.{FileNames, file_names}
 use Rattle.c_types.specs.Structs.{Member, ty_in, members, member_type, found_member, with_member, has_body, body_rules}
 use Rattle.c_types.specs.Units.{Judgement, start, with_outcome, with_tag, known_members, with_body, with_members, struct_judged}
@@ -67,7 +67,7 @@ pub members-complete : (seen : List (List ℕ)) (ds : List Decl) (env : Env) →
 members-complete seen [] env is = none
 members-complete seen (d ∷ ds) env is =
     let t = member_type d env in
-    let new = no (list_any (bytes_eq d.name) seen) in
+    let new = not (list_any (bytes_eq d.name) seen) in
     let faults = broken d.span (rule 10 new ∷ object_rules env.structs t.known) in
     let one = record t { faults = t.faults ++ faults } in
     let rest = members (d.name ∷ seen) ds (behind one env) in
@@ -85,9 +85,9 @@ pub tag-good : (j : Judgement) (tag : List ℕ) (o : Option ℕ) → Good j → 
 tag-good j tag (Some n) good = good
 tag-good j tag None good = λ is. tag_added j.env.structs tag (good is)
 
-pub open-struct : (o : Option StructInfo) → no (has_body o) ≡ true → complete_struct o ≡ false
+pub open-struct : (o : Option StructInfo) → not (has_body o) ≡ true → complete_struct o ≡ false
 open-struct None is = refl
-open-struct (Some info) is = elim info.members as (λ ms. no (has_members ms) ≡ true → has_members ms ≡ false) [
+open-struct (Some info) is = elim info.members as (λ ms. not (has_members ms) ≡ true → has_members ms ≡ false) [
   | [] ↦ λ is. refl
   | m ∷ ms ↦ λ is. absurd (cc)
 ] is
@@ -101,11 +101,11 @@ body-good j d (Some n) ds good = λ is.
     let own : broken d.span rules ≡ [] = back (j.faults ++ o.faults) (broken d.span rules) is in
     let before : j.faults ++ o.faults ≡ [] = front (j.faults ++ o.faults) (broken d.span rules) is in
     let fits = rule 17 (leb (struct_size j.env.structs (map ty_in ms)) largest) ∷ [] in
-    body_added j.env.structs n d.name ms (open-struct (slice_get j.env.structs n) (first-kept d.span 10 (no (has_body
+    body_added j.env.structs n d.name ms (open-struct (slice_get j.env.structs n) (first-kept d.span 10 (not (has_body
     (slice_get j.env.structs n))) fits own))
     (members-complete [] ds j.env (back j.faults o.faults before))
     (leb-true (struct_size j.env.structs (map ty_in ms)) largest
-    (first-kept d.span 17 (leb (struct_size j.env.structs (map ty_in ms)) largest) [] (rest-kept d.span 10 (no (has_body
+    (first-kept d.span 17 (leb (struct_size j.env.structs (map ty_in ms)) largest) [] (rest-kept d.span 10 (not (has_body
     (slice_get j.env.structs n))) fits own)))
     (good (front j.faults o.faults before))
 

@@ -1,4 +1,4 @@
--- Expressions and types declare no local.
+-- Expressions and types declare no local, and break rules of the numbers 9 to 19 alone.
 use Rattle.std.proofs.Common.{◌≡◌, refl, sym, subst, List, [], ◌∷◌, map, length, Some, None}
 use Rattle.c_ast.specs.Tree.{TypeLayer, NodeLayer, expr}
 use Rattle.c_ast.specs.Laws.Opened.{given_trees}
@@ -20,8 +20,8 @@ use Rattle.c_type_expr.specs.Postfix.{member_row, struct_pointed, function_in, m
 use Rattle.c_type_expr.specs.Laws.SaidLaws.{written-void, written-int, written-struct, written-pointer, written-array, written-open}
 use Rattle.c_type_expr.specs.Expressions.{in_parentheses, sizeof_row, sizeof_type, cast_row, unary_row, assign_row, step_row, conditional}
 use Rattle.c_type_expr.specs.Expressions.{cast_judged, index_of, arrow_of, node_step, expr_step, expression, written, judged_value}
-use Rattle.c_types.specs.Laws.QuietRows.{Quiet, both_quiet, AllQuiet, each_quiet, on_quiet, binary_quiet, cond_quiet, unary_quiet}
-use Rattle.c_types.specs.Laws.QuietRows.{assign_quiet, step_quiet, index_quiet, member_quiet, arrow_quiet, name_quiet, call_by_quiet}
+use Rattle.c_types.specs.Laws.QuietRows.{Quiet, at_once, rules_quiet, both_quiet, AllQuiet, each_quiet, on_quiet, binary_quiet, cond_quiet}
+use Rattle.c_types.specs.Laws.QuietRows.{unary_quiet, assign_quiet, step_quiet, index_quiet, member_quiet, arrow_quiet, name_quiet, call_by_quiet}
 use Rattle.c_types.specs.Laws.QuietRows.{pointer_quiet, array_quiet, tag_quiet, whole_quiet, length_quiet, none, some}
 
 -- what is said of a node, which has no span
@@ -70,8 +70,8 @@ level d quiet span =
 
 type_row : (y : CType-F TypeWith NodeWith ExprWith) → TypeQuiet (roll-CType (types_with y))
 unfolding types_with given_trees
-type_row CType-F.Void = type_by CType-F.Void CType-F.Void written-void (λ span env. refl)
-type_row (CType-F.Int t) = type_by (CType-F.Int t) (CType-F.Int t) (written-int t) (λ span env. refl)
+type_row CType-F.Void = type_by CType-F.Void CType-F.Void written-void (λ span env. at_once _ refl refl)
+type_row (CType-F.Int t) = type_by (CType-F.Int t) (CType-F.Int t) (written-int t) (λ span env. at_once _ refl refl)
 type_row (CType-F.Struct tag) = type_by (CType-F.Struct tag) (CType-F.Struct tag) (written-struct tag)
     (λ span env. tag_quiet span (length env.structs) (tag_number env.structs tag) env)
 type_row (CType-F.Pointer t) = type_by (CType-F.Pointer t.0) (CType-F.Pointer (written t.0)) (written-pointer t.0)
@@ -86,7 +86,8 @@ type_row (CType-F.Array t (Some e)) =
 
 arguments_quiet : (es : List ExprWith) → AllQuiet (map argument (map expression (map (λ e. e.0) es)))
 arguments_quiet [] = none
-arguments_quiet (e ∷ es) = some (on_quiet (expression e.0).judged (λ k. sure (value k)) e.1 (λ k env. refl)) (arguments_quiet es)
+arguments_quiet (e ∷ es) =
+    some (on_quiet (expression e.0).judged (λ k. sure (value k)) e.1 (λ k env. at_once _ refl refl)) (arguments_quiet es)
 
 one_row : (e : ExprWith) (f : Span → Known → Judged Known) → ((span : Span) (k : Known) → Quiet (f span k)) →
     (span : Span) → Quiet (on (expression e.0).judged (f span))
@@ -111,7 +112,7 @@ named_quiet t span = on_quiet (written t.0 span) (whole span) (t.1 span) (whole_
 cast_quiet : (t : TypeWith) (e : ExprWith) (span : Span) → Quiet (cast_judged (written t.0) (expression e.0) span)
 cast_quiet t e span =
     on_quiet (both (on (written t.0 span) (whole span)) (expression e.0).judged) (λ (t, k). cast_row span t (value k))
-    (both_quiet (on (written t.0 span) (whole span)) (expression e.0).judged (named_quiet t span) e.1) (λ v env. refl)
+    (both_quiet (on (written t.0 span) (whole span)) (expression e.0).judged (named_quiet t span) e.1) (λ v env. search (rules_quiet))
 
 call_quiet : (f : ExprWith) (es : List ExprWith) (span : Span) →
     Quiet (call (expression f.0) (map expression (map (λ e. e.0) es)) span)
@@ -122,10 +123,11 @@ call_quiet f es span env =
 
 node_row : (y : Node-F TypeWith NodeWith ExprWith) → NodeQuiet (roll-Node (nodes_with y))
 unfolding nodes_with given_trees
-node_row (Node-F.Constant n t) = level (Node-F.Constant n t) (λ span env. refl)
-node_row (Node-F.Text bytes) = level (Node-F.Text bytes) (λ span env. refl)
+node_row (Node-F.Constant n t) = level (Node-F.Constant n t) (λ span env. at_once _ refl refl)
+node_row (Node-F.Text bytes) = level (Node-F.Text bytes) (λ span env. search (rules_quiet))
 node_row (Node-F.Variable name) = level (Node-F.Variable name) (λ span env. name_quiet span (meaning_of (in_scopes name env.scopes)) env)
-node_row (Node-F.Paren e) = level (Node-F.Paren e.0) (one_row e (λ span k. sure (in_parentheses span k)) (λ span k env. refl))
+node_row (Node-F.Paren e) = level (Node-F.Paren e.0)
+    (one_row e (λ span k. sure (in_parentheses span k)) (λ span k env. at_once _ refl refl))
 node_row (Node-F.Unary o e) = level (Node-F.Unary o e.0) (one_row e (unary_row o) (unary_quiet o))
 node_row (Node-F.Binary o a b) = level (Node-F.Binary o a.0 b.0)
     (two_rows a b (λ span (x, y). binary_judged o span (value x) (value y))
@@ -134,9 +136,9 @@ node_row (Node-F.Assign o a b) = level (Node-F.Assign o a.0 b.0)
     (two_rows a b (λ span (x, y). assign_row o span x y) (λ span v. assign_quiet o span v.0 v.1))
 node_row (Node-F.Cond c a b) = level (Node-F.Cond c.0 a.0 b.0) (conditional_quiet c a b)
 node_row (Node-F.Cast t e) = level (Node-F.Cast t.0 e.0) (cast_quiet t e)
-node_row (Node-F.SizeofExpr e) = level (Node-F.SizeofExpr e.0) (one_row e sizeof_row (λ span k env. refl))
+node_row (Node-F.SizeofExpr e) = level (Node-F.SizeofExpr e.0) (one_row e sizeof_row (λ span k env. search (rules_quiet)))
 node_row (Node-F.SizeofName t) = level (Node-F.SizeofName t.0)
-    (λ span. on_quiet (on (written t.0 span) (whole span)) (sizeof_type span) (named_quiet t span) (λ v env. refl))
+    (λ span. on_quiet (on (written t.0 span) (whole span)) (sizeof_type span) (named_quiet t span) (λ v env. search (rules_quiet)))
 node_row (Node-F.Call f es) = level (Node-F.Call f.0 (map (λ e. e.0) es)) (call_quiet f es)
 node_row (Node-F.Index a b) = level (Node-F.Index a.0 b.0)
     (two_rows a b (λ span (x, y). index_of span x y)
@@ -176,4 +178,4 @@ unfolding types_with nodes_with exprs_with
 written_quiet = ind-CType TypeQuiet NodeQuiet ExprQuiet types_quiet nodes_quiet exprs_quiet
 
 pub value_quiet : (e : Expr) → Quiet (judged_value e)
-value_quiet e = on_quiet (expression e).judged (λ k. sure (value k)) (expression_quiet e) (λ k env. refl)
+value_quiet e = on_quiet (expression e).judged (λ k. sure (value k)) (expression_quiet e) (λ k env. at_once _ refl refl)

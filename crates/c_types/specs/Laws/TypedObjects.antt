@@ -1,6 +1,6 @@
 -- What a program that keeps its rules promises of its functions: each parameter and local has a type that an object may have, by the
 -- table of all structs. And each of its structs that has members has bytes.
-use Rattle.std.proofs.Common.{◌≡◌, refl, sym, subst, ℕ, ◌≤◌, Bool, true, false, List, [], ◌∷◌, ◌++◌, map, slice_get, slice_set, suc}
+use Rattle.std.proofs.Common.{◌≡◌, refl, sym, subst, ℕ, ◌≤◌, Bool, true, false, not, List, [], ◌∷◌, ◌++◌, map, slice_get, slice_set, suc}
 use Rattle.std.proofs.Common.{length, Option, Some, None}
 use Rattle.std.specs.Prelude.{leb, IsTrue, if◌then◌else◌}
 use Rattle.std.specs.List.{find}
@@ -19,14 +19,13 @@ use Rattle.c_type_base.specs.declared.typed.Typed.{Typed}
 use Rattle.c_type_base.specs.declared.typed.StructInfo.{StructInfo}
 use Rattle.c_type_base.specs.declared.typed.LocalInfo.{LocalInfo}
 use Rattle.c_type_base.specs.declared.typed.TFunction.{TFunction}
-use Rattle.c_type_base.specs.Sizes.{has_members, largest, IsObject}
+use Rattle.c_type_base.specs.Sizes.{has_members, largest, IsObject, AreObjects, HaveObjects, HaveBytes}
 use Rattle.c_type_base.specs.Layout.{struct_size}
 use Rattle.c_type_base.specs.Types.{is_there}
 use Rattle.c_type_base.specs.Laws.GrowthLaws.{Extends, complete-kept}
 use Rattle.c_type_expr.specs.Environment.{Env, tag_number}
 use Rattle.c_type_expr.specs.Faults.{rule, broken}
 use Rattle.c_type_expr.specs.Outcomes.{Outcome}
-use Rattle.c_type_stmt.specs.Declarations.{no}
 use Rattle.c_type_stmt.specs.Statements.{statement}
 use Rattle.c_types.specs.Files.{FileNames, file_names}
 use Rattle.c_types.specs.Functions.{result_type}
@@ -38,13 +37,9 @@ use Rattle.c_types.specs.Units.{parts_judged}
 use Rattle.c_types.specs.WellTyped.{WellTyped}
 use Rattle.c_types.specs.Laws.TableLaws.{ready-laid_out, none_ready, get-appended, get-set_other}
 use Rattle.c_types.specs.Laws.PromiseLaws.{Good, front, back, first-kept, open-struct, members-complete, tag-good, part-good}
-use Rattle.c_types.specs.Laws.ByteLaws.{HaveBytes, none_have, tag_has, body_has}
-use Rattle.c_types.specs.Laws.DeclaredObjects.{Every, every_none, every_one, every_append, AreObjects, object_in, body_declares}
+use Rattle.c_types.specs.Laws.ByteLaws.{none_have, tag_has, body_has}
+use Rattle.c_types.specs.Laws.DeclaredObjects.{Every, every_none, every_one, every_append, object_in, body_declares}
 use Rattle.c_types.specs.Laws.ParameterObjects.{parameters_declare}
-
--- so it is for the locals of each function
-abbrev HaveObjects : List StructInfo → List TFunction → Type 0
-HaveObjects structs functions = (k : ℕ) (f : TFunction) → slice_get functions k ≡ Some f → AreObjects structs f.locals
 
 abbrev objects_in : List StructInfo → TFunction → Type 0
 objects_in structs f = AreObjects structs f.locals
@@ -88,7 +83,7 @@ body_keeps j d (Some n) ds good keeps = λ is.
     let before : j.faults ++ o.faults ≡ [] = front (j.faults ++ o.faults) (broken d.span rules) is in
     let first : j.faults ≡ [] = front j.faults o.faults before in
     let fits = rule 17 (leb (struct_size j.env.structs (map ty_in ms)) largest) ∷ [] in
-    let bare = open-struct (slice_get j.env.structs n) (first-kept d.span 10 (no (has_body (slice_get j.env.structs n))) fits own) in
+    let bare = open-struct (slice_get j.env.structs n) (first-kept d.span 10 (not (has_body (slice_get j.env.structs n))) fits own) in
     let new = struct_with j.env.structs d.name ms in
     record {
       bytes = body_has j.env.structs n d.name ms (ready-laid_out j.env.structs (good first))
@@ -129,7 +124,7 @@ with_function_keeps j f result params (Some s) are keeps = λ is.
     let o = (statement s).body inside in
     let first : j.faults ≡ [] = front j.faults o.faults is in
     let locals = every_append (object_in j.env.structs) params.locals o.locals (are first)
-    (body_declares s inside (back j.faults o.faults is)) in
+    ((body_declares s inside).objects (back j.faults o.faults is)) in
     record {
       bytes = (keeps first).bytes;
       objects = every_append (objects_in j.env.structs) j.functions (function_of f result (params.locals ++ o.locals) o.known)
@@ -142,7 +137,7 @@ head_parameters : (names : FileNames) (j : Judgement) (f : Function) → (head_j
 head_parameters names j f is =
     let result = result_type f j.env in
     let params = parameters_in j f in
-    parameters_declare (is_there f.body) f.params _ (back (j.faults ++ result.faults) params.faults (front _ _ (front _ [] is)))
+    (parameters_declare (is_there f.body) f.params _).objects (back (j.faults ++ result.faults) params.faults (front _ _ (front _ [] is)))
 
 head_keeps : (names : FileNames) (j : Judgement) (f : Function) → Keeps j → Keeps (head_judged names j f)
 head_keeps names j f keeps = λ is. keeps (front j.faults _ (front _ _ (front _ _ (front _ [] is))))

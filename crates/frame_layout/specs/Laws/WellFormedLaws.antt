@@ -4,16 +4,17 @@ use Rattle.std.proofs.Common.{◌≡◌, sym, ◌∙◌, ap, subst, ℕ, ◌+◌
 use Rattle.std.proofs.Math.Nat.{le_trans}
 use Rattle.c_type_base.specs.declared.typed.StructInfo.{StructInfo}
 use Rattle.c_type_base.specs.declared.typed.TFunction.{TFunction}
+use Rattle.c_type_base.specs.Sizes.{AreObjects, HaveBytes}
 use Rattle.c_type_base.specs.Layout.{round_up, LaidOut}
 use Rattle.c_type_base.specs.Laws.LayoutLaws.{round_up-reaches, round_up-multiple}
 use Rattle.slot_safety.specs.declared.kind.Kind.{Kind}
 use Rattle.slot_safety.specs.declared.kind.Kind.TheVariants.{Safe, Tagged}
 use Rattle.frame_layout.specs.declared.placed.Part.{Part}
 use Rattle.frame_layout.specs.declared.frame.Slot.{Slot}
-use Rattle.frame_layout.specs.Parts.{parts, ArePositive, AreObjects}
+use Rattle.frame_layout.specs.Parts.{parts, ArePositive}
 use Rattle.frame_layout.specs.StatementNeeds.{stmt_need}
 use Rattle.frame_layout.specs.Frames.{safe_end, tagged_end, first_safe, first_tagged, frame_by, frame, largest_frame}
-use Rattle.frame_layout.specs.WellFormed.{tagged_slots, Fill, IsWellFormed, HaveBytes}
+use Rattle.frame_layout.specs.WellFormed.{tagged_slots, Fill, IsWellFormed}
 use Rattle.frame_layout.specs.Laws.PartLaws.{AreSome, parts-positive, parts-some}
 use Rattle.frame_layout.specs.Laws.FrameLaws.{safe_reaches, tagged_reaches, tagged-whole, slots-fill, tagged-well, slots-some, index-counts}
 use Rattle.frame_layout.specs.Laws.FrameLaws.{IsBetween, Stands, slots-stand, Has, slots-apart, safe-aligned, tagged-aligned}

@@ -34,7 +34,7 @@ use Rattle.block_meaning.specs.ExpressionsInOrder.{Scope, HasValue, BinaryTypes,
 use Rattle.block_meaning.specs.ExpressionsInOrder.{int_type}
 use Rattle.well_typed_order.specs.Standing.{There, KnownIn, ValueIn, FixedIn}
 use Rattle.well_typed_order.specs.Laws.Known.{known_by, valued, int-plain, pointer-plain, converted-in}
-use Rattle.well_typed_order.specs.Laws.Types.{one-type}
+use Rattle.c_type_base.specs.Laws.SameLaws.{one-type}
 
 -- a construct without faults is known, and in order
 abbrev pub Keeps : Scope → Outcome Known → Type 0

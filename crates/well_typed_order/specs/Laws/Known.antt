@@ -18,7 +18,7 @@ use Rattle.c_type_base.specs.Types.{is_void_level, is_integer, is_pointer, is_ar
 use Rattle.block_meaning.specs.ExpressionsInOrder as order
 use Rattle.block_meaning.specs.ExpressionsInOrder.{Scope, HasValue, Converts}
 use Rattle.well_typed_order.specs.Standing.{FixedIn, KnownIn, ValueIn}
-use Rattle.well_typed_order.specs.Laws.Types.{one-type, same-itself}
+use Rattle.c_type_base.specs.Laws.SameLaws.{one-type, same-itself}
 
 no_address : (s : Scope) (o : Option Fixed) → o ≡ None → FixedIn s o
 no_address s None is = tt
