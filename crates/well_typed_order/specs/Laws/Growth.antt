@@ -1,7 +1,7 @@
 -- What is said of the parts of a file so far stays: faults, texts, declarations and structs that are complete.
 use Rattle.std.proofs.Common.{◌≡◌, refl, ◌∙◌, ap, ℕ, suc, List, [], ◌∷◌, ◌++◌, map, slice_get}
 use Rattle.std.proofs.Common.{Option, Some, None}
-use Rattle.std.specs.Prelude.{leb}
+use Rattle.std.specs.Prelude.{not, leb}
 use Rattle.c_ast.specs.declared.declaration.Decl.{Decl}
 use Rattle.c_ast.specs.declared.declaration.Storage.{Storage}
 use Rattle.c_ast.specs.declared.declaration.StructDecl.{StructDecl}
@@ -19,7 +19,6 @@ use Rattle.c_type_expr.specs.declared.scopes.Binding.{Binding}
 use Rattle.c_type_expr.specs.Environment.{tag_number}
 use Rattle.c_type_expr.specs.Faults.{rule, broken}
 use Rattle.c_type_expr.specs.Outcomes.{Outcome}
-use Rattle.c_type_stmt.specs.Declarations.{no}
 use Rattle.c_types.specs.declared.names.FileNames.{FileNames}
 use Rattle.c_types.specs.declared.redeclared.Declared.{Declared}
 use Rattle.c_types.specs.Laws.PromiseLaws.{first-kept, open-struct}
@@ -147,7 +146,7 @@ grows_body j d (Some number) ds = record {
       let fits = rule 17 (leb (struct_size j.env.structs (map ty_in ms)) largest) ∷ [] in
       get-set_other j.env.structs number (struct_with j.env.structs d.name ms)
       (open-struct (slice_get j.env.structs number)
-      (first-kept d.span 10 (no (has_body (slice_get j.env.structs number))) fits own));
+      (first-kept d.span 10 (not (has_body (slice_get j.env.structs number))) fits own));
 }
 
 grows_members : (j : Judgement) (d : StructDecl) (ds : Option (List Decl)) → Grows j (with_members j d ds)

@@ -1,7 +1,7 @@
 -- Declarations of a file that breaks no rule: they are those that its text mentions, and those of one name agree.
 use Rattle.std.proofs.Common.{◌≡◌, refl, sym, ◌∙◌, ap, subst, ℕ, zero, suc, Bool, true, false, ◌&&◌, List, [], ◌∷◌, ◌++◌, map}
 use Rattle.std.proofs.Common.{length, Option, Some, None}
-use Rattle.std.specs.Prelude.{flat_map, leb, if◌then◌else◌}
+use Rattle.std.specs.Prelude.{not, flat_map, leb, if◌then◌else◌}
 use Rattle.std.specs.List.{list_all}
 use Rattle.std.specs.Str.{bytes_eq}
 use Rattle.std.proofs.lemmas.Option.{same_Some}
@@ -18,7 +18,7 @@ use Rattle.c_type_expr.specs.declared.scopes.Signature.{Signature}
 use Rattle.c_type_expr.specs.Environment.{tag_number}
 use Rattle.c_type_expr.specs.Faults.{Rule, rule, broken}
 use Rattle.c_type_expr.specs.Outcomes.{Outcome}
-use Rattle.c_type_stmt.specs.Declarations.{no, declared_type, init_of, object_rules}
+use Rattle.c_type_stmt.specs.Declarations.{declared_type, init_of, object_rules}
 use Rattle.c_types.specs.declared.names.FileNames.{FileNames}
 use Rattle.c_types.specs.declared.names.Mention.{Mention}
 use Rattle.c_types.specs.declared.redeclared.Declared.{Declared}
@@ -112,7 +112,7 @@ object_chain names c j d kept chain =
     let named = object_named names j d o in
     let read = with_outcome named (object_begun names j d o) in
     let may = may_stand names j.declared (object_declared c d o) in
-    let rest = rule 19 (no (bytes_eq d.name main_name)) ∷ object_rules j.env.structs o in (
+    let rest = rule 19 (not (bytes_eq d.name main_name)) ∷ object_rules j.env.structs o in (
       kept-first d.span 10 may rest (back (extern_rules c (init_of d)) (broken d.span (rule 10 may ∷ rest))
           (back read.faults (extern_rules c (init_of d) ++ broken d.span (rule 10 may ∷ rest)) kept)),
       chain,
@@ -235,7 +235,7 @@ all_agree d (x ∷ ds) all e (zero, has) same =
     let agrees : agree d x ≡ true = if_true (bytes_eq x.name d.name) (agree d x) here
     (and_first (if bytes_eq x.name d.name then agree d x else true) _ all) in
     subst (λ (e : Declared). OneKind d.kind e.kind) eq
-    (one-kind d.kind x.kind (first_of_three (same_kind d.kind x.kind) (equal d.local x.local) (no (d.defined && x.defined)) agrees))
+    (one-kind d.kind x.kind (first_of_three (same_kind d.kind x.kind) (equal d.local x.local) (not (d.defined && x.defined)) agrees))
   where
     if_true : (b a : Bool) → b ≡ true → (if b then a else true) ≡ true → a ≡ true
     if_true true a is its = its

@@ -1,12 +1,12 @@
 -- The names of a file that breaks no rule: what is declared has a number among those that the file defines, or among the externs.
 use Rattle.std.proofs.Common.{◌⊎◌, inl, inr, ◌≡◌, refl, sym, ◌∙◌, ap, subst, ℕ, zero, suc, Bool, true, false, ◌&&◌, ◌||◌, List, [], ◌∷◌}
 use Rattle.std.proofs.Common.{map, slice_get, Option, Some, None}
-use Rattle.std.specs.Prelude.{flat_map, if◌then◌else◌}
+use Rattle.std.specs.Prelude.{not, flat_map, if◌then◌else◌}
 use Rattle.std.specs.List.{filter, list_any}
 use Rattle.std.specs.Str.{bytes_eq}
 use Rattle.c_ast.specs.declared.program.Program.{Program}
 use Rattle.c_type_expr.specs.declared.scopes.Signature.{Signature}
-use Rattle.c_type_stmt.specs.Declarations.{no, eof_name}
+use Rattle.c_type_stmt.specs.Declarations.{eof_name}
 use Rattle.c_types.specs.declared.names.FileNames.{FileNames}
 use Rattle.c_types.specs.declared.names.Mention.{Mention}
 use Rattle.c_types.specs.declared.redeclared.Declared.{Declared}
@@ -29,17 +29,17 @@ three true true c is = (refl, refl, is)
 three true false c is = absurd cc
 three false b c is = absurd cc
 
-pub three-back : (a b c : Bool) → a ≡ false → b ≡ false → c ≡ false → (no a && no b && no c) ≡ true
+pub three-back : (a b c : Bool) → a ≡ false → b ≡ false → c ≡ false → (not a && not b && not c) ≡ true
 three-back false false false is its other = refl
 three-back true b c is its other = absurd cc
 three-back false true c is its other = absurd cc
 three-back false false true is its other = absurd cc
 
 pub by-false : (b : Bool) → (b ≡ true → ⊥) → b ≡ false
-by-false true no = absurd (no refl)
-by-false false no = refl
+by-false true never = absurd (never refl)
+by-false false never = refl
 
-same_sort : (m f : Bool) → (if m then f else no f) ≡ true → m ≡ f
+same_sort : (m f : Bool) → (if m then f else not f) ≡ true → m ≡ f
 same_sort true true is = refl
 same_sort true false is = absurd cc
 same_sort false true is = absurd cc
@@ -82,9 +82,9 @@ module _ (p : Program) (kept : (judged p).faults ≡ []) where
 
   pub defined-as : (function : Bool) (name : List ℕ) → defined_as function ms name ≡ true → DefinedAs function name
   defined-as function name is =
-      let found = any-passes (λ m. bytes_eq m.name name && m.defines && (if m.function then function else no function)) ms is in
+      let found = any-passes (λ m. bytes_eq m.name name && m.defines && (if m.function then function else not function)) ms is in
       let m = found.0 in
-      let all = three (bytes_eq m.name name) m.defines (if m.function then function else no function) found.1.passes in
+      let all = three (bytes_eq m.name name) m.defines (if m.function then function else not function) found.1.passes in
       let d = mention-declared m found.1.there in
       record {
         by = d.0;
@@ -103,8 +103,8 @@ module _ (p : Program) (kept : (judged p).faults ≡ []) where
   -- each name of an extern is declared
   pub extern-declared : (k : ℕ) (name : List ℕ) → slice_get names.externs k ≡ Some name → (d : Declared) × In ds d × (d.name ≡ name)
   extern-declared k name is =
-      let test = λ (n : List ℕ). no (defined_as false ms n) && no (defined_as true ms n) && no (names.includes && is_library n) in
-      let passed = filter-passes (λ n. no (defined_as false ms n) && no (defined_as true ms n) && no (names.includes && is_library n))
+      let test = λ (n : List ℕ). not (defined_as false ms n) && not (defined_as true ms n) && not (names.includes && is_library n) in
+      let passed = filter-passes (λ n. not (defined_as false ms n) && not (defined_as true ms n) && not (names.includes && is_library n))
       (once [] (map name_in ms)) name (k, is) in
       let found = map-in name_in ms name (once_in [] (map name_in ms) name passed.there) in
       let d = mention-declared found.0 found.1 in
@@ -138,12 +138,12 @@ module _ (p : Program) (kept : (judged p).faults ≡ []) where
   sorts (AFunction None) (AnObject t) one = absurd one
   sorts (AFunction (Some f)) (AnObject t) one = absurd one
 
-  other_sort : (d : Declared) (function : Bool) → In ds d → is_function d.kind ≡ no function → defined_as function ms d.name ≡ false
+  other_sort : (d : Declared) (function : Bool) → In ds d → is_function d.kind ≡ not function → defined_as function ms d.name ≡ false
   other_sort d function has is = by-false (defined_as function ms d.name) (λ defined.
       let e = defined-as function d.name defined in
       clash function (sym is ∙ sorts d.kind e.by.kind (one_name d e.by has e.declared (sym e.name_is)) ∙ e.sort_is))
     where
-      clash : (b : Bool) → no b ≡ b → ⊥
+      clash : (b : Bool) → not b ≡ b → ⊥
       clash true is = absurd cc
       clash false is = absurd cc
 
@@ -152,7 +152,7 @@ module _ (p : Program) (kept : (judged p).faults ≡ []) where
       (names.includes && is_library d.name) ≡ false → (k : ℕ) × (number_among names.externs d.name ≡ Some k)
   among-externs d has objects functions library =
       let named = in-once [] (map name_in ms) d.name (in-map name_in ms (mention_of d) (declared-mention d has)) refl in
-      let among = passes-filter (λ n. no (defined_as false ms n) && no (defined_as true ms n) && no (names.includes && is_library n))
+      let among = passes-filter (λ n. not (defined_as false ms n) && not (defined_as true ms n) && not (names.includes && is_library n))
       (once [] (map name_in ms)) d.name named (three-back _ _ _ objects functions library) in
       passes-position (bytes_eq d.name) 0 names.externs d.name among (name-eq d.name d.name refl)
 
@@ -181,7 +181,7 @@ module _ (p : Program) (kept : (judged p).faults ≡ []) where
   -- ---- the include line
 
   abbrev AgreesBy : Declared → Bool → Bool → Bool → Bool → Type 0
-  AgreesBy d i e put get = (if i then no e && (if put then agree d (library putchar_name putchar_type) else true)
+  AgreesBy d i e put get = (if i then not e && (if put then agree d (library putchar_name putchar_type) else true)
       && (if get then agree d (library getchar_name getchar_type) else true) else true) ≡ true
 
   agrees_by : (d : Declared) → In ds d →
@@ -190,7 +190,7 @@ module _ (p : Program) (kept : (judged p).faults ≡ []) where
 
   kind_of : (d : Declared) (name : List ℕ) (sig : Signature) → agree d (library name sig) ≡ true → OneKind d.kind (AFunction (Some sig))
   kind_of d name sig is = one-kind d.kind (AFunction (Some sig)) (three (same_kind d.kind (AFunction (Some sig))) (equal d.local false)
-      (no (d.defined && true)) is).0
+      (not (d.defined && true)) is).0
 
   pub putchar-kind : (d : Declared) → In ds d → names.includes ≡ true → bytes_eq d.name putchar_name ≡ true →
       OneKind d.kind (AFunction (Some putchar_type))
@@ -199,7 +199,7 @@ module _ (p : Program) (kept : (judged p).faults ≡ []) where
     where
       by_bools : (i e put get : Bool) → i ≡ true → put ≡ true → AgreesBy d i e put get → OneKind d.kind (AFunction (Some putchar_type))
       by_bools true e true get include is agrees =
-          kind_of d putchar_name putchar_type (three (no e) (agree d (library putchar_name putchar_type)) _ agrees).1
+          kind_of d putchar_name putchar_type (three (not e) (agree d (library putchar_name putchar_type)) _ agrees).1
       by_bools false e put get include is agrees = absurd cc
       by_bools true e false get include is agrees = absurd cc
 
@@ -211,7 +211,7 @@ module _ (p : Program) (kept : (judged p).faults ≡ []) where
       by_bools : (i e put get : Bool) → i ≡ true → get ≡ true → AgreesBy d i e put get → OneKind d.kind (AFunction (Some getchar_type))
       by_bools true e put true include is agrees =
           kind_of d getchar_name getchar_type
-          (three (no e) (if put then agree d (library putchar_name putchar_type) else true) _ agrees).2
+          (three (not e) (if put then agree d (library putchar_name putchar_type) else true) _ agrees).2
       by_bools false e put get include is agrees = absurd cc
       by_bools true e put false include is agrees = absurd cc
 

@@ -1,6 +1,6 @@
 -- Objects at file scope that keep all rules: their types are known, and the addresses that they begin with are there.
 use Rattle.std.proofs.Common.{◌≡◌, refl, true, [], ◌∷◌, ◌++◌, Option, Some, None}
-use Rattle.std.specs.Prelude.{leb}
+use Rattle.std.specs.Prelude.{not, leb}
 use Rattle.std.specs.List.{AllByRecursion}
 use Rattle.std.specs.Str.{bytes_eq}
 use Rattle.c_ast.specs.declared.declaration.Decl.{Decl}
@@ -11,7 +11,7 @@ use Rattle.c_type_expr.specs.declared.scopes.Meaning.TheVariants as means
 use Rattle.c_type_expr.specs.Environment.{binds}
 use Rattle.c_type_expr.specs.Faults.{rule, broken}
 use Rattle.c_type_expr.specs.Outcomes.{Outcome}
-use Rattle.c_type_stmt.specs.Declarations.{no, init_of, declared_type, object_rules, initialised}
+use Rattle.c_type_stmt.specs.Declarations.{init_of, declared_type, object_rules, initialised}
 use Rattle.c_type_stmt.specs.declared.fitted.Fitted.{Fitted}
 use Rattle.c_types.specs.Files.{object_place}
 use Rattle.c_types.specs.declared.names.FileNames.{FileNames}
@@ -42,7 +42,7 @@ abbrev pub object_by : FileNames → Storage → Judgement → Decl → Option T
 object_by names c j d t =
     let this = object_declared c d t in
     let i = object_begun names j d t in
-    let rules = rule 10 (may_stand names j.declared this) ∷ rule 19 (no (bytes_eq d.name main_name)) ∷ object_rules j.env.structs t in
+    let rules = rule 10 (may_stand names j.declared this) ∷ rule 19 (not (bytes_eq d.name main_name)) ∷ object_rules j.env.structs t in
     let judged = with_faults (with_outcome (object_named names j d t) i) (extern_rules c (init_of d) ++ broken d.span rules) in
     record judged { declared = this ∷ j.declared; globals = j.globals ++ global_of c d t (pieces_in i.known) }
 
@@ -87,7 +87,7 @@ module _ (s : Scope) (names : FileNames) (c : Storage) (j : Judgement) (d : Decl
       let i = object_begun names j d o in
       let read = with_outcome named i in
       let may = may_stand names j.declared (object_declared c d o) in
-      let no_main = no (bytes_eq d.name main_name) in
+      let no_main = not (bytes_eq d.name main_name) in
       let small = rule 17 (leb (size j.env.structs t) largest) ∷ [] in
       let whole = rule 15 (is_complete j.env.structs t) ∷ small in
       let own = back (extern_rules c (init_of d)) _ (back read.faults _ kept) in

@@ -79,7 +79,7 @@ module _ (s : Scope) (limit : ℕ) (below : Below s limit) where
       let object = object-there s t here.locals d.name d.span contains there env.structs complete in
       record {
         info = info;
-        locals_are = ap (λ ls. ls ++ info ∷ []) (written_quiet d.ty d.span env);
+        locals_are = ap (λ ls. ls ++ info ∷ []) (written_quiet d.ty d.span env).locals;
         known = subst (λ b. There (if b then Some t else None) (λ u. u ≡ t)) (sym (each-kept d.span rules own)) refl;
         names = names-both (MeansIn s) b.names w.names (object, tt) (no-names (MeansIn s) w.names ((written-good s d.ty d.span).silent
             env));

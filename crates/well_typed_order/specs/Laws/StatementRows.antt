@@ -1,7 +1,7 @@
 -- What each statement is in order by: the rules that its parts keep.
 use Rattle.std.proofs.Common.{◌≡◌, refl, sym, ◌∙◌, subst, zero, suc, arith, true, ◌&&◌, List, [], ◌∷◌}
 use Rattle.std.proofs.Common.{map, Option, Some, None}
-use Rattle.std.specs.Prelude.{IfSome, if◌then◌else◌}
+use Rattle.std.specs.Prelude.{not, IfSome, if◌then◌else◌}
 use Rattle.std.specs.List.{All, AllByRecursion}
 use Rattle.std.proofs.lemmas.Option.{same_Some}
 use Rattle.c_ast.specs.declared.token.Span.{Span}
@@ -22,7 +22,7 @@ use Rattle.c_type_expr.specs.Environment.{Env}
 use Rattle.c_type_expr.specs.Expressions.{expression, judged_value}
 use Rattle.c_type_expr.specs.Faults.{rule}
 use Rattle.c_type_expr.specs.Outcomes.{Judged, sure, both, each, perhaps, on, ruled, option_map}
-use Rattle.c_type_stmt.specs.Declarations.{no, local}
+use Rattle.c_type_stmt.specs.Declarations.{local}
 use Rattle.c_type_stmt.specs.Statements.{effect, condition, returned, return_row}
 use Rattle.block_meaning.specs.ExpressionsInOrder.{Scope, ValueInOrder, ConditionInOrder}
 use Rattle.block_meaning.specs.StatementsInOrder.{DeclarationInOrder, StatementInOrder}
@@ -98,7 +98,7 @@ returned_there s P nothing made span None value env (Some t) is kept =
     let void = kept-first span 12 (is_void t) [] kept in
     nothing span (subst (λ t. is_void t ≡ true) (same_Some t s.function.result is) void)
 returned_there s P nothing made span (Some k) value env (Some t) is kept =
-    let fits = and_second (no (is_void t)) (assignable t k) (kept-first span 12 (no (is_void t) && assignable t k) [] kept) in
+    let fits = and_second (not (is_void t)) (assignable t k) (kept-first span 12 (not (is_void t) && assignable t k) [] kept) in
     let into = assignable-in k t value fits in
     made span (converted t k).tree into.value.has (into.is ∙ same_Some t s.function.result is)
 

@@ -1,7 +1,7 @@
 -- The walk over a file that breaks no rule, part by part.
 use Rattle.std.proofs.Common.{◌⊎◌, inl, inr, ◌≡◌, refl, sym, ◌∙◌, ap, subst, ℕ, zero, suc, ◌+◌, ◌≤◌, arith, Bool, true, false, ◌&&◌, ◌||◌}
 use Rattle.std.proofs.Common.{List, [], ◌∷◌, ◌++◌, map, length, Option, Some, None}
-use Rattle.std.specs.Prelude.{leb, take, if◌then◌else◌}
+use Rattle.std.specs.Prelude.{not, leb, take, if◌then◌else◌}
 use Rattle.std.specs.Str.{bytes_eq}
 use Rattle.std.specs.List.{AllByRecursion}
 use Rattle.std.proofs.lemmas.Bool.{leb-true}
@@ -20,7 +20,7 @@ use Rattle.c_type_base.specs.declared.typed.InitPiece.{InitPiece}
 use Rattle.c_type_base.specs.declared.typed.LocalInfo.{LocalInfo}
 use Rattle.c_type_base.specs.declared.typed.TFunction.{TFunction}
 use Rattle.c_type_expr.specs.Outcomes.{Outcome}
-use Rattle.c_type_stmt.specs.Declarations.{no, declared_type}
+use Rattle.c_type_stmt.specs.Declarations.{declared_type}
 use Rattle.c_type_stmt.specs.Statements.{statement}
 use Rattle.c_types.specs.declared.names.FileNames.{FileNames}
 use Rattle.c_types.specs.declared.redeclared.Declared.{Declared}
@@ -139,11 +139,11 @@ module _ (program : Program) (unit : ℕ) (names : FileNames) where
           })
 
   object_left : (j : List GlobalInfo) (c : Storage) (d : Decl) (t : Ty) (o : Option Ty) (ps : List InitPiece) → o ≡ Some t →
-      no (is_extern c) ≡ true → (g : GlobalInfo) × In (j ++ global_of c d o ps) g × (g.name ≡ d.name)
+      not (is_extern c) ≡ true → (g : GlobalInfo) × In (j ++ global_of c d o ps) g × (g.name ≡ d.name)
   object_left j c d t None ps is defines = absurd cc
   object_left j c d t (Some u) ps is defines = by_storage (is_extern c) defines
     where
-      by_storage : (b : Bool) → no b ≡ true → (g : GlobalInfo) × In (j ++ (if b then [] else
+      by_storage : (b : Bool) → not b ≡ true → (g : GlobalInfo) × In (j ++ (if b then [] else
           record { name = d.name; ty = u; local = is_static c; init = ps; span = d.span } ∷ [])) g × (g.name ≡ d.name)
       by_storage true defines = absurd cc
       by_storage false defines =
@@ -240,9 +240,9 @@ module _ (program : Program) (unit : ℕ) (names : FileNames) where
       middle false b c is = absurd cc
 
       by_name : (b : Bool) → b ≡ true →
-          (if b then is_int_in r && leb (length f.params) 0 && no (is_static f.storage) else true) ≡ true → length f.params ≡ 0
+          (if b then is_int_in r && leb (length f.params) 0 && not (is_static f.storage) else true) ≡ true → length f.params ≡ 0
       by_name true is form = leb_zero (length f.params)
-          (middle (is_int_in r) (leb (length f.params) 0) (no (is_static f.storage)) form)
+          (middle (is_int_in r) (leb (length f.params) 0) (not (is_static f.storage)) form)
       by_name false is form = absurd cc
 
   take_front : (n : ℕ) (xs ys : List LocalInfo) → length xs ≡ n → take n (xs ++ ys) ≡ xs

@@ -1,4 +1,5 @@
 -- What holds behind the parts of a file that break no rule: names mean what is there, types are known, and what is defined is in order.
+use Rattle.std.specs.Prelude.{not}
 use Rattle.std.proofs.Common.{◌≡◌, refl, sym, ◌∙◌, ap, subst, ℕ, zero, suc, ◌+◌, true, false, ◌||◌, List, []}
 use Rattle.std.proofs.Common.{◌∷◌, map, slice_get, length, Option, Some, None}
 use Rattle.std.specs.Str.{bytes_eq}
@@ -22,7 +23,7 @@ use Rattle.c_type_expr.specs.declared.scopes.Meaning.TheVariants as means
 use Rattle.c_type_expr.specs.declared.scopes.Signature.{Signature}
 use Rattle.c_type_expr.specs.Environment.{binds, tag_number, in_scopes}
 use Rattle.c_type_expr.specs.Outcomes.{behind}
-use Rattle.c_type_stmt.specs.Declarations.{no, eof_name}
+use Rattle.c_type_stmt.specs.Declarations.{eof_name}
 use Rattle.c_types.specs.declared.names.FileNames.{FileNames}
 use Rattle.c_types.specs.declared.redeclared.Declared.{Declared}
 use Rattle.c_types.specs.declared.redeclared.Kind.{Kind}
@@ -143,9 +144,9 @@ member_silent new d env = (whole-good nowhere d.ty d.span).silent env
 members_silent : (seen : List (List ℕ)) (ds : List Decl) → Silent (members seen ds)
 members_silent seen [] env = refl
 members_silent seen (d ∷ ds) env =
-    let one = member (no (list_any (bytes_eq d.name) seen)) d env in
+    let one = member (not (list_any (bytes_eq d.name) seen)) d env in
     none-after (members (d.name ∷ seen) ds (behind one env)).names one.names (members_silent (d.name ∷ seen) ds (behind one env))
-    (member_silent (no (list_any (bytes_eq d.name) seen)) d env)
+    (member_silent (not (list_any (bytes_eq d.name) seen)) d env)
 
 -- names and texts, whatever the structs are
 record Named (s : Scope) (j : Judgement) : Type 0 where
