@@ -17,14 +17,15 @@ TYPES = [spelling for spellings in SPELLINGS.values() for spelling in spellings]
 WORDS = {
     'typename': TYPES, 'type': TYPES, 'structname': ['struct s1', 'struct s2', 'struct s3', 'struct node'],
     'char': ['char', 'signed char', 'unsigned char'], 'long': ['long', 'long int', 'unsigned long', 'unsigned long int'],
-    'character': ["'a'", "'Z'", "'0'", "' '", "'\"'", "'\\n'", "'\\0'", "'\\''", "'\\\\'", "'\\377'", "'\\x80'", "'\\xff'", "'\\?'", "'\\17'"],
+    'character': ["'a'", "'Z'", "'0'", "' '", "'\"'", "'\\n'", "'\\0'", "'\\''", "'\\\\'", "'\\377'", "'\\x80'", "'\\xff'", "'\\?'",
+                  "'\\17'"],
     'order': ['<', '>', '<=', '>='], 'equal': ['==', '!='], 'compare': ['<', '>', '<=', '>=', '==', '!='],
     'operator': ['+', '-', '*', '&', '|', '^'], 'compound': ['+=', '-=', '*=', '&=', '|=', '^='],
     'quotient': ['/=', '%='], 'shift': ['<<=', '>>='], 'step': ['++', '--'], 'sign': ['+', '-'],
     'null': ['0', '0L', "'\\0'", '(1 - 1)', '(sizeof(int) - 4)', '(char)0']}
 # nonzero, and never -1 under a least number
-DIVISORS = ['((@e:8 & 15) + 1)', '(@e:8 & 7 | 1)', '(-(int)(@e:8 & 7) - 2)', '((unsigned)@e:14 | 1)', '((long)(@e:8 & 255) + 3)', '(@e:13 % 5 + 6)',
-            '7', '10', '255u', '-3', '1000000007']
+DIVISORS = ['((@e:8 & 15) + 1)', '(@e:8 & 7 | 1)', '(-(int)(@e:8 & 7) - 2)', '((unsigned)@e:14 | 1)', '((long)(@e:8 & 255) + 3)',
+            '(@e:13 % 5 + 6)', '7', '10', '255u', '-3', '1000000007']
 CONSTRUCTS = [
     ('leaf', 'number', 15, '@number'),
     ('leaf', 'character', 15, '@character'),
@@ -60,6 +61,7 @@ CONSTRUCTS = [
     ('own', 'operator and assignment in an expression', 15, '(@own @compound @e:2)'),
     ('own', 'step before', 14, '@step@own'),
     ('own', 'step behind', 15, '@own@step'),
+    ('own', 'sizeof without a step', 14, 'sizeof @own@step'),
     ('own', 'sequence by and', 15, '(@x=own++ < @e:11 && @x @compare @number)'),
     ('own', 'sequence by or', 15, '((@x=own -= @e:2) @compare @number || --@x)'),
     ('own', 'sequence by a choice', 15, '(@x=own++ ? @x @operator @number : (@x = @number))'),
@@ -128,7 +130,8 @@ CONSTRUCTS = [
     ('statement', 'walk by index', '{ @b=element *@p=name = @a; for (int @i=counter = 0; @i < @n; @i++) @plain ^= @p[@i] + @i[@a]; }'),
     ('statement', 'fill by a pointer', '{ @b=target *@p=name = @a; while (@p - @a < @n) *@p++ = @e; }'),
     ('statement', 'fill from the end', '{ @b=target *@p=name = @a + @n; while (@p > @a) *--@p @compound @e; }'),
-    ('statement', 'fill by steps', '{ @b=target *@p=name = @a; for (int @i=counter = 0; @i < @n; @i++) { ++*@p; (*@p)--; *(@p++) = @e; } }'),
+    ('statement', 'fill by steps', '{ @b=target *@p=name = @a; for (int @i=counter = 0; @i < @n; @i++) '
+                                    '{ ++*@p; (*@p)--; *(@p++) = @e; } }'),
     ('statement', 'pointer with operator', '{ @b=target *@p=name = @a; @p += @n; @p -= 1 + (@index:n); *@p = @e; }'),
     ('statement', 'reverse', '{ @b=target *@p=name = @a, *@q=name = @a + @n - 1; while (@p < @q) '
                              '{ @b @t=name = *@p; *@p++ = *@q; *@q-- = @t; } }'),

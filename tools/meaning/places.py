@@ -134,7 +134,8 @@ class Places:
     def text(self):
         """A text of three bytes or more, none of the first three an escape."""
         more = list('qrs789-+*/') + ['\\n', '\\t', '\\\\', '\\"', '\\\'', '\\12', '\\377', '\\0', '\\x7f" "', '\\xfe" "', '" "', '\xe9']
-        return '"' + ''.join([self.draw('abcxyz 0123.,') for _ in range(3)] + [self.draw(more) for _ in range(self.random.randrange(6))]) + '"'
+        pieces = [self.draw('abcxyz 0123.,') for _ in range(3)] + [self.draw(more) for _ in range(self.random.randrange(6))]
+        return f'"{"".join(pieces)}"'
 
     def divisor(self):
         return self.fill(self.draw(DIVISORS))
@@ -204,7 +205,8 @@ class Places:
 
     def place(self, size):
         """A number of the size at least, whose address may be taken."""
-        o, steps, t = self.find(lambda t: is_number(t) and (int(size) == 1 or 'char' not in t.base), uses=('global', 'plain', 'open', 'lent'))
+        small = 'char' if int(size) > 1 else 'none'
+        o, steps, t = self.find(lambda u: is_number(u) and small not in u.base, uses=('global', 'plain', 'open', 'lent'))
         text = self.shown(o, steps)
         self.same_type = t
         return text

@@ -1,19 +1,19 @@
-"""Makes the program of a seed from the rows of constructs.py: declarations, statements, calls, functions and files."""
+"""Makes the program of a seed: its objects, its functions and its files."""
 import collections
 import re
 
 from constructs import ROWS, SPELLINGS
-from places import NoneThere, Object, Places, Type, is_number, is_row
+from places import NoneThere, Object, Type, is_number, is_row
+from statements import STRUCTS, Statements
 
 Function = collections.namedtuple('Function', 'name result params pure static file cost')
-STRUCTS = ['struct s1', 'struct s2', 'struct s3']
 
 
 def declarator(t, name):
     return f'{"*" * t.stars}{name}{"".join(f"[{n}]" for n in t.lengths)}'
 
 
-class Maker(Places):
+class Maker(Statements):
     """The program of a seed: `files` are its texts, `used` the names of the constructs in it."""
 
     def __init__(self, seed):
@@ -25,188 +25,6 @@ class Maker(Places):
         self.objects, self.parts = [{} for _ in range(count)], [[] for _ in range(count)]
         self.program(range(count))
 
-    # Initialisers and declarations
-
-    def has_pointer(self, t):
-        return t.stars or any(self.has_pointer(u) for _, u in self.structs.get(t.base, []))
-
-    def initial(self, t):
-        """An initialiser; one with pointers leaves none of them null."""
-        own, self.own_left = self.own_left, []
-        try:
-            if not t.lengths and (t.stars or t.base in SPELLINGS):
-                return self.kept_pointer(t) if t.stars else self.e()
-            if is_row(t) and t.base.endswith('char') and self.chance(.5):
-                for text in (self.text() for _ in range(5)):
-                    if len(re.findall(r'\\x..|\\\d+|\\.|[^"\\]', text.replace('" "', ''))) <= t.lengths[0]:
-                        return text
-            full = self.has_pointer(t)
-            if not full and self.chance(.2):
-                return '{0}'
-            parts = [t._replace(lengths=t.lengths[1:])] * t.lengths[0] if t.lengths else [u for _, u in self.structs[t.base]]
-            parts = parts if full else parts[:self.random.randint(1, len(parts))]
-            return '{' + ', '.join(map(self.initial, parts)) + self.draw(['', '', ',']) + '}'
-        finally:
-            self.own_left = own
-
-    def length(self, n):
-        return self.draw([n] * 12 + [f'{n - 1} + 1', f'sizeof(char) * {n}', f'1 ? {n} : -1', f'{n}ul', f'0x{n:x}', f'{n * 2} >> 1'])
-
-    def locals(self, kind):
-        """A declaration of locals, and what assigns the numbers without initialiser."""
-        base, texts, later = self.draw(STRUCTS if kind == 'struct' else SPELLINGS), [], ''
-        for _ in range(1 if kind == 'again' else self.draw([1, 1, 2, 3])):
-            name = self.name('v')
-            if kind == 'again':
-                name = self.draw(o.name for o in self.scope.values() if self.nesting and o.use in ('plain', 'global') and o.name not in self.here)
-            shape = self.draw(['number', 'number', 'pointer', 'array', 'matrix'] if kind in ('mixed', 'struct') else ['number'])
-            lengths = {'array': (self.draw([1, 2, 3, 4, 5, 8, 8]) if kind == 'mixed' else 2,), 'matrix': (2, self.draw([2, 3]))}.get(shape, ())
-            t = Type(base, shape == 'pointer', lengths)
-            self.barred.add(name)
-            text = f'{"*" * t.stars}{name}{"".join(f"[{self.length(n)}]" for n in lengths)}'
-            if kind == 'later':
-                later += f' {name} = {self.e()};'
-            else:
-                text += f' = {self.initial(t)}'
-            texts.append(text)
-            self.scope[name] = Object(name, t, 'plain' if kind in ('plain', 'later', 'again') else 'open')
-            self.here.add(name)
-        return f'{self.spelled(base)} {", ".join(texts)};{later}'
-
-    def copy(self):
-        _, right, t = self.structs_of_a_type(False)
-        name = self.name('x')
-        self.scope[name] = Object(name, t, 'open')
-        return f'{{ {t.base} {name} = {right}; {self.s()} {self.s()} }}'
-
-    def counter(self):
-        name = self.name('i')
-        self.scope[name] = Object(name, Type('int', 0, ()), 'fixed')
-        return name
-
-    # Statements
-
-    def statement(self, kinds=('simple', 'statement', 'statement', 'calling')):
-        names = ('scope', 'own_left', 'barred', 'weight', 'loops', 'limit')
-        before = [(name, getattr(self, name)) for name in names]
-        self.limit = self.draw([1, 2, 2, 3, 4])
-        plain = [o.name for o in self.scope.values() if o.use == 'plain']
-        self.own_left = self.random.sample(plain, min(len(plain), self.draw([0, 0, 1, 2])))
-        self.barred = set(self.own_left)
-        try:
-            return self.from_rows(ROWS[self.draw(kinds)])[1]
-        except NoneThere:
-            return self.from_rows(ROWS['simple'])[1]
-        finally:
-            self.__dict__.update(before)
-
-    def simple(self):
-        return self.statement(('simple', 'simple', 'simple', 'calling'))
-
-    def s(self):
-        if self.nesting >= 3 or self.weight > 300 or self.chance(.4):
-            return self.simple()
-        self.nesting += 1
-        try:
-            return self.statement()
-        finally:
-            self.nesting -= 1
-
-    def declaration(self):
-        before, self.barred, self.own_left = (self.barred, self.own_left), set(), []
-        try:
-            return self.from_rows(ROWS['locals'])[1]
-        finally:
-            self.barred, self.own_left = before
-
-    def items(self):
-        here, self.here, self.nesting = self.here, set(), self.nesting + 1
-        texts = [self.declaration() if self.chance(.3) else self.s() for _ in range(self.random.randint(1, 4))]
-        self.here, self.nesting = here, self.nesting - 1
-        return ' '.join(texts)
-
-    def loop(self):
-        self.weight, self.loops = self.weight * 7, True
-        return ''
-
-    def count(self):
-        self.loop()
-        return str(self.random.randint(1, 6))
-
-    def leave(self):
-        return self.draw([''] if self.loops else [])
-
-    def own(self):
-        return self.own_left.pop() if self.own_left else self.draw([])
-
-    def plain(self):
-        name = self.draw(o.name for o in self.scope.values() if o.use == 'plain' and o.name not in self.barred)
-        self.barred.add(name)
-        return name
-
-    def back(self):
-        return f'return {self.e()};' if self.result else 'return;'
-
-    def out(self):
-        return self.draw(['putchar'] if self.with_line[self.file] and not self.pure else [])
-
-    def get(self):
-        return self.draw(['getchar'] if self.with_line[self.file] and not self.pure else [])
-
-    # Calls
-
-    def called(self, wanted, argument=None):
-        f = self.draw(f for f in self.functions if wanted(f) and not (f.static and f.file != self.file)
-                      and (f.pure or not self.pure) and f.cost * self.weight <= 4000)
-        self.cost += f.cost * self.weight
-        return f'{f.name}({", ".join(self.arguments(f.params, argument))})'
-
-    def arguments(self, params, argument=None):
-        """Arguments; where one is given, it is that for the first number, and nothing that may change stands in the others."""
-        texts, constant, kept = [], self.constant, argument is not None
-        for _, t, use in params:
-            self.constant = constant or kept
-            if use.isdigit():
-                texts.append(self.fill(f'@e:8 & {use}'))
-            elif is_number(t):
-                texts.append(argument or self.e())
-                argument = None
-            elif t.stars:
-                texts.append(self.address(t._replace(stars=t.stars - 1), ('global', 'open', 'lent')))
-            else:
-                texts.append(self.shown(*self.find(lambda u: u == t, uses=('global', 'open', 'lent'))[:2]))
-        self.constant = constant
-        return texts
-
-    def call(self):
-        return self.called(lambda f: f.pure and f.result and not f.result.stars)
-
-    def finder(self):
-        return self.called(lambda f: f.result and f.result.stars)
-
-    def behind(self):
-        return self.draw([] if self.pure else ['*']) + self.finder()
-
-    def act(self):
-        return self.called(lambda f: not f.pure)
-
-    def acting(self):
-        return self.called(lambda f: not f.pure and f.result)
-
-    def around(self):
-        return self.called(lambda f: not f.pure and any(is_number(t) and not use.isdigit() for _, t, use in f.params), self.acting())
-
-    def again(self, pure=True):
-        """A call of the function itself, at most two in it and none in a loop."""
-        f = self.current
-        if not f or self.pure != pure or self.weight > 1 or self.selfs > 1:
-            raise NoneThere
-        self.selfs += 1
-        return f'{f.name}({", ".join([f.params[0][0] + " - 1", *self.arguments(f.params[1:])])})'
-
-    def deeper(self):
-        return self.again(False)
-
     # Objects of the file level
 
     def visible(self, file):
@@ -216,9 +34,9 @@ class Maker(Places):
 
     def kind_of_object(self, shape):
         base, struct = self.draw(SPELLINGS), self.draw(STRUCTS)
-        return {'number': Type(base, 0, ()), 'array': Type(base, 0, (self.draw([1, 3, 4, 5, 8]),)), 'matrix': Type(base, 0, (2, self.draw([2, 3]))),
-                'struct': Type(struct, 0, ()), 'structs': Type(struct, 0, (self.draw([2, 3]),)), 'pointer': Type(base, 1, ()),
-                'link': Type(struct, 1, ()), 'handle': Type(base, 2, ()), 'pointers': Type(base, 1, (3,))}[shape]
+        return {'number': Type(base, 0, ()), 'pointer': Type(base, 1, ()), 'handle': Type(base, 2, ()), 'pointers': Type(base, 1, (3,)),
+                'array': Type(base, 0, (self.draw([1, 3, 4, 5, 8]),)), 'matrix': Type(base, 0, (2, self.draw([2, 3]))),
+                'struct': Type(struct, 0, ()), 'structs': Type(struct, 0, (self.draw([2, 3]),)), 'link': Type(struct, 1, ())}[shape]
 
     def new(self, name, t, use='global'):
         self.objects[self.file][name] = self.scope[name] = Object(name, t, use)
@@ -265,7 +83,8 @@ class Maker(Places):
         for i in range(self.draw([0, 1, 2, 2, 3, 4, 8 - deep])):
             t = self.kind_of_object(self.draw(['number'] * 5 + ['pointer', 'link', 'array', 'array', 'matrix']))
             if t.lengths:
-                t = self.find(lambda u: not u.stars and len(u.lengths) == len(t.lengths) and u.base in [*SPELLINGS, *STRUCTS], uses=('global',))[2]
+                count, known = len(t.lengths), [*SPELLINGS, *STRUCTS]
+                t = self.find(lambda u: not u.stars and len(u.lengths) == count and u.base in known, uses=('global',))[2]
             params.append((f'p{i}', t, 'plain' if is_number(t) else 'lent'))
         return params
 
@@ -312,7 +131,8 @@ class Maker(Places):
     def mutual(self):
         unsigned, name = Type('unsigned', 0, ()), self.name('f')
         self.functions.append(Function(name, unsigned, [('n', unsigned, '7')], True, False, self.file, 60))
-        return (f'static unsigned {name}b(unsigned n);\nunsigned {name}(unsigned n) {{ return n ? {name}b(n - 1) * 3 : {self.number()}; }}\n'
+        return (f'static unsigned {name}b(unsigned n);\n'
+                f'unsigned {name}(unsigned n) {{ return n ? {name}b(n - 1) * 3 : {self.number()}; }}\n'
                 f'static unsigned {name}b(unsigned n) {{ return n == 0 ? {self.number()} : {name}(n - 1) ^ n; }}')
 
     def mixed(self, text, t, depth=0):
@@ -330,10 +150,11 @@ class Maker(Places):
     def program(self, files):
         def number(*lengths):
             return Type(self.draw(SPELLINGS), 0, lengths)
+        s1, few = Type('struct s1', 0, ()), [2, 3, 4]
         self.structs = {'struct node': [('value', number()), ('next', Type('struct node', 1, ()))],
-                        'struct s1': [('a', number()), ('b', number()), ('t', Type('char', 0, (self.draw([3, 4, 6]),))), ('c', number())],
-                        'struct s2': [('m', number()), ('in', Type('struct s1', 0, ())), ('r', number(self.draw([2, 3, 4]))), ('w', Type('struct s1', 0, (2,)))],
-                        'struct s3': [('k', number()), ('p', Type('struct s1', 1, ())), ('q', number()._replace(stars=1)), ('v', number(2, 2))]}
+                        'struct s1': [('a', number()), ('b', number()), ('t', Type('char', 0, (self.draw(few) + 1,))), ('c', number())],
+                        'struct s2': [('m', number()), ('in', s1), ('r', number(self.draw(few))), ('w', s1._replace(lengths=(2,)))],
+                        'struct s3': [('k', number()), ('p', s1._replace(stars=1)), ('q', number()._replace(stars=1)), ('v', number(2, 2))]}
         shared = list(self.structs)
         for self.file in [*files, *files]:
             self.scope, self.constant = self.visible(self.file), True
