@@ -108,7 +108,7 @@ class Places:
         self.cost += self.weight
         kinds = ['leaf'] if self.constant else ['leaf', 'read', 'read']
         if self.depth < self.limit:
-            kinds += ['pure'] * 4 + ['own'] * (2 if self.own_left else 0)
+            kinds += ['pure'] * 4 + ['own'] * (2 if self.own_left else 0) + ['asked'] * (not self.constant)
         rows = ROWS[self.draw(kinds)]
         if self.depth >= self.limit and rows is ROWS['read']:
             rows = rows[:2]

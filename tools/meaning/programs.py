@@ -168,7 +168,7 @@ class Maker(Statements):
         self.scope = self.visible(self.file)
         lines = [self.declaration() for _ in range(self.random.randint(2, 4))]
         for _ in range(self.random.randint(4, 14)):
-            lines += [self.statement()] if self.cost < 20000 else []
+            lines += [self.statement()] if self.cost < 60000 else []
         lines += [self.mixed(o.name, o.type) for o in self.scope.values() if o.use in ('plain', 'open')]
         lines += [f'show{i}();' for i in files] + [f'return {self.e()};'] * self.chance(.9)
         self.parts[self.file].append('int main(void)\n{\n' + ''.join(f'\t{line}\n' for line in lines) + '}')

@@ -143,7 +143,7 @@ class Statements(Places):
 
     def called(self, wanted, argument=None):
         f = self.draw(f for f in self.functions if wanted(f) and not (f.static and f.file != self.file)
-                      and (f.pure or not self.pure) and f.cost * self.weight <= 4000)
+                      and (f.pure or not self.pure) and f.cost * self.weight <= 10000)
         self.cost += f.cost * self.weight
         return f'{f.name}({", ".join(self.arguments(f.params, argument))})'
 
