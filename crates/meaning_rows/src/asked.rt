@@ -19,6 +19,9 @@ pub struct Asked {
     pub sources: Vec<Vec<u8>>,
     pub frames: Vec<FrameBytes>,
     pub input: Vec<u8>,
+    /// The number of the read, from 0, that fails, and that of the write.
+    pub input_fails: Option<u64>,
+    pub output_fails: Option<u64>,
     pub work: u64,
     pub stack: u64,
     pub output: Vec<u8>,
@@ -37,6 +40,8 @@ impl Asked {
             sources: Vec::new(alloc),
             frames: Vec::new(alloc),
             input: Vec::new(alloc),
+            input_fails: None,
+            output_fails: None,
             work: 0,
             stack: 8_388_608,
             output: Vec::new(alloc),
@@ -69,6 +74,8 @@ impl Asked {
                 }
             }
             "input" => self.input = unquoted(alloc, rest)?,
+            "input_fails" => self.input_fails = Some(number(rest)),
+            "output_fails" => self.output_fails = Some(number(rest)),
             "work" => self.work = number(rest),
             "stack" => self.stack = number(rest),
             "output" => self.output = unquoted(alloc, rest)?,

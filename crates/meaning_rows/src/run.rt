@@ -81,8 +81,9 @@ pub fn outcome(
         return Ok(Err(String::from_str(alloc, "frames of another program")?));
     }
     let frames = FrameSizes { bytes };
-    let mut source = MemSource::new(copied(alloc, asked.input.as_slice())?, Vec::new(alloc));
-    let mut sink = MemSink::new(alloc, 100_000, Vec::new(alloc))?;
+    let input = copied(alloc, asked.input.as_slice())?;
+    let mut source = MemSource::new(input, failing(alloc, asked.input_fails)?);
+    let mut sink = MemSink::new(alloc, 100_000, failing(alloc, asked.output_fails)?)?;
     let ended = mean(
         alloc,
         &units,
@@ -98,6 +99,15 @@ pub fn outcome(
         output: copied(alloc, sink.taken())?,
         left: rest(alloc, &mut source)?,
     }))
+}
+
+/// The numbers of the calls that fail.
+fn failing(alloc: Global, call: Option<u64>) -> Result<Vec<u64>, AllocError> {
+    let mut calls = Vec::new(alloc);
+    if let Some(call) = call {
+        calls.push(call)?;
+    }
+    Ok(calls)
 }
 
 fn copied(alloc: Global, bytes: &[u8]) -> Result<Vec<u8>, AllocError> {
