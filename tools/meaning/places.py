@@ -133,7 +133,7 @@ class Places:
 
     def text(self):
         """A text of three bytes or more, none of the first three an escape."""
-        more = list('qrs789-+*/') + ['\\n', '\\t', '\\\\', '\\"', '\\\'', '\\12', '\\377', '\\0', '\\x7f" "', '\\xfe" "', '" "', '\xe9']
+        more = list('qrs789-+*/') + ['\\n', '\\t', '\\\\', '\\"', '\\\'', '\\12', '\\377', '\\0', '\\a', '\\b', '\\f', '\\v', '\\r', '\\?', '\\x7f" "', '\\xfe" "', '" "', '\xe9']
         pieces = [self.draw('abcxyz 0123.,') for _ in range(3)] + [self.draw(more) for _ in range(self.random.randrange(6))]
         return f'"{"".join(pieces)}"'
 
@@ -203,6 +203,9 @@ class Places:
     def write(self, least=14):
         return self.shown(*self.find(is_number, writing=True)[:2], least)
 
+    def wide(self):
+        return self.shown(*self.find(lambda t: is_number(t) and 'long' in t.base, writing=True)[:2])
+
     def place(self, size):
         """A number of the size at least, whose address may be taken."""
         small = 'char' if int(size) > 1 else 'none'
@@ -223,6 +226,12 @@ class Places:
 
     def array(self):
         return self.row_of(False)[0]
+
+    def grid(self):
+        """An array of arrays of numbers that stays the same while the row runs. Its length is `@n`."""
+        o, steps, t = self.find(lambda u: not u.stars and len(u.lengths) == 2 and u.base in SPELLINGS, uses=('global', 'open'))
+        self.made['n'] = str(t.lengths[0])
+        return self.shown(o, steps, 15, kept=True)
 
     def element(self):
         """The type of the elements of an array, which is `@a`."""
@@ -247,6 +256,10 @@ class Places:
             return '&' + self.place(1)
         return self.shown(*self.find(is_pointer, uses=('global', 'open', 'lent', 'text'))[:2])
 
+    def pointed(self):
+        """A pointer to a number."""
+        return self.shown(*self.find(lambda t: is_pointer(t) and t.stars == 1 and t.base in SPELLINGS, uses=('global', 'open', 'lent'))[:2])
+
     def two(self):
         """Whether two objects of one type are the same."""
         a = self.draw(o for o in self.scope.values() if o.use == 'global')
@@ -270,6 +283,13 @@ class Places:
 
     def struct(self):
         return '{} = {}'.format(*self.structs_of_a_type())
+
+    def structchain(self):
+        left, right, t = self.structs_of_a_type()
+        return f'{left} = {self.shown(*self.find(lambda u: u == t, True, ("global", "open", "lent"))[:2])} = {right}'
+
+    def structplace(self):
+        return self.shown(*self.find(is_struct, uses=('global', 'open', 'lent'))[:2])
 
     def member(self):
         left, right, t = self.structs_of_a_type()

@@ -59,6 +59,19 @@ class Maker(Statements):
         self.new(name, Type('char', 1, (n,)), 'text')
         return f'static char *{name}[] = {{{", ".join(self.text() for _ in range(n))}}};'
 
+    def listed(self):
+        name, n, base = self.hidden(), self.random.randint(1, 4), self.draw(SPELLINGS)
+        values = ', '.join(self.e() for _ in range(n))
+        self.new(name, Type(base, 0, (n,)))
+        return f'static {self.spelled(base)} {name}[] = {{{values}}};'
+
+    def unknown(self):
+        """Two pointers to a struct that no file knows: the one is null, the other points to the first."""
+        name = self.name('far')
+        self.functions.append(Function(f'{name}f', Type('int', 0, ()), [], True, True, self.file, 12))
+        return (f'struct {name};\nstatic struct {name} *{name}, **{name}s = &{name};\n'
+                f'static int {name}f(void) {{ return *{name}s == 0 && !{name} && {name}s != 0; }}')
+
     def declared(self):
         base, name = f'struct only{len(self.structs)}', self.hidden()
         self.structs[base] = [('c', Type('char', 0, ())), ('w', Type('long', 0, ())), ('h', Type('short', 0, (3,)))]
@@ -127,6 +140,13 @@ class Maker(Statements):
         self.functions.append(f._replace(cost=12))
         return self.head(f) + self.draw([' {{ return a + (unsigned)i % {}; }}', ' {{ return &a[(unsigned)i % {}]; }}',
                                          ' {{ if (i & 1) return a; return &((unsigned)i % {})[a]; }}']).format(t.lengths[0])
+
+    def putting(self):
+        if self.with_line[self.file] or any(f.name == 'putchar' and f.file == self.file for f in self.functions):
+            raise NoneThere
+        number = Type('int', 0, ())
+        self.functions.append(Function('putchar', number, [('c', number, 'plain')], False, True, self.file, 8))
+        return 'static int putchar(int c) { mix(c * 7); return c + 1; }'
 
     def mutual(self):
         unsigned, name = Type('unsigned', 0, ()), self.name('f')

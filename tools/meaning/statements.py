@@ -15,8 +15,8 @@ class Statements(Places):
     def has_pointer(self, t):
         return t.stars or any(self.has_pointer(u) for _, u in self.structs.get(t.base, []))
 
-    def initial(self, t):
-        """An initialiser; one with pointers leaves none of them null."""
+    def initial(self, t, inner=False):
+        """An initialiser; one with pointers leaves none of them null. An inner one is an element of a list."""
         own, self.own_left = self.own_left, []
         try:
             if not t.lengths and (t.stars or t.base in SPELLINGS):
@@ -28,9 +28,11 @@ class Statements(Places):
             full = self.has_pointer(t)
             if not full and self.chance(.2):
                 return '{0}'
+            if not t.lengths and inner and not self.constant and self.chance(.3):
+                return self.shown(*self.find(lambda u: u == t, uses=('global', 'open', 'lent'))[:2])
             parts = [t._replace(lengths=t.lengths[1:])] * t.lengths[0] if t.lengths else [u for _, u in self.structs[t.base]]
             parts = parts if full else parts[:self.random.randint(1, len(parts))]
-            return '{' + ', '.join(map(self.initial, parts)) + self.draw(['', '', ',']) + '}'
+            return '{' + ', '.join(self.initial(part, True) for part in parts) + self.draw(['', '', ',']) + '}'
         finally:
             self.own_left = own
 
