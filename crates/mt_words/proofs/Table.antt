@@ -1,5 +1,5 @@
 -- The table of the commands, read backwards: what asks for nothing, and that what is given asks for one job.
-use Rattle.std.proofs.Common.{◌≡◌, ◌∙◌, ◌≤◌, ℕ, List, [], ◌∷◌, Bool, true, false, Option, Some, None, refl, sym, ap, codes, length, map}
+use Rattle.std.proofs.Common.{◌≡◌, ◌∙◌, ◌≤◌, ℕ, List, [], ◌∷◌, Bool, true, false, Option, Some, None, refl, sym, ap, codes, length}
 use Rattle.std.specs.Prelude.{is_some, unwrap_or}
 use Rattle.std.specs.Str.{bytes_eq}
 use Rattle.std.proofs.lemmas.Bool.{true≢false}
@@ -9,7 +9,7 @@ use Rattle.mt_words.specs.Reading.{Given, Options}
 use Rattle.mt_words.specs.Asks.{AskMean, AskRun, Asks, none_given, only_out, go, build, link, run, mean, dump, plan}
 
 differ : (a b : List ℕ) → bytes_eq a b ≡ false → Some a ≡ Some b → ⊥
-differ a b no e = true≢false (sym ((bytes_eq-Decides a b).1 (ap (λ o. unwrap_or o []) e)) ∙ no)
+differ a b apart e = true≢false (sym ((bytes_eq-Decides a b).1 (ap (λ o. unwrap_or o []) e)) ∙ apart)
 
 abbrev given : List ℕ → List (List ℕ) → Options → Given
 given name files options = record { command = Some name; files = files; options = options }

@@ -1,6 +1,6 @@
 // The options of a job.
 ghost use Rattle.std.specs.Prelude.{◌≡◌, IfOk};
-ghost use Rattle.mt_words.specs.Found.{FindsMean, FindsRun, is_any_given};
+ghost use Rattle.mt_words.specs.Found.{FindsMean, FindsRun, MayRun, is_any_given};
 ghost use Rattle.mt_words.specs.Held.{options_are};
 
 use crate::given::Options;
@@ -21,19 +21,31 @@ pub fn run_options(
     if options.work.is_some() {
         return Ok(None);
     }
-    let Some(steps) = count_or_default(options.steps) else {
-        return Ok(None);
-    };
-    let Some(stack) = stack_or_default(options.stack) else {
-        return Ok(None);
-    };
+    match count_or_default(options.steps) {
+        Some(steps) => run_with_steps(alloc, options, steps),
+        None => Ok(None),
+    }
+}
+
+// The options of a run of so many steps.
+fn run_with_steps(
+    alloc: Global,
+    options: Options<'_>,
+    steps: u64,
+) -> Result<Option<RunOptions>, AllocError>
+    requires may_run { MayRun (options_are options) steps }
+    ensures { IfOk result (FindsRun (options_are options.entry)) }
+{
     let found = choices_or_default(alloc, options.tags)?;
-    match found {
-        Some(choices) => Ok(Some(RunOptions {
-            choices,
-            steps,
-            stack,
-        })),
+    match stack_or_default(options.stack) {
+        Some(stack) => match found {
+            Some(choices) => Ok(Some(RunOptions {
+                choices,
+                steps,
+                stack,
+            })),
+            None => Ok(None),
+        },
         None => Ok(None),
     }
 }
@@ -51,9 +63,13 @@ pub fn mean_options(options: Options<'_>) -> Option<MeanOptions>
     if options.steps.is_some() {
         return None;
     }
-    let work = count_or_default(options.work)?;
-    let stack = stack_or_default(options.stack)?;
-    Some(MeanOptions { work, stack })
+    match count_or_default(options.work) {
+        Some(work) => match stack_or_default(options.stack) {
+            Some(stack) => Some(MeanOptions { work, stack }),
+            None => None,
+        },
+        None => None,
+    }
 }
 
 /// Whether an option of a run or a meaning is given.

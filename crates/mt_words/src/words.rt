@@ -1,7 +1,7 @@
 // From the words to the job.
-ghost use Rattle.std.specs.Prelude.{◌≡◌, IfOk, IfSome, IfNone, codes, map};
+ghost use Rattle.std.specs.Prelude.{◌≡◌, IfOk, IfSome, IfNone, codes, length, map};
 ghost use Rattle.std.specs.String.{string_bytes};
-ghost use Rattle.mt_words.specs.Found.{Finds, FindsFile, FindsOne, FindsOut, given_as};
+ghost use Rattle.mt_words.specs.Found.{Finds, FindsFile, FindsOne, FindsOut, given_as, given_with};
 ghost use Rattle.mt_words.specs.HasJob.{HasJob, HasNoJob};
 ghost use Rattle.mt_words.specs.Held.{given_is, options_are};
 ghost use Rattle.mt_words.specs.Laws.Formed.{IsFormed};
@@ -63,7 +63,8 @@ fn go<'a>(
 ) -> Result<Option<Job<'a>>, AllocError>
     ensures { IfOk result (Finds (given_as (codes "go") files.entry.items options.entry)) }
 {
-    if files.len() == 0 {
+    let count = file_count(&files);
+    if count == 0 {
         return Ok(None);
     }
     let found = run_options(alloc, options)?;
@@ -76,15 +77,21 @@ fn go<'a>(
 fn build<'a>(files: Vec<&'a str>, options: Options<'a>) -> Option<Job<'a>>
     ensures { Finds (given_as (codes "build") files.entry.items options.entry) result }
 {
-    let out = out_of(files.len(), options)?;
-    Some(Job::Build { files, out })
+    let count = file_count(&files);
+    match out_of(count, options) {
+        Some(out) => Some(Job::Build { files, out }),
+        None => None,
+    }
 }
 
 fn link<'a>(files: Vec<&'a str>, options: Options<'a>) -> Option<Job<'a>>
     ensures { Finds (given_as (codes "link") files.entry.items options.entry) result }
 {
-    let out = out_of(files.len(), options)?;
-    Some(Job::Link { files, out })
+    let count = file_count(&files);
+    match out_of(count, options) {
+        Some(out) => Some(Job::Link { files, out }),
+        None => None,
+    }
 }
 
 fn run<'a>(
@@ -94,9 +101,19 @@ fn run<'a>(
 ) -> Result<Option<Job<'a>>, AllocError>
     ensures { IfOk result (Finds (given_as (codes "run") files.entry.items options.entry)) }
 {
-    let Some(image) = one_file(files) else {
-        return Ok(None);
-    };
+    match one_file(files) {
+        Some(image) => run_image(alloc, image, options),
+        None => Ok(None),
+    }
+}
+
+fn run_image<'a>(
+    alloc: Global,
+    image: &'a str,
+    options: Options<'a>,
+) -> Result<Option<Job<'a>>, AllocError>
+    ensures { IfOk result (Finds (given_with (codes "run") image.entry.now options.entry)) }
+{
     let found = run_options(alloc, options)?;
     match found {
         Some(options) => Ok(Some(Job::Run { image, options })),
@@ -107,25 +124,39 @@ fn run<'a>(
 fn mean<'a>(files: Vec<&'a str>, options: Options<'a>) -> Option<Job<'a>>
     ensures { Finds (given_as (codes "mean") files.entry.items options.entry) result }
 {
-    if files.len() == 0 {
+    let count = file_count(&files);
+    if count == 0 {
         return None;
     }
-    let options = mean_options(options)?;
-    Some(Job::Mean { files, options })
+    match mean_options(options) {
+        Some(options) => Some(Job::Mean { files, options }),
+        None => None,
+    }
 }
 
 fn dump<'a>(files: Vec<&'a str>, options: Options<'a>) -> Option<Job<'a>>
     ensures { Finds (given_as (codes "dump") files.entry.items options.entry) result }
 {
-    let file = file_alone(files, options)?;
-    Some(Job::Dump { file })
+    match file_alone(files, options) {
+        Some(file) => Some(Job::Dump { file }),
+        None => None,
+    }
 }
 
 fn plan<'a>(files: Vec<&'a str>, options: Options<'a>) -> Option<Job<'a>>
     ensures { Finds (given_as (codes "plan") files.entry.items options.entry) result }
 {
-    let file = file_alone(files, options)?;
-    Some(Job::Plan { file })
+    match file_alone(files, options) {
+        Some(file) => Some(Job::Plan { file }),
+        None => None,
+    }
+}
+
+// How many files there are.
+fn file_count(files: &Vec<&str>) -> usize
+    ensures { result ≡ length files.now.items }
+{
+    files.as_slice().len()
 }
 
 // The file, where there is one and no option.
@@ -145,10 +176,11 @@ fn file_alone<'a>(files: Vec<&'a str>, options: Options<'a>) -> Option<&'a str>
 fn one_file<'a>(files: Vec<&'a str>) -> Option<&'a str>
     ensures { FindsOne (texts files.entry.items) result }
 {
-    match files.as_slice() {
-        [file] => Some(*file),
-        _ => None,
+    let listed = files.as_slice();
+    if listed.len() == 1 {
+        return Some(listed[0]);
     }
+    None
 }
 
 // What is written, where there is a file at least and `--out` alone.
