@@ -1,6 +1,7 @@
 -- What the lists leave (this project's own).
-use Rattle.std.specs.Prelude.{◌≡◌, ◌≢◌, ℕ, ◌+◌, ◌/◌, ◌%◌, ◌^◌, ◌<◌, ◌≤◌, Bool, true, false, ◌&&◌, nat_le, List, [], ◌∷◌, length}
-use Rattle.mt_base.specs.Memory.{store, load}
+use Rattle.std.specs.Prelude.{◌≡◌, ◌≢◌, ℕ, ◌+◌, ◌/◌, ◌%◌, ◌^◌, ◌<◌, ◌≤◌, Bool, true, false, ◌&&◌, nat_le, List, [], ◌∷◌, length, slice_get, Some}
+use Rattle.mt_base.specs.Granules.{granule_of}
+use Rattle.mt_base.specs.Memory.{is_between, store, load}
 use Rattle.mt_base.specs.Pointers.{tag_of, with_tag}
 use Rattle.mt_base.specs.Tags.{next_tag, zero_excluded, base}
 use Rattle.a64_code.specs.declared.instr.Instr.{Instr}
@@ -88,3 +89,25 @@ pub record Exited (from granules : ℕ) (s t : State) : Type 0 where
   pub base_register : t.register tagged_base.0 ≡ load 8 s.byte (s.sp + 16)
   pub registers : (r : ℕ) → is_scratch r ≡ false → r ≢ tagged_base.0 → t.register r ≡ s.register r
   pub same : SameButTags s t
+
+-- ---- the same in the slots' own words
+
+-- a granule of the slot, in the frame at SP
+abbrev pub has_granule : ℕ → Slot → ℕ → Bool
+has_granule sp s granule = is_between (granule_of (sp + s.start)) (s.bytes / 16) granule
+
+-- none of the slots has the granule
+abbrev pub NoneHas : ℕ → List Slot → ℕ → Type 0
+NoneHas sp [] granule = Unit {0}
+NoneHas sp (s ∷ ss) granule = (has_granule sp s granule ≡ false) × NoneHas sp ss granule
+
+-- each granule of the slots has the tag of its slot's index after a base tag, and all others have what they had
+pub record HaveSlotTags (sp base_tag : ℕ) (ss : List Slot) (before after : ℕ → ℕ) : Type 0 where
+  pub inside : (k : ℕ) (s : Slot) (granule : ℕ) → slice_get ss k ≡ Some s → has_granule sp s granule ≡ true →
+      after granule ≡ next_tag base_tag s.index zero_excluded
+  pub outside : (granule : ℕ) → NoneHas sp ss granule → after granule ≡ before granule
+
+-- each granule of the slots has tag 0, and all others have what they had
+pub record HaveNoTags (sp : ℕ) (ss : List Slot) (before after : ℕ → ℕ) : Type 0 where
+  pub inside : (k : ℕ) (s : Slot) (granule : ℕ) → slice_get ss k ≡ Some s → has_granule sp s granule ≡ true → after granule ≡ 0
+  pub outside : (granule : ℕ) → NoneHas sp ss granule → after granule ≡ before granule

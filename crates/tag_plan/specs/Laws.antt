@@ -1,3 +1,4 @@
 pub mod Slots
 pub mod Several
 pub mod Calls
+pub mod Standing
