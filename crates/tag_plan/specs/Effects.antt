@@ -1,10 +1,12 @@
 -- What the lists leave (this project's own).
-use Rattle.std.specs.Prelude.{◌≡◌, ◌≢◌, ℕ, ◌+◌, ◌/◌, ◌%◌, ◌^◌, ◌<◌, ◌≤◌, Bool, true, false, ◌&&◌, nat_le, List, [], ◌∷◌, length, slice_get, Some}
+use Rattle.std.specs.Prelude.{◌≡◌, ◌≢◌, ℕ, suc, ◌+◌, ◌/◌, ◌%◌, ◌^◌, ◌<◌, ◌≤◌, Bool, true, false, ◌&&◌, nat_le, List, [], ◌∷◌, length, slice_get, Some}
 use Rattle.mt_base.specs.Granules.{granule_of}
 use Rattle.mt_base.specs.Memory.{is_between, store, load}
 use Rattle.mt_base.specs.Pointers.{tag_of, with_tag}
 use Rattle.mt_base.specs.Tags.{next_tag, zero_excluded, base}
+use Rattle.slot_safety.specs.declared.kind.Kind.TheVariants.{Tagged}
 use Rattle.a64_code.specs.declared.instr.Instr.{Instr}
+use Rattle.a64_code.specs.declared.instr.Reg.{Reg}
 use Rattle.a64_code.specs.State.{State, tagged}
 use Rattle.a64_code.specs.TagInstructions.{next_choice}
 use Rattle.a64_laws.specs.Laws.Effects.Open.{IsOpen}
@@ -12,7 +14,7 @@ use Rattle.a64_laws.specs.Runs.{Runs}
 use Rattle.a64_laws.specs.Tagging.{SameButTags}
 use Rattle.frame_layout.specs.declared.frame.Frame.{Frame}
 use Rattle.frame_layout.specs.declared.frame.Slot.{Slot}
-use Rattle.frame_layout.specs.WellFormed.{tagged_slots}
+use Rattle.frame_layout.specs.WellFormed.{is_tagged_slot}
 use Rattle.tag_plan.specs.Lists.{outer_tagged, tagged_base}
 
 -- ---- where a list begins
@@ -111,3 +113,36 @@ pub record HaveSlotTags (sp base_tag : ℕ) (ss : List Slot) (before after : ℕ
 pub record HaveNoTags (sp : ℕ) (ss : List Slot) (before after : ℕ → ℕ) : Type 0 where
   pub inside : (k : ℕ) (s : Slot) (granule : ℕ) → slice_get ss k ≡ Some s → has_granule sp s granule ≡ true → after granule ≡ 0
   pub outside : (granule : ℕ) → NoneHas sp ss granule → after granule ≡ before granule
+
+-- some scopes were left: their slots have no tags, and nothing else is changed
+pub record LeavesSlots (ss : List Slot) (s t : State) : Type 0 where
+  pub tags : HaveNoTags s.sp ss s.tag t.tag
+  pub kept : SameButScratch s t
+
+-- a register has this number, and nothing else is changed
+pub record Puts (rd : Reg) (value : ℕ) (s t : State) : Type 0 where
+  pub is : t.register rd.0 ≡ value
+  pub tags : t.tag ≡ s.tag
+  pub registers : (r : ℕ) → r ≢ rd.0 → t.register r ≡ s.register r
+  pub same : SameButTags s t
+
+-- the pointer to a slot in the frame at SP, with its tag after a base tag where it is tagged
+abbrev pub pointer_by : Bool → ℕ → ℕ → Slot → ℕ
+pointer_by true sp base_tag s = with_tag (sp + s.start) (next_tag base_tag s.index zero_excluded)
+pointer_by false sp base_tag s = sp + s.start
+
+abbrev pub pointer_to : ℕ → ℕ → Slot → ℕ
+pointer_to sp base_tag s = pointer_by (is_tagged_slot s) sp base_tag s
+
+-- ---- which slots a scope names
+
+-- there is a tagged slot of this number
+pub record IsTaggedAt (ss : List Slot) (k : ℕ) : Type 0 where
+  pub slot : Slot
+  pub is : slice_get ss k ≡ Some slot
+  pub tagged : slot.kind ≡ Tagged
+
+-- numbers of tagged slots, each larger than the one before, from a number on
+abbrev pub AreNumbers : List Slot → ℕ → List ℕ → Type 0
+AreNumbers ss from [] = Unit {0}
+AreNumbers ss from (k ∷ ks) = (from ≤ k) × IsTaggedAt ss k × AreNumbers ss (suc k) ks

@@ -88,18 +88,22 @@ where_some (s ∷ ss) instrs = instrs
 abbrev pub entry_list : Frame → List Instr
 entry_list f = where_some (tagged_slots f.slots) (base_list ++ flat_map slot_list (outer_tagged f.slots))
 
+-- X28 is what the base word has
+abbrev pub restore : List Instr
+restore = Ldr true 2 stack_pointer tagged_base ∷ []
+
 -- its exit: all tagged slots lose their tags, and X28 is what it was
 abbrev pub exit_list : Frame → List Instr
-exit_list f = where_some (tagged_slots f.slots) (clear_list (tagged_slots f.slots) ++ Ldr true 2 stack_pointer tagged_base ∷ [])
+exit_list f = where_some (tagged_slots f.slots) (clear_list (tagged_slots f.slots) ++ restore)
 
 -- the slots of these numbers, those aside that there are not
+abbrev pub and_slot : Option Slot → List Slot → List Slot
+and_slot None more = more
+and_slot (Some s) more = s ∷ more
+
 abbrev pub listed : List Slot → List ℕ → List Slot
 listed ss [] = []
-listed ss (k ∷ ks) = one (slice_get ss k) (listed ss ks)
-  where
-    one : Option Slot → List Slot → List Slot
-    one None more = more
-    one (Some s) more = s ∷ more
+listed ss (k ∷ ks) = and_slot (slice_get ss k) (listed ss ks)
 
 -- the entry of an inner scope, whose tagged slots have these numbers
 abbrev pub enter_list : Frame → List ℕ → List Instr

@@ -35,7 +35,7 @@ pub rising-reaches : (from : ℕ) (ss : List Slot) (to : ℕ) → Rising from ss
 rising-reaches from [] to rising = rising
 rising-reaches from (s ∷ ss) to rising = omega (arith, rising.0, rising-reaches (s.start + s.bytes) ss to rising.2)
 
-rising-lower : (lower from : ℕ) (ss : List Slot) (to : ℕ) → lower ≤ from → Rising from ss to → Rising lower ss to
+pub rising-lower : (lower from : ℕ) (ss : List Slot) (to : ℕ) → lower ≤ from → Rising from ss to → Rising lower ss to
 rising-lower lower from [] to less rising = omega (arith, less, rising)
 rising-lower lower from (s ∷ ss) to less rising = (omega (arith, less, rising.0), rising.1, rising.2)
 
@@ -138,7 +138,7 @@ fill-split from (x ∷ xs) ys to filled =
     let rest = fill-split (from + x.bytes) xs ys to filled.1 in
     (rest.0, (filled.0, rest.1), rest.2)
 
-well-split : (xs ys : List Slot) → AreWell (xs ++ ys) → AreWell xs × AreWell ys
+pub well-split : (xs ys : List Slot) → AreWell (xs ++ ys) → AreWell xs × AreWell ys
 well-split [] ys well = (tt, well)
 well-split (x ∷ xs) ys well = let rest = well-split xs ys well.1 in ((well.0, rest.0), rest.1)
 
