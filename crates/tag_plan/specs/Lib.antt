@@ -1,3 +1,4 @@
 pub mod Lists
 pub mod Effects
+pub mod Stretches
 pub mod Laws

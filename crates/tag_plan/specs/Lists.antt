@@ -111,7 +111,7 @@ enter_list f numbers = flat_map slot_list (listed f.slots numbers)
 
 -- the slots from one number to another, both of them among these
 abbrev pub between : List Slot → ℕ → ℕ → List Slot
-between ss first last = drop first (take (last + 1) ss)
+between ss first last = take (last + 1 - first) (drop first ss)
 
 -- one or several inner scopes are left: the tagged slots among those from one number to another lose their tags
 abbrev pub leave_list : Frame → ℕ → ℕ → List Instr

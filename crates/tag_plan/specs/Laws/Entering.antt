@@ -18,9 +18,9 @@ use Rattle.tag_plan.specs.Laws.Standing.{Rising, IsWhole, rising-in, have_slot_t
 -- ---- where tagged slots of given numbers stand
 
 -- a tagged slot among those that fill a stretch
-record IsAmong (from : ℕ) (s : Slot) (to : ℕ) : Type 0 where
-  after : from ≤ s.start
-  before : s.start + s.bytes ≤ to
+pub record IsAmong (from : ℕ) (s : Slot) (to : ℕ) : Type 0 where
+  pub after : from ≤ s.start
+  pub before : s.start + s.bytes ≤ to
 
 fill_reaches : (from : ℕ) (ss : List Slot) (to : ℕ) → Fill from ss to → from ≤ to
 fill_reaches from [] to filled = omega (arith, filled)
@@ -39,7 +39,7 @@ first_filled from s Safe ss to is filled = absurd (cc)
 first_filled from s Tagged ss to is filled =
     (filled.0, subst (λ place. Fill (place + s.bytes) (tagged_slots ss) to) (sym filled.0) filled.1)
 
-is_among : (from : ℕ) (ss : List Slot) (to k : ℕ) (s : Slot) → Fill from (tagged_slots ss) to → slice_get ss k ≡ Some s →
+pub is_among : (from : ℕ) (ss : List Slot) (to k : ℕ) (s : Slot) → Fill from (tagged_slots ss) to → slice_get ss k ≡ Some s →
     s.kind ≡ Tagged → IsAmong from s to
 is_among from [] to k s filled is tag = absurd (cc)
 is_among from (x ∷ ss) to zero s filled is tag =

@@ -213,7 +213,7 @@ address_by_done bytes tag slot true rd s small frame most within whole base tag_
     (omega (arith, within, frame.below)) fits
 address_by_done bytes tag slot false rd s small frame most within whole base tag_small fits =
     let offset = offset_placed slot.start rd s small (omega (arith, within, most)) (omega (arith, within, frame.below))
-        (omega (arith, fits)) in
+    (omega (arith, fits)) in
     record {
       to = offset.to;
       steps = offset.steps;

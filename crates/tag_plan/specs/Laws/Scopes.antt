@@ -1,7 +1,7 @@
 -- What the lists of scopes do in a well-formed frame (this project's own).
-use Rattle.std.specs.Prelude.{◌≡◌, ◌≢◌, ℕ, zero, suc, ◌+◌, ◌*◌, ◌/◌, ◌%◌, ◌^◌, ◌<◌, ◌≤◌, Bool, true, false, if◌then◌else◌, List, [], ◌∷◌, ◌++◌}
+use Rattle.std.specs.Prelude.{◌≡◌, ◌≢◌, ℕ, zero, suc, ◌+◌, ◌-◌, ◌*◌, ◌/◌, ◌%◌, ◌^◌, ◌<◌, ◌≤◌, Bool, true, false, if◌then◌else◌, List, [], ◌∷◌, ◌++◌}
 use Rattle.std.specs.Prelude.{length, slice_get, Some, take, drop, refl, flat_map}
-use Rattle.std.proofs.Common.{arith, ap, sym, ◌∙◌, subst, inl, inr, append_assoc}
+use Rattle.std.proofs.Common.{arith, ap, sym, ◌∙◌, subst, inl, inr}
 use Rattle.std.proofs.lemmas.Bool.{cases_lt}
 use Rattle.std.proofs.lemmas.Bool.Decides.{nat_tests}
 use Rattle.std.proofs.lemmas.List.{take-append-drop}
@@ -44,15 +44,21 @@ part_stretch : (from : ℕ) (xs ys zs : List Slot) (to : ℕ) → from % 16 ≡ 
     (a b : ℕ) × Fill a (tagged_slots ys) b × AreWell (tagged_slots ys) × (a % 16 ≡ 0) × (b ≤ to)
 part_stretch from xs ys zs to whole well filled =
     let same : tagged_slots (xs ++ (ys ++ zs)) ≡ tagged_slots xs ++ (tagged_slots ys ++ tagged_slots zs) =
-        tagged_slots-append xs (ys ++ zs) ∙ ap (λ ss. tagged_slots xs ++ ss) (tagged_slots-append ys zs) in
+    tagged_slots-append xs (ys ++ zs) ∙ ap (λ ss. tagged_slots xs ++ ss) (tagged_slots-append ys zs) in
     let wells = well-split (tagged_slots xs) (tagged_slots ys ++ tagged_slots zs) (subst AreWell same well) in
     let first = fill-split from (tagged_slots xs) (tagged_slots ys ++ tagged_slots zs) to (subst (λ ss. Fill from ss to) same filled) in
     let rest = fill-split first.0 (tagged_slots ys) (tagged_slots zs) to first.2 in
     let both = well-split (tagged_slots ys) (tagged_slots zs) wells.1 in
     let middle : first.0 % 16 ≡ 0 = rise_whole from (tagged_slots xs) first.0 whole wells.0 first.1 in
-    let last : rest.0 % 16 ≡ 0 = rise_whole first.0 (tagged_slots ys) rest.0 middle both.0 rest.1 in
-    (first.0, rest.0, rest.1, both.0, middle, rising-reaches rest.0 (tagged_slots zs) to
-    (fill-rising rest.0 (tagged_slots zs) to last both.1 rest.2))
+    let last : rest.0 % 16 ≡ 0 = rise_whole first.0 (tagged_slots ys) rest.0 middle both.0 rest.1 in (
+      first.0,
+      rest.0,
+      rest.1,
+      both.0,
+      middle,
+      rising-reaches rest.0 (tagged_slots zs) to
+          (fill-rising rest.0 (tagged_slots zs) to last both.1 rest.2),
+    )
 
 pub stretch : (f : Frame) (first last : ℕ) → IsWellFormed f → Stretch f first last
 stretch f first last well = record {
@@ -65,16 +71,15 @@ stretch f first last well = record {
 }
   where
     front : List Slot
-    front = take first (take (last + 1) f.slots)
+    front = take first f.slots
 
     back : List Slot
-    back = drop (last + 1) f.slots
+    back = drop (last + 1 - first) (drop first f.slots)
 
     same : f.slots ≡ front ++ (between f.slots first last ++ back)
     same =
-        sym (take-append-drop (last + 1) f.slots)
-        ∙ ap (λ ss. ss ++ back) (sym (take-append-drop first (take (last + 1) f.slots)))
-        ∙ append_assoc front (between f.slots first last) back
+        sym (take-append-drop first f.slots)
+        ∙ ap (λ ss. front ++ ss) (sym (take-append-drop (last + 1 - first) (drop first f.slots)))
 
     part : (a b : ℕ) × Fill a (tagged_slots (between f.slots first last)) b × AreWell (tagged_slots (between f.slots first last))
         × (a % 16 ≡ 0) × (b ≤ f.bytes)
@@ -90,9 +95,10 @@ slots_inside sp granule from [] to k s aligned rising is inside = absurd (cc)
 slots_inside sp granule from (x ∷ ss) to zero s aligned rising is inside =
     let same : x ≡ s = cc in
     let here : has_granule sp x granule ≡ true = ap (λ x. has_granule sp x granule) same ∙ inside in
-    let reaches : x.start + x.bytes ≤ to = rising-reaches (x.start + x.bytes) ss to rising.2 in
-    (grind (arith, nat_tests, rising.0, rising.1.start, rising.1.bytes, aligned, here),
-    grind (arith, nat_tests, reaches, rising.1.start, rising.1.bytes, aligned, here))
+    let reaches : x.start + x.bytes ≤ to = rising-reaches (x.start + x.bytes) ss to rising.2 in (
+      grind (arith, nat_tests, rising.0, rising.1.start, rising.1.bytes, aligned, here),
+      grind (arith, nat_tests, reaches, rising.1.start, rising.1.bytes, aligned, here),
+    )
 slots_inside sp granule from (x ∷ ss) to (suc k) s aligned rising is inside =
     let rest = slots_inside sp granule (x.start + x.bytes) ss to k s aligned rising.2 is inside in
     (omega (arith, rising.0, rest.0), rest.1)
@@ -155,7 +161,7 @@ leaves_by : (bytes from : ℕ) (ss : List Slot) (to : ℕ) (s : State) → IsFra
 leaves_by bytes from [] to s frame most within whole well filled fits = leave_none s
 leaves_by bytes from (x ∷ ss) to s frame most within whole well filled fits =
     let cleared = clearing_done bytes from (bytes_of (x ∷ ss) / 16) s frame most whole
-        (omega (arith, within, fill-bytes from (x ∷ ss) to filled, bytes_of-whole (x ∷ ss) well)) (omega (arith, fits)) in
+    (omega (arith, within, fill-bytes from (x ∷ ss) to filled, bytes_of-whole (x ∷ ss) well)) (omega (arith, fits)) in
     subst (λ instrs. Does instrs (3 * granules (x ∷ ss) / 4 + 24) (LeavesSlots (x ∷ ss)) s)
     (sym (clear_list-is from (x ∷ ss) to filled (λ none. absurd (cc))))
     (record {
