@@ -1,8 +1,10 @@
 -- What regions hold, where memory holds something beside them.
 use Rattle.std.proofs.Common.{◌≡◌, ℕ, ◌+◌, ◌-◌, ◌%◌, ◌<◌, true, false, cond, List, [], ◌∷◌, ◌++◌, length, get_or, refl, sym, ◌∙◌, ap, arith}
-use Rattle.std.proofs.Common.{inl, inr, mod-eq_of_lt, if◌then◌else◌}
+use Rattle.std.proofs.Common.{inl, inr, mod-eq_of_lt, if◌then◌else◌, zero, suc, subst}
+use Rattle.std.specs.List.{All, Contains}
+use Rattle.std.proofs.lemmas.List.Elements.{All-contains, Contains-push, Contains-append_left, Contains-get_or}
 use Rattle.std.proofs.Math.Path.{fun_ext}
-use Rattle.std.proofs.lemmas.Bool.{cases_Bool}
+use Rattle.std.proofs.lemmas.Bool.{cases_Bool, or_right}
 use Rattle.mt_base.specs.Memory.{Extent, is_between, is_in_extent, is_mapped, store_bytes, every_byte}
 use Rattle.mt_base.specs.Laws.Memory.{every_byte_from}
 use Rattle.tag_mem.specs.declared.region.Region.{Region}
@@ -48,3 +50,27 @@ pub covered_bytes : (regions : List Extent) (r : Region) → IsCovered regions r
 covered_bytes regions r covered =
     every_byte_from (is_mapped regions) r.start (length r.bytes.items)
     (λ k h. covered (r.start + k) (between_from r.start (length r.bytes.items) (r.start + k) (omega arith) (omega (arith, h))))
+
+pub byte_over_empty : (regions : List Region) (f : ℕ → ℕ) → length regions ≡ 0 → byte_over regions f ≡ f
+byte_over_empty [] f none = refl
+byte_over_empty (r ∷ rs) f none = absurd (omega (arith, none))
+
+-- ---- the regions of a list
+
+mapped_in : (regions : List Region) (k at : ℕ) (d : Region) → k < length regions → is_in_extent (extent_of (get_or regions k d)) at ≡ true →
+    is_mapped (extents_of regions) at ≡ true
+mapped_in [] k at d below holds = absurd (omega (arith, below))
+mapped_in (r ∷ rs) zero at d below holds = rw holds refl
+mapped_in (r ∷ rs) (suc k) at d below holds =
+    or_right (is_in_extent (extent_of r) at) (is_mapped (extents_of rs) at) (mapped_in rs k at d (omega (arith, below)) holds)
+
+pub all_covered : (extents : List Extent) (regions : List Region) → extents ≡ extents_of regions → All (IsCovered extents) regions
+all_covered extents regions same k d below at holds = ap (λ es. is_mapped es at) same ∙ mapped_in regions k at d below holds
+
+pub last_of : {X : Type 0} (P : X → Type 0) (xs all : List X) (x : X) → all ≡ xs ++ x ∷ [] → All P all → P x
+last_of P xs all x is each = All-contains P all x each (subst (λ l. Contains l x) (sym is) (Contains-push xs x))
+
+pub front_of : {X : Type 0} (P : X → Type 0) (xs all : List X) (x : X) → all ≡ xs ++ x ∷ [] → All P all → All P xs
+front_of P xs all x is each k d below =
+    All-contains P all (get_or xs k d) each
+    (subst (λ l. Contains l (get_or xs k d)) (sym is) (Contains-append_left xs (x ∷ []) (get_or xs k d) (Contains-get_or xs k d below)))

@@ -1,6 +1,6 @@
 -- Which addresses regions hold, and what one region that holds an address says of it.
 use Rattle.std.proofs.Common.{◌≡◌, ℕ, zero, suc, ◌+◌, ◌-◌, ◌^◌, ◌<◌, ◌≤◌, Bool, true, false, ◌&&◌, ◌||◌, List, [], ◌∷◌, length}
-use Rattle.std.proofs.Common.{get_or, refl, ◌∙◌, ap, subst, arith, inl, inr}
+use Rattle.std.proofs.Common.{get_or, refl, sym, ◌∙◌, ap, subst, arith, inl, inr, true≢false}
 use Rattle.std.specs.List.{All, AllPairs, list_any}
 use Rattle.std.proofs.lemmas.Bool.{cases_Bool, and_left, or_from}
 use Rattle.std.proofs.lemmas.Bool.Decides.{nat_tests}
@@ -118,3 +118,18 @@ bounds_at bounds i d below = record {
 
 pub whole_at : (es : List Extent) (i : ℕ) (e : Extent) → All IsWhole es → IsAt es i e → IsWhole e
 whole_at es i e whole here = subst IsWhole here.is (whole i e here.in_range)
+
+-- ---- the region that holds an address
+
+pub record HasHolder (bounds : List Bounds) (at : ℕ) : Type 0 where
+  pub place : ℕ
+  pub in_range : place < length bounds
+  pub holds : (d : Bounds) → is_in_extent (extent (get_or bounds place d)) at ≡ true
+
+pub holder_of : (bounds : List Bounds) (at : ℕ) → is_mapped (extents bounds) at ≡ true → HasHolder bounds at
+holder_of [] at mapped = absurd (true≢false (sym mapped))
+holder_of (b ∷ bs) at mapped = elim (cases_Bool (is_in_extent (extent b) at)) [
+  | inl holds ↦ record { place = 0; in_range = omega arith; holds = λ d. holds }
+  | inr other ↦ let rest = holder_of bs at (rw other at mapped) in
+      record { place = suc rest.place; in_range = omega (arith, rest.in_range); holds = rest.holds }
+]

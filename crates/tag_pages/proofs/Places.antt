@@ -1,13 +1,15 @@
 -- Numbers of pages in lists.
 use Rattle.std.proofs.Common.{◌≡◌, ◌≢◌, ℕ, zero, suc, ◌<◌, ◌≤◌, ◌==◌, true, false, List, [], ◌∷◌, length, get_or, replicate, refl, sym}
-use Rattle.std.proofs.Common.{◌∙◌, ap, arith, true≢false, inl, inr, Ok, Err, nat_cmp}
-use Rattle.std.specs.List.{AllPairs, list_any}
+use Rattle.std.proofs.Common.{◌∙◌, ap, arith, true≢false, inl, inr, Ok, Err, nat_cmp, eqb}
+use Rattle.std.specs.Prelude.{IsPermutation}
+use Rattle.std.specs.List.{AllPairs, list_any, dedup}
 use Rattle.std.specs.List.Sorted.{IsStrictlyIncreasing, IsBinarySearchResult}
 use Rattle.std.proofs.lemmas.Bool.{cases_eq, cases_lt, eq-eqb}
 use Rattle.std.proofs.lemmas.Bool.Decides.{nat_tests}
 use Rattle.std.proofs.lemmas.List.Folds.{list_any_at}
-use Rattle.std.proofs.lemmas.List.Kept.{AllPairs-from_increasing}
-use Rattle.std.proofs.lemmas.List.Sorted.{searched}
+use Rattle.std.proofs.lemmas.List.Kept.{AllPairs-from_increasing, Contains-dedup_nat}
+use Rattle.std.proofs.lemmas.List.Sorted.{searched, list_any-IsPermutation}
+use Rattle.std.proofs.lemmas.List.{get_or_default}
 use Rattle.tag_pages.specs.Parts.{has_number}
 
 pub differs : (n m : ℕ) → n ≢ m → (n == m) ≡ false
@@ -37,6 +39,16 @@ ordered_tail n ns up i j d h below = up (suc i) (suc j) d (omega (arith, h)) (om
 
 pub ordered : (numbers : List ℕ) → IsStrictlyIncreasing numbers → AllPairs (λ x y. x < y) numbers
 ordered numbers up = AllPairs-from_increasing numbers up
+
+-- numbers that are sorted and each kept once
+pub number_kept : (numbers sorted kept : List ℕ) (number : ℕ) → IsPermutation numbers sorted → kept ≡ dedup eqb sorted →
+    has_number numbers number ≡ true → has_number kept number ≡ true
+number_kept numbers sorted kept number permutation is has =
+    let there = place_of sorted number (sym (list_any-IsPermutation (λ n. n == number) numbers sorted permutation) ∙ has) in
+    let left =
+    Contains-dedup_nat sorted number
+    (there.place, there.in_range, get_or_default sorted there.place number 0 there.in_range ∙ there.is) in
+    rw is (has_at (dedup eqb sorted) number left.0 left.1 (get_or_default (dedup eqb sorted) left.0 0 number left.1 ∙ left.2))
 
 -- ---- zeros
 

@@ -1,7 +1,7 @@
-ghost use Rattle.std.specs.Prelude.{◌≡◌, ◌≢◌, ◌↔◌, ◌*◌, ◌/◌, true, length, IsSome, IfSome, IsTrue};
+ghost use Rattle.std.specs.Prelude.{◌≡◌, ◌≢◌, ◌↔◌, ◌*◌, ◌/◌, true, false, length, IsSome, IfSome, IfNone, IsTrue};
 ghost use Rattle.std.specs.List.{All};
 ghost use Rattle.mt_base.specs.Granules.{granule_of};
-ghost use Rattle.mt_base.specs.Memory.{is_mapped, store_tag};
+ghost use Rattle.mt_base.specs.Memory.{is_mapped, is_protected, store_tag};
 ghost use Rattle.tag_mem.specs.Answers.{set_tag_answer};
 ghost use Rattle.tag_mem.specs.Regions.{span_of, IsWellPlaced};
 ghost use Rattle.tag_pages.specs.Pages.{byte_in_pages, tag_in_pages};
@@ -34,6 +34,23 @@ pub fn tag_at(
 {
     let part = part_at(regions, numbers, parts, at)?;
     Some(pages[part.page].tag((at % PAGE_BYTES as u64 / GRANULE) as usize))
+}
+
+/// The part with the address, where it may be written.
+#[inline(always)]
+fn writable_part(regions: &[Bounds], numbers: &[u64], parts: &[Part], at: u64) -> Option<Part>
+    requires laid_out { IsLaidOut (extents regions.now) numbers.now }
+    requires entered { All (IsPart (extents regions.now) numbers.now) parts.now }
+    ensures found { IfSome result (λ p. IsPartAt (extents regions.now) numbers.now at p) }
+    ensures writable { IfSome result (λ p. p.writable ≡ true) }
+    ensures none { IfNone result (is_protected (extents regions.now) at ≡ false → is_mapped (extents regions.now) at ≡ false) }
+{
+    let part = part_at(regions, numbers, parts, at)?;
+    if part.writable {
+        Some(part)
+    } else {
+        None
+    }
 }
 
 /// Sets the tag of the granule of an address of a part.
@@ -80,18 +97,18 @@ pub fn set_tag_at(
         ≡ tag_in_pages (extents regions.now) numbers.now pages.old }
     ensures bytes { byte_in_pages (extents regions.now) numbers.now pages.new ≡ byte_in_pages (extents regions.now) numbers.now pages.old }
 {
-    if let Some(part) = part_at(regions, numbers, parts, at)
-        && part.writable
-    {
-        put_tag(regions, numbers, pages, part, at, tag);
-        return Access::Done;
+    match writable_part(regions, numbers, parts, at) {
+        Some(part) => {
+            put_tag(regions, numbers, pages, part, at, tag);
+            Access::Done
+        }
+        None => judge_write(
+            regions,
+            numbers,
+            parts,
+            guard,
+            at / GRANULE * GRANULE,
+            GRANULE as usize,
+        ),
     }
-    judge_write(
-        regions,
-        numbers,
-        parts,
-        guard,
-        at / GRANULE * GRANULE,
-        GRANULE as usize,
-    )
 }
