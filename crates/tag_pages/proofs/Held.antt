@@ -1,6 +1,7 @@
 -- What pages hold, by the place of a page among them.
 use Rattle.std.proofs.Common.{◌≡◌, ◌≢◌, ℕ, zero, suc, ◌*◌, ◌/◌, ◌%◌, ◌<◌, ◌==◌, true, false, cond, List, [], ◌∷◌, length, get_or, set}
-use Rattle.std.proofs.Common.{refl, sym, ◌∙◌, ap, arith, inl, inr}
+use Rattle.std.proofs.Common.{refl, sym, ◌∙◌, ap, subst, arith, inl, inr, replicate, Bool}
+use Rattle.std.proofs.lemmas.List.Elements.{All-replicate}
 use Rattle.std.specs.List.{All, AllPairs}
 use Rattle.std.proofs.Math.Path.{fun_ext}
 use Rattle.std.proofs.lemmas.Bool.{cases_Bool, eq-eqb}
@@ -133,3 +134,32 @@ tag_same_page regions numbers pages k p q is same =
 pub byte_same_page : (regions : List Extent) (numbers : List ℕ) (pages : List Page) (k : ℕ) (p q : Page) → get_or pages k p ≡ p →
     q.bytes ≡ p.bytes → byte_in_pages regions numbers (set pages k q) ≡ byte_in_pages regions numbers pages
 byte_same_page regions numbers pages k p q is same = fun_ext (λ at. byte_same regions numbers pages k at p q is same)
+
+-- ---- pages of zeros
+
+pub zero_bytes : (regions : List Extent) (numbers : List ℕ) (pages : List Page) (n : ℕ) (p : Page) → pages ≡ replicate n p →
+    ((k : ℕ) → get_or p.bytes k 0 ≡ 0) → byte_in_pages regions numbers pages ≡ (λ _. 0)
+zero_bytes regions numbers pages n p is zeros = fun_ext (λ at. elim (cases_Bool (is_mapped regions at)) [
+  | inl mapped ↦
+      rw mapped
+      (in_pages_zero (λ q. page_byte q at) numbers pages (at / 4096)
+      (subst (All (λ q. page_byte q at ≡ 0)) (sym is)
+      (All-replicate (λ q. page_byte q at ≡ 0) n p (ap (λ b. b % 256) (zeros (at % 4096))))))
+  | inr unmapped ↦ byte_unmapped regions numbers pages at unmapped
+])
+
+zero_half : (lower : Bool) → half_of 0 lower ≡ 0
+zero_half true = refl
+zero_half false = refl
+
+pub zero_tags : (regions : List Extent) (numbers : List ℕ) (pages : List Page) (n : ℕ) (p : Page) (granule : ℕ) → pages ≡ replicate n p →
+    ((k : ℕ) → get_or p.tags k 0 ≡ 0) → tag_in_pages regions numbers pages granule ≡ 0
+zero_tags regions numbers pages n p granule is zeros = elim (cases_Bool (is_mapped regions (granule * 16))) [
+  | inl mapped ↦
+      rw mapped
+      (in_pages_zero (λ q. page_tag q (granule % 256)) numbers pages (granule / 256)
+      (subst (All (λ q. page_tag q (granule % 256) ≡ 0)) (sym is)
+      (All-replicate (λ q. page_tag q (granule % 256) ≡ 0) n p
+      (ap (λ b. half_of b (granule % 256 % 2 == 0)) (zeros (granule % 256 / 2)) ∙ zero_half (granule % 256 % 2 == 0)))))
+  | inr unmapped ↦ rw unmapped refl
+]

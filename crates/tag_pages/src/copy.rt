@@ -85,7 +85,11 @@ fn gather(
         };
         let address = at + done as u64;
         let count = part.room(address, out.len() - done);
-        put_bytes(out, done, part_bytes(regions, numbers, pages, part, address, count));
+        put_bytes(
+            out,
+            done,
+            part_bytes(regions, numbers, pages, part, address, count),
+        );
         done += count;
     }
 }
@@ -117,7 +121,14 @@ pub fn scatter(
         };
         let address = at + done as u64;
         let count = part.room(address, bytes.len() - done);
-        put_part(regions, numbers, pages, part, address, &bytes[done..done + count]);
+        put_part(
+            regions,
+            numbers,
+            pages,
+            part,
+            address,
+            &bytes[done..done + count],
+        );
         done += count;
     }
 }

@@ -10,11 +10,7 @@ use std::alloc::{AllocError, Global};
 /// leaves, a part of such a page.
 ///
 /// A look-up tests what it finds, so no contract says which part stands where.
-pub fn table_of(
-    alloc: Global,
-    regions: &[Bounds],
-    numbers: &[u64],
-) -> Result<Vec<Part>, AllocError>
+pub fn table_of(alloc: Global, regions: &[Bounds], numbers: &[u64]) -> Result<Vec<Part>, AllocError>
     requires laid_out { IsLaidOut (extents regions.now) numbers.now }
     ensures { IfOk result (λ parts. All (IsPart (extents regions.now) numbers.now) parts.items) }
 {

@@ -46,23 +46,12 @@ fn writable_part(regions: &[Bounds], numbers: &[u64], parts: &[Part], at: u64) -
     ensures none { IfNone result (is_protected (extents regions.now) at ≡ false → is_mapped (extents regions.now) at ≡ false) }
 {
     let part = part_at(regions, numbers, parts, at)?;
-    if part.writable {
-        Some(part)
-    } else {
-        None
-    }
+    if part.writable { Some(part) } else { None }
 }
 
 /// Sets the tag of the granule of an address of a part.
 #[inline(always)]
-fn put_tag(
-    regions: &[Bounds],
-    numbers: &[u64],
-    pages: &mut [Page],
-    part: Part,
-    at: u64,
-    tag: Tag,
-)
+fn put_tag(regions: &[Bounds], numbers: &[u64], pages: &mut [Page], part: Part, at: u64, tag: Tag)
     requires laid_out { IsLaidOut (extents regions.now) numbers.now }
     requires paged { length pages.old ≡ length numbers.now }
     requires part { IsPartAt (extents regions.now) numbers.now at part }

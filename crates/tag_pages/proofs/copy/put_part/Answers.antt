@@ -20,6 +20,6 @@ returns-clause-bytes c =
 pub returns-clause-tags : goal.returns-clause-tags
 returns-clause-tags c =
     tag_same_page (extents c.args.regions.now) c.args.numbers.now c.args.pages.now c.args.part.page
-    (get_or c.args.pages.now c.args.part.page _) c.put.new.self 
+    (get_or c.args.pages.now c.args.part.page _) c.put.new.self
     (stored_at (extents c.args.regions.now) c.args.numbers.now c.args.pages.now c.args.at c.args.part _ c.requires.laid_out
     c.requires.paged c.requires.part).is c.put.ensures.tags
