@@ -8,7 +8,7 @@ ghost use Rattle.tag_pages.specs.Parts.{extents, IsLaidOut, IsPart, IsPartAt};
 
 use crate::bounds::Bounds;
 use crate::judge::{judge_read, judge_write};
-use crate::page::{PAGE_BYTES, Page};
+use crate::page::{PAGE_BYTES, Page, copy_bytes};
 use crate::part::{Part, part_at, part_behind};
 use tag_mem::{Access, Span64};
 
@@ -155,7 +155,8 @@ pub fn read_bytes(
     if let Some(part) = part_at(regions, numbers, parts, at)
         && part.room(at, out.len()) == out.len()
     {
-        out.copy_from_slice(part_bytes(regions, numbers, pages, part, at, out.len()));
+        let count = out.len();
+        copy_bytes(out, part_bytes(regions, numbers, pages, part, at, count));
         return Access::Done;
     }
     let answer = judge_read(regions, numbers, parts, guard, at, out.len());

@@ -13,5 +13,6 @@ mod part;
 mod table;
 mod tags;
 
+pub use bounds::Bounds;
 pub use page::Page;
 pub use paged::PagedMemory;

@@ -39,7 +39,7 @@ impl Page {
         ensures bytes { self.new.bytes ≡ put_list self.old.bytes offset source.now }
         ensures tags { self.new.tags ≡ self.old.tags }
     {
-        self.bytes[offset..offset + source.len()].copy_from_slice(source);
+        copy_bytes(&mut self.bytes[offset..offset + source.len()], source);
     }
 
     /// So many bytes from the place `offset` on.
@@ -78,6 +78,25 @@ impl Page {
     {
         let byte = self.tags[granule / 2];
         self.tags[granule / 2] = with_tag(byte, granule % 2 == 0, tag);
+    }
+}
+
+/// Copies bytes. The lengths of the accesses of instructions have a copy of their own, which needs no loop.
+#[inline(always)]
+pub(crate) fn copy_bytes(out: &mut [u8], from: &[u8])
+    requires { length from.now ≡ length out.old }
+    ensures { out.new ≡ from.now }
+{
+    if out.len() == 8 {
+        out.copy_from_slice(from);
+    } else if out.len() == 4 {
+        out.copy_from_slice(from);
+    } else if out.len() == 1 {
+        out.copy_from_slice(from);
+    } else if out.len() == 16 {
+        out.copy_from_slice(from);
+    } else {
+        out.copy_from_slice(from);
     }
 }
 

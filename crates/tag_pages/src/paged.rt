@@ -1,10 +1,10 @@
-ghost use Rattle.std.specs.Prelude.{◌≡◌, ℕ, IfOk, length};
+ghost use Rattle.std.specs.Prelude.{◌≡◌, ℕ, true, IfOk, length};
 ghost use Rattle.std.specs.List.{All};
 ghost use Rattle.tag_mem.specs.Regions.{extents_of, span_of, byte_in, IsWellPlaced};
 ghost use Rattle.tag_pages.specs.Parts.{extents, IsLaidOut, IsPart};
 
 use crate::bounds::{Bounds, bounds_of};
-use crate::copy::{read_bytes, write_bytes};
+use crate::copy::{read_bytes, scatter, write_bytes};
 use crate::fetch::fetch_word;
 use crate::fill::fill;
 use crate::numbers::numbers_of;
@@ -61,6 +61,52 @@ impl PagedMemory {
             parts,
             guard,
         })
+    }
+}
+
+impl PagedMemory {
+    ghost use Rattle.mt_base.specs.Memory.{is_mapped, every_byte, store_bytes};
+
+    /// The same with bounds in the place of regions: all bytes are 0.
+    pub fn zeros(
+        alloc: Global,
+        regions: Vec<Bounds>,
+        guard: Span64,
+    ) -> Result<PagedMemory, AllocError>
+        requires { IsWellPlaced (extents regions.items) (span_of guard) }
+        ensures regions { IfOk result (λ m. ⟦<PagedMemory as TagMemory>⟧.regions m ≡ extents regions.items) }
+        ensures guard { IfOk result (λ m. ⟦<PagedMemory as TagMemory>⟧.guard m ≡ span_of guard) }
+        ensures bytes { IfOk result (λ m. (at : ℕ) → ⟦<PagedMemory as TagMemory>⟧.byte m at ≡ 0) }
+        ensures tags { IfOk result (λ m. (granule : ℕ) → ⟦<PagedMemory as TagMemory>⟧.tags m granule ≡ 0) }
+    {
+        let numbers = numbers_of(alloc, &regions)?;
+        let parts = table_of(alloc, &regions, &numbers)?;
+        let pages = vec![in alloc; Page::blank(); numbers.len()]?;
+        Ok(PagedMemory {
+            pages,
+            numbers,
+            regions,
+            parts,
+            guard,
+        })
+    }
+
+    /// Puts bytes to the address, whether or not they may be written there.
+    pub fn load(&mut self, at: u64, bytes: &[u8])
+        requires { every_byte (is_mapped (⟦<PagedMemory as TagMemory>⟧.regions self.old)) at (length bytes.now) ≡ true }
+        ensures bytes { ⟦<PagedMemory as TagMemory>⟧.byte self.new ≡ store_bytes (⟦<PagedMemory as TagMemory>⟧.byte self.old) at bytes.now }
+        ensures tags { ⟦<PagedMemory as TagMemory>⟧.tags self.new ≡ ⟦<PagedMemory as TagMemory>⟧.tags self.old }
+        ensures regions { ⟦<PagedMemory as TagMemory>⟧.regions self.new ≡ ⟦<PagedMemory as TagMemory>⟧.regions self.old }
+        ensures guard { ⟦<PagedMemory as TagMemory>⟧.guard self.new ≡ ⟦<PagedMemory as TagMemory>⟧.guard self.old }
+    {
+        scatter(
+            &self.regions,
+            &self.numbers,
+            &self.parts,
+            &mut self.pages,
+            at,
+            bytes,
+        );
     }
 }
 

@@ -6,6 +6,9 @@ use crate::bounds::Bounds;
 use crate::part::{Part, entry_of, part_of};
 use std::alloc::{AllocError, Global};
 
+/// The least number of entries.
+const LEAST: usize = 1024;
+
 /// A table with one entry or more for each page, in which a look-up begins: for each remainder that the number of a page
 /// leaves, a part of such a page.
 ///
@@ -14,7 +17,7 @@ pub fn table_of(alloc: Global, regions: &[Bounds], numbers: &[u64]) -> Result<Ve
     requires laid_out { IsLaidOut (extents regions.now) numbers.now }
     ensures { IfOk result (λ parts. All (IsPart (extents regions.now) numbers.now) parts.items) }
 {
-    let entries = numbers.len().min(1 << 48).next_power_of_two();
+    let entries = numbers.len().max(LEAST).min(1 << 48).next_power_of_two();
     let mut parts = vec![in alloc; Part::none(); entries]?;
     for place in 0..regions.len() {
         enter_region(regions, numbers, &mut parts, place);
