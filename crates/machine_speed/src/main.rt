@@ -72,7 +72,7 @@ fn measured(alloc: Global, steps: u64, kind: Kind) -> Result<MachineEnd, AllocEr
         Kind::Pages => run(alloc, PagedMemory::new(alloc, small(alloc)?, guard)?, steps),
         Kind::Largest => run(
             alloc,
-            PagedMemory::new(alloc, largest(alloc)?, guard)?,
+            PagedMemory::zeros(alloc, largest(alloc)?, guard)?,
             steps,
         ),
     }
