@@ -1,0 +1,10 @@
+pub mod Mapped
+pub mod Bytes
+pub mod Guard
+pub mod Pieces
+pub mod Words
+pub mod Places
+pub mod Held
+pub mod Parts
+pub mod Stored
+pub mod Filled
