@@ -29,29 +29,34 @@ fn last_position(slots: &[Slot], number: u64) -> Option<usize>
     None
 }
 
-/// Where the slot of a block stands, if the block is alive: where a hint says, and else the slots are looked through.
-pub fn position(slots: &[Slot], number: u64, hint: usize) -> Option<usize>
+/// Where the slot of a block stands, if the block is alive: where the order of the numbers says, and else the slots are looked through.
+fn position_by_order(slots: &[Slot], number: u64) -> Option<usize>
     ensures { IsPosition slots.now number result }
 {
-    if stands_at(slots, number, hint) {
-        Some(hint)
+    let index = slots.partition_point(|slot| slot.number < number);
+    if stands_at(slots, number, index) {
+        Some(index)
     } else {
         last_position(slots, number)
     }
 }
 
-/// Where the slot of a block stands, and the hint anew.
+/// How many hints there are for where slots stand.
+pub const HINTS: usize = 4096;
+
+/// Where the slot of a block stands, if the block is alive, by the hint for its number, which is told anew.
 pub fn located(slots: &[Slot], hints: &mut [usize], number: u64) -> Option<usize>
     ensures { IsPosition slots.now number result }
 {
-    let count = hints.len() as u64;
-    if count == 0 {
-        return last_position(slots, number);
+    let Some(hint) = hints.get_mut(number as usize % HINTS) else {
+        return position_by_order(slots, number);
+    };
+    if stands_at(slots, number, *hint) {
+        return Some(*hint);
     }
-    let place = (number % count) as usize;
-    let index = position(slots, number, hints[place]);
+    let index = position_by_order(slots, number);
     if let Some(index) = index {
-        hints[place] = index;
+        *hint = index;
     }
     index
 }

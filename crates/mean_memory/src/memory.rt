@@ -6,7 +6,7 @@ ghost use Rattle.block_meaning.specs.declared.cell.Cell.TheVariants.{Byte};
 use crate::compare::{Ends, compared_by};
 use crate::copying::{Part, copy_between, copy_slot};
 use crate::judge::{read_in, reason_after, reason_against};
-use crate::lookup::{found, located};
+use crate::lookup::{HINTS, found, located};
 use crate::owner::{all_before, is_latest, is_latest_of, may_push};
 use crate::slot::Slot;
 use crate::storing::{store_bytes_slot, store_slot};
@@ -24,12 +24,9 @@ pub struct Memory {
     slots: Vec<Slot>,
     /// The number of the next block.
     next: u64,
-    /// Where slots may stand, by the numbers of their blocks modulo the length.
+    /// Where slots may stand, by the numbers of their blocks modulo `HINTS`.
     hints: Vec<usize>,
 }
-
-/// How many hints a memory has.
-const HINTS: usize = 4096;
 
 impl Memory {
     ghost use Rattle.block_meaning.specs.Access as spec;

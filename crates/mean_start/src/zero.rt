@@ -49,6 +49,7 @@ fn repeated(alloc: Global, cells: &[Cell], count: u64) -> Result<Vec<Cell>, Allo
     if cells.is_empty() {
         return Ok(made);
     }
+    made.reserve_exact(cells.len().saturating_mul(count as usize))?;
     for _ in 0..count {
         made.extend_from_slice(cells)?;
     }
