@@ -3,18 +3,18 @@ use Rattle.std.proofs.Common.{◌≡◌, ◌⊎◌, ℕ, List, Some, refl, ap, i
 use Rattle.mt_compile.specs.Refused.{IsRefused}
 use Rattle.mt_compile.specs.Source.{ReturnsConstant}
 use Rattle.mt_pipeline.specs.Build.{WritesBuilt, CauseOfBuild, written, write_failed, refused, unread, no_memory}
-use Rattle.mt_pipeline.specs.Answer.{ended_of}
-use Rattle.mt_pipeline.specs.Counted.{Uncounted}
-use Rattle.mt_pipeline.specs.Read.{CauseOfNoBytes}
-use Rattle.mt_pipeline.specs.Unread.{answer_to_unread, why_unread}
-use Rattle.mt_pipeline.specs.declared.read.Unread.{Unread}
-use Rattle.mt_pipeline.specs.declared.read.Unread.TheVariants.{Absent, Failed, NoMemory as WantsMemory}
-use Rattle.mt_pipeline.specs.Seen.{FilesSeen, bytes_of, ReadFailed, WriteFailed, SameFiles}
-use Rattle.mt_pipeline.specs.Status.{ends}
-use Rattle.mt_pipeline.specs.declared.ended.Ended.{Ended}
-use Rattle.mt_pipeline.specs.declared.ended.Why.TheVariants.{Done, Refused, NoMemory, Usage}
+use Rattle.mt_answers.specs.Answer.{ended_of}
+use Rattle.mt_answers.specs.Counted.{Uncounted}
+use Rattle.mt_answers.specs.Read.{CauseOfNoBytes}
+use Rattle.mt_answers.specs.Unread.{answer_to_unread, why_unread}
+use Rattle.mt_answers.specs.declared.read.Unread.{Unread}
+use Rattle.mt_answers.specs.declared.read.Unread.TheVariants.{Absent, Failed, NoMemory as WantsMemory}
+use Rattle.mt_answers.specs.Seen.{FilesSeen, bytes_of, ReadFailed, WriteFailed, SameFiles}
+use Rattle.mt_answers.specs.Status.{ends}
+use Rattle.mt_answers.specs.declared.ended.Ended.{Ended}
+use Rattle.mt_answers.specs.declared.ended.Why.TheVariants.{Done, Refused, NoMemory, Usage}
 use Rattle.mt_pipeline.proofs.GoCauses.{holds_refused, refused_same, refused_built}
-use Rattle.mt_pipeline.proofs.SameBytes.{unread_wants}
+use Rattle.mt_answers.specs.Laws.SameBytes.{unread_wants}
 use Rattle.mt_pipeline.proofs.Statuses.{unread_not_usage}
 
 module _ (file out : List ℕ) (before after : FilesSeen) where

@@ -5,16 +5,16 @@ use Rattle.mt_compile.specs.Refused.{Refuses, IsCause as IsSourceCause, unread, 
 use Rattle.mt_compile.specs.declared.refusal.CompileRefusal.{CompileRefusal}
 use Rattle.mt_compile.specs.declared.refusal.CompileRefusal.TheVariants as compile
 use Rattle.mt_compile.specs.declared.refused.Refused.{Refused}
-use Rattle.mt_pipeline.specs.Answer.{ended_of}
+use Rattle.mt_answers.specs.Answer.{ended_of}
 use Rattle.mt_pipeline.specs.Build.{CauseOfBuild, refused as build_refused, no_memory as build_no_memory}
 use Rattle.mt_pipeline.specs.Built.{AreCompiled, RefusesLink, too_many, twice, no_main, RefusesTexts, source, link, file_number}
 use Rattle.mt_pipeline.specs.Go.{CauseOfGo, refused as go_refused, no_memory as go_no_memory}
-use Rattle.mt_pipeline.specs.Seen.{FilesSeen, Seen, MayHold, SameFiles, IsSilent}
+use Rattle.mt_answers.specs.Seen.{FilesSeen, Seen, MayHold, SameFiles, IsSilent}
 use Rattle.mt_pipeline.specs.Unbuilt.{IsCause, of_source, of_link, answer_to, answer_of}
-use Rattle.mt_pipeline.specs.declared.refusal.BuildRefusal.{BuildRefusal}
-use Rattle.mt_pipeline.specs.declared.refusal.BuildRefusal.TheVariants as build
-use Rattle.mt_pipeline.specs.declared.refusal.LinkRefusal.{LinkRefusal}
-use Rattle.mt_pipeline.specs.declared.refusal.LinkRefusal.TheVariants as linking
+use Rattle.mt_answers.specs.declared.refusal.BuildRefusal.{BuildRefusal}
+use Rattle.mt_answers.specs.declared.refusal.BuildRefusal.TheVariants as build
+use Rattle.mt_answers.specs.declared.refusal.LinkRefusal.{LinkRefusal}
+use Rattle.mt_answers.specs.declared.refusal.LinkRefusal.TheVariants as linking
 
 -- ---- of the build
 

@@ -9,20 +9,20 @@ use Rattle.mt_compile.specs.Laws.OneRefusal.{no_constant, one_refusal}
 use Rattle.mt_compile.specs.declared.refusal.CompileRefusal.{CompileRefusal}
 use Rattle.mt_pipeline.specs.Built.{Builds}
 use Rattle.mt_pipeline.specs.Go.{GoAnswers, CauseOfGo, ran, refused, unread, no_memory}
-use Rattle.mt_pipeline.specs.Counted.{UncountedReads}
+use Rattle.mt_answers.specs.Counted.{UncountedReads}
 use Rattle.mt_pipeline.specs.Ran.{RunsTo}
-use Rattle.mt_pipeline.specs.Answer.{ended_of}
-use Rattle.mt_pipeline.specs.Read.{CauseOfNoBytes}
-use Rattle.mt_pipeline.specs.Unread.{answer_to_unread, why_unread}
-use Rattle.mt_pipeline.specs.declared.read.Unread.{Unread}
-use Rattle.mt_pipeline.specs.declared.read.Unread.TheVariants.{Absent, Failed, NoMemory as WantsMemory}
-use Rattle.mt_pipeline.specs.Seen.{FilesSeen, Seen, bytes_of, MayHold, ReadFailed, SameFiles, IsSilent}
-use Rattle.mt_pipeline.specs.Status.{ends, ended_so}
+use Rattle.mt_answers.specs.Answer.{ended_of}
+use Rattle.mt_answers.specs.Read.{CauseOfNoBytes}
+use Rattle.mt_answers.specs.Unread.{answer_to_unread, why_unread}
+use Rattle.mt_answers.specs.declared.read.Unread.{Unread}
+use Rattle.mt_answers.specs.declared.read.Unread.TheVariants.{Absent, Failed, NoMemory as WantsMemory}
+use Rattle.mt_answers.specs.Seen.{FilesSeen, Seen, bytes_of, MayHold, ReadFailed, SameFiles, IsSilent}
+use Rattle.mt_answers.specs.Status.{ends, ended_so}
 use Rattle.mt_pipeline.specs.Laws.BuiltLaws.{image_of_one, of_constant}
-use Rattle.mt_pipeline.specs.declared.ended.Ended.{Ended}
-use Rattle.mt_pipeline.specs.declared.ended.Why.TheVariants.{Exited, Refused, NoMemory, Usage}
+use Rattle.mt_answers.specs.declared.ended.Ended.{Ended}
+use Rattle.mt_answers.specs.declared.ended.Why.TheVariants.{Exited, Refused, NoMemory, Usage}
 use Rattle.mt_pipeline.specs.Laws.ConstantRun.{constant_exits}
-use Rattle.mt_pipeline.proofs.SameBytes.{same_bytes, unread_wants}
+use Rattle.mt_answers.specs.Laws.SameBytes.{same_bytes, unread_wants}
 use Rattle.mt_pipeline.proofs.Statuses.{exits_late, ran_not_usage, unread_not_usage}
 
 -- a file that holds a constant is not refused

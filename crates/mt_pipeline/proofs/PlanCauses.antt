@@ -7,20 +7,20 @@ use Rattle.mt_compile.specs.Laws.OnePlan.{one_plan, one_plan_refusal, no_plan}
 use Rattle.mt_compile.specs.declared.refusal.CompileRefusal.{CompileRefusal}
 use Rattle.mt_compile.specs.declared.refusal.CompileRefusal.TheVariants.{NoMemory as SourceNoMemory}
 use Rattle.mt_pipeline.specs.Plan.{CauseOfPlan, put, put_failed, refused, unread, no_memory, Plans}
-use Rattle.mt_pipeline.specs.Put.{Output, PutsAll, with_output, IsPut, all, part}
-use Rattle.mt_pipeline.specs.Counted.{UncountedReads}
-use Rattle.mt_pipeline.specs.Answer.{ended_of}
-use Rattle.mt_pipeline.specs.Read.{CauseOfNoBytes}
+use Rattle.mt_answers.specs.Put.{Output, PutsAll, with_output, IsPut, all, part}
+use Rattle.mt_answers.specs.Counted.{UncountedReads}
+use Rattle.mt_answers.specs.Answer.{ended_of}
+use Rattle.mt_answers.specs.Read.{CauseOfNoBytes}
 use Rattle.mt_pipeline.specs.Unplanned.{answer_to_source}
-use Rattle.mt_pipeline.specs.Unread.{answer_to_unread, why_unread}
-use Rattle.mt_pipeline.specs.declared.answer.Answer.{Answer}
-use Rattle.mt_pipeline.specs.declared.read.Unread.{Unread}
-use Rattle.mt_pipeline.specs.declared.read.Unread.TheVariants.{Absent, Failed, NoMemory as WantsMemory}
-use Rattle.mt_pipeline.specs.Seen.{FilesSeen, MayHold, bytes_of, ReadFailed, SameFiles}
-use Rattle.mt_pipeline.specs.Status.{ends}
-use Rattle.mt_pipeline.specs.declared.ended.Ended.{Ended}
-use Rattle.mt_pipeline.specs.declared.ended.Why.TheVariants.{Done, Refused, NoMemory, Usage}
-use Rattle.mt_pipeline.proofs.SameBytes.{same_bytes, unread_wants}
+use Rattle.mt_answers.specs.Unread.{answer_to_unread, why_unread}
+use Rattle.mt_answers.specs.declared.answer.Answer.{Answer}
+use Rattle.mt_answers.specs.declared.read.Unread.{Unread}
+use Rattle.mt_answers.specs.declared.read.Unread.TheVariants.{Absent, Failed, NoMemory as WantsMemory}
+use Rattle.mt_answers.specs.Seen.{FilesSeen, MayHold, bytes_of, ReadFailed, SameFiles}
+use Rattle.mt_answers.specs.Status.{ends}
+use Rattle.mt_answers.specs.declared.ended.Ended.{Ended}
+use Rattle.mt_answers.specs.declared.ended.Why.TheVariants.{Done, Refused, NoMemory, Usage}
+use Rattle.mt_answers.specs.Laws.SameBytes.{same_bytes, unread_wants}
 use Rattle.mt_pipeline.proofs.Statuses.{unread_not_usage}
 
 -- a text that is refused is refused so

@@ -8,24 +8,24 @@ use Rattle.elf_image.specs.Laws.ConstantLaws.{constant_is_file}
 use Rattle.elf_image.specs.Laws.OneImage.{one_image}
 use Rattle.tag_startup.specs.Loaded.{HoldsCodeAlone}
 use Rattle.tag_startup.specs.declared.refusal.StartRefusal.TheVariants.{NotYet}
-use Rattle.mt_pipeline.specs.Answer.{ended_of}
-use Rattle.mt_pipeline.specs.Counted.{UncountedReads}
+use Rattle.mt_answers.specs.Answer.{ended_of}
+use Rattle.mt_answers.specs.Counted.{UncountedReads}
 use Rattle.mt_pipeline.specs.Ran.{RunsTo}
-use Rattle.mt_pipeline.specs.Read.{CauseOfNoBytes}
+use Rattle.mt_answers.specs.Read.{CauseOfNoBytes}
 use Rattle.mt_pipeline.specs.RunFile.{RefusesRun, no_image, no_start, RunAnswers, CauseOfRun, ran, refused, unread, no_memory}
-use Rattle.mt_pipeline.specs.Seen.{Seen, MayHold, bytes_of, ReadFailed, SameFiles, IsSilent}
-use Rattle.mt_pipeline.specs.Status.{ends, ended_so, ComesBeforeRun, run_number, run_place}
-use Rattle.mt_pipeline.specs.Unread.{answer_to_unread, why_unread}
-use Rattle.mt_pipeline.specs.Unrun.{answer_to_run}
+use Rattle.mt_answers.specs.Seen.{Seen, MayHold, bytes_of, ReadFailed, SameFiles, IsSilent}
+use Rattle.mt_answers.specs.Status.{ends, ended_so, ComesBeforeRun, run_number, run_place}
+use Rattle.mt_answers.specs.Unread.{answer_to_unread, why_unread}
+use Rattle.mt_answers.specs.Unrun.{answer_to_run}
 use Rattle.mt_pipeline.specs.Laws.ConstantRun.{constant_exits, constant_starts}
 use Rattle.mt_pipeline.specs.Laws.OneRun.{no_refusal, one_cause}
-use Rattle.mt_pipeline.specs.declared.ended.Ended.{Ended}
-use Rattle.mt_pipeline.specs.declared.ended.Why.TheVariants.{Exited, BadImage, NoMemory, Usage}
-use Rattle.mt_pipeline.specs.declared.read.Unread.{Unread}
-use Rattle.mt_pipeline.specs.declared.read.Unread.TheVariants.{Absent, Failed, NoMemory as WantsMemory}
-use Rattle.mt_pipeline.specs.declared.refusal.RunRefusal.{RunRefusal}
-use Rattle.mt_pipeline.specs.declared.refusal.RunRefusal.TheVariants as run
-use Rattle.mt_pipeline.proofs.SameBytes.{same_bytes, unread_wants}
+use Rattle.mt_answers.specs.declared.ended.Ended.{Ended}
+use Rattle.mt_answers.specs.declared.ended.Why.TheVariants.{Exited, BadImage, NoMemory, Usage}
+use Rattle.mt_answers.specs.declared.read.Unread.{Unread}
+use Rattle.mt_answers.specs.declared.read.Unread.TheVariants.{Absent, Failed, NoMemory as WantsMemory}
+use Rattle.mt_answers.specs.declared.refusal.RunRefusal.{RunRefusal}
+use Rattle.mt_answers.specs.declared.refusal.RunRefusal.TheVariants as run
+use Rattle.mt_answers.specs.Laws.SameBytes.{same_bytes, unread_wants}
 use Rattle.mt_pipeline.proofs.Statuses.{exits_late, ran_after, ran_not_usage, unread_not_usage}
 
 module _ {S K : Type 0} (file : List ℕ) (steps : ℕ) (before after : Seen S K) where

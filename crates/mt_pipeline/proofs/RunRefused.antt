@@ -9,9 +9,9 @@ use Rattle.tag_startup.specs.Loaded.{HoldsCodeAlone}
 use Rattle.tag_startup.specs.declared.refusal.StartRefusal.{StartRefusal}
 use Rattle.tag_startup.specs.declared.refusal.StartRefusal.TheVariants as start
 use Rattle.mt_pipeline.specs.RunFile.{RefusesRun, no_image, no_start}
-use Rattle.mt_pipeline.specs.Unrun.{of_image, of_start}
-use Rattle.mt_pipeline.specs.declared.refusal.RunRefusal.{RunRefusal}
-use Rattle.mt_pipeline.specs.declared.refusal.RunRefusal.TheVariants.{NoMemory}
+use Rattle.mt_answers.specs.Unrun.{of_image, of_start}
+use Rattle.mt_answers.specs.declared.refusal.RunRefusal.{RunRefusal}
+use Rattle.mt_answers.specs.declared.refusal.RunRefusal.TheVariants.{NoMemory}
 
 -- memory is wanting, or the bytes do not run for this
 abbrev pub IsRefusal : List ℕ → RunRefusal → Type 0

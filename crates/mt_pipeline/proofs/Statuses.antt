@@ -7,12 +7,12 @@ use Rattle.mte_machine.specs.Objects.{Objects}
 use Rattle.tag_startup.specs.Machine.{ending}
 use Rattle.mt_pipeline.specs.Agrees.{ExitsAlways}
 use Rattle.mt_pipeline.specs.Ran.{RunsTo, default_choices, default_stack}
-use Rattle.mt_pipeline.specs.Read.{CauseOfNoBytes, absent, failed, no_memory}
-use Rattle.mt_pipeline.specs.Seen.{FilesSeen}
-use Rattle.mt_pipeline.specs.Status.{ended_by, ended_so, why_of, ComesBeforeRun}
-use Rattle.mt_pipeline.specs.declared.ended.Ended.{Ended}
-use Rattle.mt_pipeline.specs.declared.ended.Why.{Why}
-use Rattle.mt_pipeline.specs.declared.ended.Why.TheVariants.{Exited, Usage}
+use Rattle.mt_answers.specs.Read.{CauseOfNoBytes, absent, failed, no_memory}
+use Rattle.mt_answers.specs.Seen.{FilesSeen}
+use Rattle.mt_answers.specs.Status.{ended_by, ended_so, why_of, ComesBeforeRun}
+use Rattle.mt_answers.specs.declared.ended.Ended.{Ended}
+use Rattle.mt_answers.specs.declared.ended.Why.{Why}
+use Rattle.mt_answers.specs.declared.ended.Why.TheVariants.{Exited, Usage}
 
 -- no run ends as a call does that runs nothing
 pub ran_after : (e : MachineEnd) → ComesBeforeRun (why_of e) → ⊥

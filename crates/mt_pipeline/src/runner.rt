@@ -8,8 +8,8 @@ ghost use Rattle.mte_machine.specs.Objects.{objects};
 ghost use Rattle.tag_startup.specs.Loaded.{HoldsCodeAlone, IsStack};
 ghost use Rattle.tag_startup.specs.Machine.{RunsImage, launch};
 
-use crate::refusal::RunRefusal;
 use elf_image::{ImageParts, read_image};
+use mt_answers::RunRefusal;
 use mt_base::Tag;
 use mt_outside::{Sink, Source};
 use mte_machine::MachineEnd;

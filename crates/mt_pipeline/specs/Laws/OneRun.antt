@@ -6,8 +6,8 @@ use Rattle.elf_image.specs.Laws.OneAnswer.{not_both, one_fault}
 use Rattle.elf_image.specs.Laws.OneImage.{one_image}
 use Rattle.tag_startup.specs.Loaded.{HoldsCodeAlone}
 use Rattle.mt_pipeline.specs.RunFile.{RefusesRun, no_image, no_start}
-use Rattle.mt_pipeline.specs.declared.refusal.RunRefusal.{RunRefusal}
-use Rattle.mt_pipeline.specs.declared.refusal.RunRefusal.TheVariants.{Image as BadImage, NoMemory}
+use Rattle.mt_answers.specs.declared.refusal.RunRefusal.{RunRefusal}
+use Rattle.mt_answers.specs.declared.refusal.RunRefusal.TheVariants.{Image as BadImage, NoMemory}
 
 -- an image of code alone runs
 pub no_refusal : (bytes : List ℕ) (image : Image) (cause : RunRefusal) → IsFileOf image bytes → HoldsCodeAlone image →

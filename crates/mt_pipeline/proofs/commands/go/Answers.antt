@@ -2,20 +2,20 @@ use Rattle.std.proofs.Common.{[], ◌∷◌, refl, sym, subst}
 use Rattle.mte_machine.specs.Objects.{objects}
 use Rattle.elf_image.specs.Image.{image_of}
 use Rattle.tag_startup.specs.Machine.{RunsImage, launch}
-use Rattle.mt_pipeline.specs.declared.answer.Answer.{Answer}
-use Rattle.mt_pipeline.specs.Answer.{ended_of}
+use Rattle.mt_answers.specs.declared.answer.Answer.{Answer}
+use Rattle.mt_answers.specs.Answer.{ended_of}
 use Rattle.mt_pipeline.specs.Go.{GoAnswers, ran, no_memory}
 use Rattle.mt_pipeline.specs.Ran.{default_stack}
-use Rattle.mt_pipeline.specs.Seen.{seen, files_seen}
-use Rattle.mt_pipeline.specs.Status.{ended_by}
+use Rattle.mt_answers.specs.Seen.{seen, files_seen}
+use Rattle.mt_answers.specs.Status.{ended_by}
 use Rattle.mt_pipeline.specs.Unbuilt.{answer_of}
-use Rattle.mt_pipeline.specs.Unread.{answer_to_unread}
+use Rattle.mt_answers.specs.Unread.{answer_to_unread}
 use Rattle.mt_pipeline.proofs.BuildRefused.{go_unbuilt}
 use Rattle.mt_pipeline.proofs.BuiltRuns.{whole}
-use Rattle.mt_pipeline.proofs.Counts.{both_stay, unread_counts}
+use Rattle.mt_answers.specs.Laws.Counts.{both_stay, unread_counts}
 use Rattle.mt_pipeline.proofs.GoCauses.{go_answers, go_unread}
 use Rattle.mt_pipeline.proofs.Quiet.{exits_quiet, same_objects}
-use Rattle.mt_pipeline.proofs.Written.{same_files}
+use Rattle.mt_answers.specs.Laws.Written.{same_files}
 use Rattle.mt_pipeline.proofs.commands.go.Goals as goal
 
 pub run_parts-requires-clause-valid : goal.run_parts-requires-clause-valid

@@ -4,20 +4,20 @@ use Rattle.elf_image.specs.Constant.{constant_image}
 use Rattle.elf_image.specs.ImageFile.{ImageFile}
 use Rattle.elf_image.specs.Ranges.{IsFileOf}
 use Rattle.tag_startup.specs.Machine.{RunsImage, launch}
-use Rattle.mt_pipeline.specs.declared.answer.Answer.{Answer}
-use Rattle.mt_pipeline.specs.declared.refusal.RunRefusal.TheVariants.{NoMemory}
-use Rattle.mt_pipeline.specs.Answer.{ended_of}
+use Rattle.mt_answers.specs.declared.answer.Answer.{Answer}
+use Rattle.mt_answers.specs.declared.refusal.RunRefusal.TheVariants.{NoMemory}
+use Rattle.mt_answers.specs.Answer.{ended_of}
 use Rattle.mt_pipeline.specs.RunFile.{RefusesRun, RunAnswers, ran}
 use Rattle.mt_pipeline.specs.Ran.{default_stack}
-use Rattle.mt_pipeline.specs.Seen.{seen, files_seen}
-use Rattle.mt_pipeline.specs.Status.{ended_by}
-use Rattle.mt_pipeline.specs.Unread.{answer_to_unread}
-use Rattle.mt_pipeline.specs.Unrun.{answer_to_run}
-use Rattle.mt_pipeline.proofs.Counts.{both_stay, unread_counts}
+use Rattle.mt_answers.specs.Seen.{seen, files_seen}
+use Rattle.mt_answers.specs.Status.{ended_by}
+use Rattle.mt_answers.specs.Unread.{answer_to_unread}
+use Rattle.mt_answers.specs.Unrun.{answer_to_run}
+use Rattle.mt_answers.specs.Laws.Counts.{both_stay, unread_counts}
 use Rattle.mt_pipeline.proofs.Quiet.{file_quiet, same_objects}
 use Rattle.mt_pipeline.proofs.RunCauses.{run_answers, run_refused, run_unread}
-use Rattle.mt_pipeline.proofs.SameBytes.{same_bytes}
-use Rattle.mt_pipeline.proofs.Written.{same_files}
+use Rattle.mt_answers.specs.Laws.SameBytes.{same_bytes}
+use Rattle.mt_answers.specs.Laws.Written.{same_files}
 use Rattle.mt_pipeline.proofs.commands.run_file.Goals as goal
 
 -- there were no bytes

@@ -1,15 +1,15 @@
 use Rattle.std.proofs.Common.{ℕ, refl, sym, subst}
 use Rattle.mt_outside.specs.Told.{Rose}
-use Rattle.mt_pipeline.specs.declared.answer.Answer.{Answer}
-use Rattle.mt_pipeline.specs.Answer.{ended_of}
+use Rattle.mt_answers.specs.declared.answer.Answer.{Answer}
+use Rattle.mt_answers.specs.Answer.{ended_of}
 use Rattle.mt_pipeline.specs.Build.{WritesBuilt, written, write_failed, no_memory}
-use Rattle.mt_pipeline.specs.Seen.{files_seen}
+use Rattle.mt_answers.specs.Seen.{files_seen}
 use Rattle.mt_pipeline.specs.Unbuilt.{answer_of}
-use Rattle.mt_pipeline.specs.Unread.{answer_to_unread}
+use Rattle.mt_answers.specs.Unread.{answer_to_unread}
 use Rattle.mt_pipeline.proofs.BuildCauses.{build_answers, build_unread}
 use Rattle.mt_pipeline.proofs.BuildRefused.{build_unbuilt}
-use Rattle.mt_pipeline.proofs.Counts.{both_stay, then_written, unread_counts, unwritten}
-use Rattle.mt_pipeline.proofs.Written.{left_open, same_files, unchanged, written as holds_written}
+use Rattle.mt_answers.specs.Laws.Counts.{both_stay, then_written, unread_counts, unwritten}
+use Rattle.mt_answers.specs.Laws.Written.{left_open, same_files, unchanged, written as holds_written}
 use Rattle.mt_pipeline.proofs.commands.write_built.Goals as goal
 
 -- there were no bytes

@@ -4,9 +4,9 @@ use Rattle.mte_machine.specs.Objects.{objects}
 use Rattle.mt_pipeline.specs.Answers.{Answers}
 use Rattle.mt_pipeline.specs.Command.{job_of}
 use Rattle.mt_pipeline.specs.Job.{Go, Build, Run, Dump, Plan, HasJob}
-use Rattle.mt_pipeline.specs.Seen.{seen, files_seen}
-use Rattle.mt_pipeline.specs.declared.ended.Ended.{Ended}
-use Rattle.mt_pipeline.specs.declared.ended.Why.TheVariants.{Usage}
+use Rattle.mt_answers.specs.Seen.{seen, files_seen}
+use Rattle.mt_answers.specs.declared.ended.Ended.{Ended}
+use Rattle.mt_answers.specs.declared.ended.Why.TheVariants.{Usage}
 use Rattle.mt_pipeline.proofs.Asked.{asked}
 use Rattle.mt_pipeline.proofs.BuildCauses.{build_not_usage}
 use Rattle.mt_pipeline.proofs.DumpCauses.{dump_not_usage}

@@ -2,16 +2,16 @@ use Rattle.std.proofs.Common.{◌≡◌, ◌⊎◌, ◌∙◌, List, ℕ, refl, 
 use Rattle.memtag_dump.specs.Lines.{HasText}
 use Rattle.memtag_dump.specs.Refusal.{HasNoText}
 use Rattle.memtag_dump.specs.declared.refusal.DumpRefusal.TheVariants.{NoMemory}
-use Rattle.mt_pipeline.specs.declared.answer.Answer.{Answer}
-use Rattle.mt_pipeline.specs.Answer.{ended_of}
+use Rattle.mt_answers.specs.declared.answer.Answer.{Answer}
+use Rattle.mt_answers.specs.Answer.{ended_of}
 use Rattle.mt_pipeline.specs.Dump.{Dumps}
-use Rattle.mt_pipeline.specs.Put.{output_seen, with_output}
-use Rattle.mt_pipeline.specs.Seen.{files_seen}
+use Rattle.mt_answers.specs.Put.{output_seen, with_output}
+use Rattle.mt_answers.specs.Seen.{files_seen}
 use Rattle.mt_pipeline.specs.Undumped.{answer_to_dump}
-use Rattle.mt_pipeline.specs.Unread.{answer_to_unread}
-use Rattle.mt_pipeline.proofs.Counts.{both_stay, unread_counts}
+use Rattle.mt_answers.specs.Unread.{answer_to_unread}
+use Rattle.mt_answers.specs.Laws.Counts.{both_stay, unread_counts}
 use Rattle.mt_pipeline.proofs.DumpCauses.{dump_answers, dump_unread, dump_put, dump_refused}
-use Rattle.mt_pipeline.proofs.Written.{same_files}
+use Rattle.mt_answers.specs.Laws.Written.{same_files}
 use Rattle.mt_pipeline.proofs.dump.dump_file.Goals as goal
 
 -- there were no bytes

@@ -1,15 +1,15 @@
 use Rattle.std.proofs.Common.{List, ℕ, refl, sym, subst}
 use Rattle.mt_compile.specs.Planned.{HasPlan, IsPlanCause}
-use Rattle.mt_pipeline.specs.declared.answer.Answer.{Answer}
-use Rattle.mt_pipeline.specs.Answer.{ended_of}
+use Rattle.mt_answers.specs.declared.answer.Answer.{Answer}
+use Rattle.mt_answers.specs.Answer.{ended_of}
 use Rattle.mt_pipeline.specs.Plan.{Plans}
-use Rattle.mt_pipeline.specs.Put.{output_seen, with_output}
-use Rattle.mt_pipeline.specs.Seen.{files_seen}
+use Rattle.mt_answers.specs.Put.{output_seen, with_output}
+use Rattle.mt_answers.specs.Seen.{files_seen}
 use Rattle.mt_pipeline.specs.Unplanned.{answer_to_source}
-use Rattle.mt_pipeline.specs.Unread.{answer_to_unread}
-use Rattle.mt_pipeline.proofs.Counts.{both_stay, unread_counts}
+use Rattle.mt_answers.specs.Unread.{answer_to_unread}
+use Rattle.mt_answers.specs.Laws.Counts.{both_stay, unread_counts}
 use Rattle.mt_pipeline.proofs.PlanCauses.{plan_answers, plan_unread, plan_put, plan_refused}
-use Rattle.mt_pipeline.proofs.Written.{same_files}
+use Rattle.mt_answers.specs.Laws.Written.{same_files}
 use Rattle.mt_pipeline.proofs.plan.plan_file.Goals as goal
 
 -- there were no bytes

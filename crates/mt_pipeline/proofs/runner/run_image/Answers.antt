@@ -4,7 +4,7 @@ use Rattle.elf_image.specs.Laws.OneImage.{one_image}
 use Rattle.mte_machine.specs.Objects.{objects}
 use Rattle.tag_startup.specs.Machine.{RunsImage, launch}
 use Rattle.mt_pipeline.specs.Laws.OneRun.{no_refusal, refused_once}
-use Rattle.mt_pipeline.specs.declared.refusal.RunRefusal.{RunRefusal}
+use Rattle.mt_answers.specs.declared.refusal.RunRefusal.{RunRefusal}
 use Rattle.mt_pipeline.proofs.RunRefused.{IsRefusal, image_cause, start_cause}
 use Rattle.mt_pipeline.proofs.runner.run_image.Goals as goal
 
