@@ -1,0 +1,3 @@
+-- Laws of jobs, for later proofs.
+pub mod Formed
+pub mod OneJob

@@ -1,0 +1,1 @@
+-- Words have one job at most.

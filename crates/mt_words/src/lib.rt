@@ -1,0 +1,8 @@
+//! What the words after the program's name ask for, read by `clap`.
+#![tactic(auto)]
+
+mod job;
+mod words;
+
+pub use job::{Job, MeanOptions, RunOptions};
+pub use words::job_of;
