@@ -1,10 +1,11 @@
 -- The loop over the files of a job: what is made of those that were read, and where it stops.
-use Rattle.std.proofs.Common.{◌≡◌, ◌<◌, ℕ, suc, ◌+◌, List, [], ◌∷◌, ◌++◌, length, get_or, take, drop, Option, Result, IfErr, Ok, Err}
+use Rattle.std.proofs.Common.{◌≡◌, ◌<◌, ℕ, zero, suc, ◌+◌, List, [], ◌∷◌, ◌++◌, length, get_or, take, drop, Result, IfErr, Ok, Err, Bool, true, false}
 use Rattle.std.proofs.Common.{refl, sym, ap, ◌∙◌, subst, inl, inr, arith}
-use Rattle.std.specs.Prelude.{map}
+use Rattle.std.specs.Prelude.{map, if◌then◌else◌}
+use Rattle.std.specs.Result.{is_ok, is_err}
+use Rattle.std.proofs.lemmas.Bool.{true≢false}
 use Rattle.std.specs.Borrow.{Bor}
 use Rattle.std.proofs.lemmas.List.{map_more, take-append-drop, drop_more, length-map, length-take-le, map-append}
-use Rattle.mt_outside.specs.Files.{Contents}
 use Rattle.mt_answers.specs.Answer.{IsAnswerTo}
 use Rattle.mt_answers.specs.Each.{Step, IsMadeOf, AreMadeOf, StopsAt, Stops, unread, refused, here, later, file_number, names_of}
 use Rattle.mt_answers.specs.Read.{CauseOfNoBytes}
@@ -22,6 +23,18 @@ because leads (inr (why, is, cause)) = inr (why, is, leads why cause)
 pub same_seen : (before after : FilesSeen) → after.told ≡ before.told → after.read_faults ≡ before.read_faults →
     after.write_faults ≡ before.write_faults → after ≡ before
 same_seen before after told reads writes = λ i. record { told = told i; read_faults = reads i; write_faults = writes i }
+
+-- an item of a list is one, whatever else stands in its place behind the end
+inside : {A : Type 0} (xs : List A) (i : ℕ) (d e : A) → i < length xs → get_or xs i d ≡ get_or xs i e
+inside [] i d e within = absurd (omega (arith, within))
+inside (x ∷ xs) zero d e within = refl
+inside (x ∷ xs) (suc i) d e within = inside xs i d e (omega (arith, within))
+
+-- a push that did not fail has pushed
+pub pushed : {A B C : Type 0} (pushing : Result A B) (all more new : List C) → new ≡ (if is_ok pushing then more else all) →
+    is_err pushing ≡ false → new ≡ more
+pushed (Ok x) all more new items none = items
+pushed (Err x) all more new items none = absurd (true≢false none)
 
 module _ {B : Type 0} (step : Step B) where
   pub unread_stops : (number : ℕ) (file : List ℕ) (before after : FilesSeen) (answer : Answer) →
@@ -53,11 +66,13 @@ module _ {B : Type 0} (step : Step B) where
       later m all.0 (behind before after (suc n) k front back ms file why (omega (arith, at)) all.1 stops)
 
   -- something was made of one more
-  pub made_so_far : (seen : FilesSeen) (names : List (Bor (List ℕ))) (i : ℕ) (name : Bor (List ℕ)) (made all : List B) (one : B) →
-      i < length names → name ≡ get_or names i name → all ≡ made ++ one ∷ [] →
-      AreMadeOf step seen (names_of (take i names)) made → IsMadeOf step seen name.now one →
+  pub made_so_far : (seen : FilesSeen) (names : List (Bor (List ℕ))) (i : ℕ) (other : Bor (List ℕ)) (made all : List B) (one : B) →
+      i < length names → all ≡ made ++ one ∷ [] →
+      AreMadeOf step seen (names_of (take i names)) made → IsMadeOf step seen (get_or names i other).now one →
       AreMadeOf step seen (names_of (take (i + 1) names)) all
-  made_so_far seen names i name made all one within is more so_far last =
+  made_so_far seen names i other made all one within more so_far last =
+      let name : Bor (List ℕ) = get_or names i other in
+      let is : name ≡ get_or names i name = inside names i other name within in
       let front : names_of (take (i + 1) names) ≡ names_of (take i names) ++ name.now ∷ [] =
       map_more (λ n. n.now) names i name within ∙ ap (λ n. names_of (take i names) ++ n.now ∷ []) (sym is) in
       subst (λ fs. AreMadeOf step seen fs all) (sym front)
@@ -65,11 +80,13 @@ module _ {B : Type 0} (step : Step B) where
       (made_more seen (names_of (take i names)) made name.now one so_far last))
 
   -- nothing was made of the one that comes now
-  pub stops_here : (before after : FilesSeen) (names : List (Bor (List ℕ))) (i : ℕ) (name : Bor (List ℕ)) (made : List B)
-      (answer : Answer) → i < length names → name ≡ get_or names i name → AreMadeOf step before (names_of (take i names)) made →
-      IsAnswerTo (StopsAt step (file_number i) name.now before after) answer →
+  pub stops_here : (before after : FilesSeen) (names : List (Bor (List ℕ))) (i : ℕ) (other : Bor (List ℕ)) (made : List B)
+      (answer : Answer) → i < length names → AreMadeOf step before (names_of (take i names)) made →
+      IsAnswerTo (StopsAt step (file_number i) (get_or names i other).now before after) answer →
       IsAnswerTo (Stops step before after 0 (names_of names)) answer
-  stops_here before after names i name made answer within is so_far cause =
+  stops_here before after names i other made answer within so_far cause =
+      let name : Bor (List ℕ) = get_or names i other in
+      let is : name ≡ get_or names i name = inside names i other name within in
       let rest : drop i names ≡ name ∷ drop (i + 1) names = drop_more names i name within ∙ ap (λ n. n ∷ drop (i + 1) names) (sym is) in
       let parts : names_of names ≡ names_of (take i names) ++ name.now ∷ names_of (drop (i + 1) names) =
       ap names_of (sym (take-append-drop i names) ∙ ap (λ r. take i names ++ r) rest)

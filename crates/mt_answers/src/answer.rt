@@ -1,7 +1,7 @@
 // What a command answers.
 ghost use Rattle.std.specs.Prelude.{◌≡◌};
 ghost use Rattle.mt_answers.specs.Answer.{ended_of};
-ghost use Rattle.mt_answers.specs.Unbuilt.{answer_of};
+ghost use Rattle.mt_answers.specs.Refusals.{answer_to_link, answer_to_source, file_in};
 
 use crate::ended::{Ended, Why};
 use crate::refusal::{LinkRefusal, RunRefusal};

@@ -68,7 +68,7 @@ pub enum BuildRefusal {
 
 impl BuildRefusal {
     ghost use Rattle.mt_answers.specs.Status.{build_number};
-    ghost use Rattle.mt_answers.specs.Unbuilt.{of_link, of_source};
+    ghost use Rattle.mt_answers.specs.Refusals.{of_link, of_source};
 
     /// The refusal's number, and 0 for want of memory.
     pub fn number(&self) -> u8

@@ -6,8 +6,8 @@ use Rattle.elf_image.specs.Image.{Image}
 use Rattle.elf_image.specs.ImageFile.{ImageFile}
 use Rattle.elf_image.specs.Ranges.{IsFileOf}
 use Rattle.elf_image.specs.declared.refusal.ImageRefusal.{ImageRefusal}
-use Rattle.tag_startup.specs.Loaded.{HoldsCodeAlone}
-use Rattle.tag_startup.specs.declared.refusal.StartRefusal.TheVariants.{NotYet}
+use Rattle.tag_startup.specs.Starts.{Starts, StartFault}
+use Rattle.tag_startup.specs.declared.refusal.StartRefusal.{StartRefusal}
 use Rattle.mt_answers.specs.Counted.{UncountedReads}
 use Rattle.mt_words.specs.Jobs.{RunOptions}
 use Rattle.mt_pipeline.specs.Ran.{RunsTo}
@@ -24,8 +24,8 @@ use Rattle.mt_answers.specs.declared.refusal.RunRefusal.TheVariants as run
 pub data RefusesRun (bytes : List ℕ) : RunRefusal → Type 0 where
   -- they are no image, by their first fault
   no_image : (fault : ImageRefusal) → ImageFault bytes fault → RefusesRun bytes (run.Image fault)
-  -- they are an image that holds more than code, which does not start yet
-  no_start : (image : Image) → IsFileOf image bytes → ¬ HoldsCodeAlone image → RefusesRun bytes (run.Start NotYet)
+  -- they are an image that does not start, by its first fault
+  no_start : (image : Image) (fault : StartRefusal) → IsFileOf image bytes → StartFault image fault → RefusesRun bytes (run.Start fault)
 
 -- The answers, each by its cause.
 pub data CauseOfRun {S K : Type 0} (file : List ℕ) (options : RunOptions) (before after : Seen S K) : Ended → Type 0 where
@@ -42,8 +42,8 @@ pub data CauseOfRun {S K : Type 0} (file : List ℕ) (options : RunOptions) (bef
 
 -- What `run` of an image answers, and what it leaves.
 pub record RunAnswers {S K : Type 0} (file : List ℕ) (options : RunOptions) (before after : Seen S K) (ended : Ended) : Type 0 where
-  -- Where the file holds an image of code alone and no read failed, the image runs, or memory is wanting.
-  pub runs : (bytes : List ℕ) (image : Image) → bytes_of before.files file ≡ Some bytes → IsFileOf image bytes → HoldsCodeAlone image →
+  -- Where the file holds an image that starts and no read failed, the image runs, or memory is wanting.
+  pub runs : (bytes : List ℕ) (image : Image) → bytes_of before.files file ≡ Some bytes → IsFileOf image bytes → Starts image →
       ¬ ReadFailed before.files after.files →
       RunsTo image options before.streams after.streams ended ⊎ (ended ≡ ends NoMemory)
   -- That of a constant, which `build` writes, exits with the constant modulo 256 where three steps may run.

@@ -44,10 +44,13 @@ pub fn drive<F: Files, S: Source, K: Sink, E: Sink>(
     ensures status { result.status ≡ status_of result.status result.why }
     ensures quiet { HasNoLine result.why → err.new ≡ err.old }
 {
-    match job_of(alloc, words) {
-        Ok(Some(job)) => finish_job(alloc, &job, files, input, out, err),
-        Ok(None) => finish(err, &[], Answer::Usage),
-        Err(_) => finish(err, &[], Answer::NoMemory),
+    let found = match job_of(alloc, words) {
+        Ok(found) => found,
+        Err(_) => return finish(err, &[], Answer::NoMemory),
+    };
+    match found {
+        Some(job) => finish_job(alloc, &job, files, input, out, err),
+        None => finish(err, &[], Answer::Usage),
     }
 }
 

@@ -9,11 +9,10 @@ ghost use Rattle.mt_words.specs.Model.{run_options};
 
 use crate::runner::run_parts;
 use crate::sources::build_files;
-use mt_answers::{Answer, RunRefusal};
+use mt_answers::Answer;
 use mt_outside::{Files, Sink, Source};
 use mt_words::RunOptions;
 use std::alloc::Global;
-use tag_startup::StartRefusal;
 
 /// Builds sources in memory and runs the image.
 pub fn go<F: Files, S: Source, K: Sink>(
@@ -43,10 +42,7 @@ pub fn go<F: Files, S: Source, K: Sink>(
         out,
     ) {
         Ok(end) => Answer::Ran(end),
-        Err(StartRefusal::NoMemory) => Answer::NoMemory,
-        Err(refusal) => Answer::BadImage {
-            file: 0,
-            refusal: RunRefusal::Start(refusal),
-        },
+        // An image that was built starts, so memory was wanting.
+        Err(_) => Answer::NoMemory,
     }
 }
