@@ -1,7 +1,7 @@
 -- The loop over the files of a job: what is made of those that were read, and where it stops.
-use Rattle.std.proofs.Common.{◌≡◌, ◌<◌, ℕ, zero, suc, ◌+◌, List, [], ◌∷◌, ◌++◌, length, get_or, take, drop, Result, IfErr, Ok, Err, Bool, true, false}
+use Rattle.std.proofs.Common.{◌≡◌, ◌<◌, ℕ, zero, suc, ◌+◌, List, [], ◌∷◌, ◌++◌, length, get_or, take, drop, Result, IfErr, Ok, Err, true, false}
 use Rattle.std.proofs.Common.{refl, sym, ap, ◌∙◌, subst, inl, inr, arith}
-use Rattle.std.specs.Prelude.{map, if◌then◌else◌}
+use Rattle.std.specs.Prelude.{if◌then◌else◌}
 use Rattle.std.specs.Result.{is_ok, is_err}
 use Rattle.std.proofs.lemmas.Bool.{true≢false}
 use Rattle.std.specs.Borrow.{Bor}
@@ -66,7 +66,7 @@ module _ {B : Type 0} (step : Step B) where
       later m all.0 (behind before after (suc n) k front back ms file why (omega (arith, at)) all.1 stops)
 
   -- something was made of one more
-  pub made_so_far : (seen : FilesSeen) (names : List (Bor (List ℕ))) (i : ℕ) (other : Bor (List ℕ)) (made all : List B) (one : B) →
+  made_so_far : (seen : FilesSeen) (names : List (Bor (List ℕ))) (i : ℕ) (other : Bor (List ℕ)) (made all : List B) (one : B) →
       i < length names → all ≡ made ++ one ∷ [] →
       AreMadeOf step seen (names_of (take i names)) made → IsMadeOf step seen (get_or names i other).now one →
       AreMadeOf step seen (names_of (take (i + 1) names)) all
@@ -80,7 +80,7 @@ module _ {B : Type 0} (step : Step B) where
       (made_more seen (names_of (take i names)) made name.now one so_far last))
 
   -- nothing was made of the one that comes now
-  pub stops_here : (before after : FilesSeen) (names : List (Bor (List ℕ))) (i : ℕ) (other : Bor (List ℕ)) (made : List B)
+  stops_here : (before after : FilesSeen) (names : List (Bor (List ℕ))) (i : ℕ) (other : Bor (List ℕ)) (made : List B)
       (answer : Answer) → i < length names → AreMadeOf step before (names_of (take i names)) made →
       IsAnswerTo (StopsAt step (file_number i) (get_or names i other).now before after) answer →
       IsAnswerTo (Stops step before after 0 (names_of names)) answer
@@ -96,3 +96,21 @@ module _ {B : Type 0} (step : Step B) where
       subst (λ fs. IsAnswerTo (Stops step before after 0 fs) answer) (sym parts)
       (because {answer = answer} (λ why stops. behind before after 0 i (names_of (take i names)) (names_of (drop (i + 1) names))
       made name.now why (omega (arith, size)) so_far stops) cause)
+
+  -- the same, where the files outside are as they were at first
+  pub made_now : (seen here : FilesSeen) → here ≡ seen → (names : List (Bor (List ℕ))) (i : ℕ) (other : Bor (List ℕ))
+      (made all : List B) (one : B) → i < length names → all ≡ made ++ one ∷ [] → AreMadeOf step seen (names_of (take i names)) made →
+      IsMadeOf step here (get_or names i other).now one → AreMadeOf step seen (names_of (take (i + 1) names)) all
+  made_now seen here same names i other made all one within more so_far last =
+      made_so_far seen names i other made all one within more so_far
+      (subst (λ s. IsMadeOf step s (get_or names i other).now one) same last)
+
+  pub stops_now : (before here after : FilesSeen) → here ≡ before → (names : List (Bor (List ℕ))) (i : ℕ) (other : Bor (List ℕ))
+      (number : ℕ) → number ≡ file_number i → (made : List B) (answer : Answer) → i < length names →
+      AreMadeOf step before (names_of (take i names)) made →
+      IsAnswerTo (StopsAt step number (get_or names i other).now here after) answer →
+      IsAnswerTo (Stops step before after 0 (names_of names)) answer
+  stops_now before here after same names i other number is made answer within so_far cause =
+      stops_here before after names i other made answer within so_far
+      (subst (λ n. IsAnswerTo (StopsAt step n (get_or names i other).now before after) answer) is
+      (subst (λ s. IsAnswerTo (StopsAt step number (get_or names i other).now s after) answer) same cause))

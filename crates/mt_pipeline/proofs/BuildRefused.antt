@@ -8,7 +8,6 @@ use Rattle.mt_compile.specs.declared.refused.Refused.{Refused}
 use Rattle.mt_pipeline.specs.Built.{AreCompiled, RefusesLink, too_many, twice, no_main, RefusesTexts, source, link}
 use Rattle.mt_answers.specs.Refusals.{of_source, of_link}
 use Rattle.mt_pipeline.specs.Unbuilt.{IsCause}
-use Rattle.mt_answers.specs.declared.refusal.BuildRefusal.{BuildRefusal}
 use Rattle.mt_answers.specs.declared.refusal.BuildRefusal.TheVariants as build
 use Rattle.mt_answers.specs.declared.refusal.LinkRefusal.{LinkRefusal}
 use Rattle.mt_answers.specs.declared.refusal.LinkRefusal.TheVariants as linking

@@ -10,7 +10,7 @@ use Rattle.mt_compile.specs.declared.refusal.CompileRefusal.{CompileRefusal}
 use Rattle.mt_compile.specs.declared.refusal.CompileRefusal.TheVariants as compile
 use Rattle.mt_answers.specs.Answer.{IsAnswerTo, ended_of}
 use Rattle.mt_answers.specs.Counted.{IsReadFault}
-use Rattle.mt_answers.specs.Each.{Hold, AreMadeOf, Stops}
+use Rattle.mt_answers.specs.Each.{Hold, AreMadeOf}
 use Rattle.mt_answers.specs.Laws.EachLaws.{GoesOneWay, one_each, never_stops, one_stop, one_hold}
 use Rattle.mt_answers.specs.Refusals.{answer_to_link, answer_to_source}
 use Rattle.mt_answers.specs.Seen.{FilesSeen, IsTold, ReadFailed}
@@ -21,7 +21,6 @@ use Rattle.mt_answers.specs.declared.ended.Why.{Why}
 use Rattle.mt_answers.specs.declared.ended.Why.TheVariants.{Link, Refused, Usage, NoMemory}
 use Rattle.mt_answers.specs.declared.refusal.LinkRefusal.{LinkRefusal}
 use Rattle.mt_answers.specs.declared.refusal.LinkRefusal.TheVariants as link
-use Rattle.mt_compile.specs.Laws.OneWay.{OneWay}
 use Rattle.mt_pipeline.specs.Agrees.{Return}
 use Rattle.mt_pipeline.specs.Built.{AreCompiled, Builds, Linked, RefusesLink, too_many, twice, no_main}
 use Rattle.mt_pipeline.specs.Laws.BuiltLaws.{of_constant, only_constant}

@@ -1,5 +1,5 @@
 -- Words that found no memory, and jobs that no command does yet.
-use Rattle.std.proofs.Common.{◌≡◌, ℕ, List, refl, sym, subst, inr}
+use Rattle.std.proofs.Common.{◌≡◌, refl, sym, subst, inr}
 use Rattle.mt_answers.specs.Counted.{UncountedReads}
 use Rattle.mt_answers.specs.Laws.Counts.{both_stay, unwritten}
 use Rattle.mt_answers.specs.Laws.Written.{same_files}

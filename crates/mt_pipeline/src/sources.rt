@@ -15,6 +15,7 @@ use mt_outside::Files;
 use std::alloc::Global;
 
 // The compiler, which makes code of each source.
+#[derive(Clone, Copy)]
 struct Compiling;
 
 impl Stage for Compiling {

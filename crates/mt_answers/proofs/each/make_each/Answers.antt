@@ -1,8 +1,6 @@
-use Rattle.std.proofs.Common.{◌≡◌, get_or, sym, ap, ◌∙◌, subst, arith}
-use Rattle.mt_answers.specs.Answer.{IsAnswerTo}
-use Rattle.mt_answers.specs.Each.{IsMadeOf, StopsAt}
+use Rattle.std.proofs.Common.{sym, ap, ◌∙◌, arith}
 use Rattle.mt_answers.specs.Seen.{FilesSeen, files_seen}
-use Rattle.mt_answers.proofs.InTurn.{made_so_far, pushed, same_seen, stops_here}
+use Rattle.mt_answers.proofs.InTurn.{made_now, pushed, same_seen, stops_now}
 use Rattle.mt_answers.proofs.each.make_each.Goals as goal
 
 -- something was made of the file that comes now
@@ -10,11 +8,10 @@ pub loop-place-preserved : goal.loop-place-preserved
 loop-place-preserved g c =
     let here = files_seen g.F.Files c.loop-place.files in
     let after = files_seen g.F.Files c.make_one.new.files in (
-      made_so_far g.T.Stage.step (files_seen g.F.Files c.args.files.now) c.args.names.now c.loop-place.place _
+      made_now g.T.Stage.step (files_seen g.F.Files c.args.files.now) here c.loop-place.invariant.1 c.args.names.now c.loop-place.place _
           c.loop-place.all.items c.push.new.self.items c.in-Ok.made (omega arith)
           (pushed c.push.result _ _ c.push.new.self.items c.push.ensures.items (sym c.is_err.ensures.value ∙ c.if-is_err.false))
-          c.loop-place.invariant.0
-          (subst (λ (s : FilesSeen). IsMadeOf g.T.Stage.step s _ c.in-Ok.made) c.loop-place.invariant.1 c.in-Ok.ensures.made),
+          c.loop-place.invariant.0 c.in-Ok.ensures.made,
       same_seen here after c.make_one.ensures.kept c.in-Ok.ensures.uncounted_ok c.make_one.ensures.writes ∙ c.loop-place.invariant.1,
     )
 
@@ -22,12 +19,10 @@ loop-place-preserved g c =
 pub returns-in-Err-clause-stops : goal.returns-in-Err-clause-stops
 returns-in-Err-clause-stops g c =
     let before = files_seen g.F.Files c.args.files.now in
+    let here = files_seen g.F.Files c.loop-place.files in
     let after = files_seen g.F.Files c.make_one.new.files in
-    stops_here g.T.Stage.step before after c.args.names.now c.loop-place.place _ c.loop-place.all.items c.in-Err.answer (omega arith)
-    c.loop-place.invariant.0
-    (subst (λ n. IsAnswerTo (StopsAt g.T.Stage.step n _ before after) c.in-Err.answer) c.number_of.ensures
-    (subst (λ (s : FilesSeen). IsAnswerTo (StopsAt g.T.Stage.step c.number_of.result _ s after) c.in-Err.answer)
-    c.loop-place.invariant.1 c.in-Err.ensures.stops))
+    stops_now g.T.Stage.step before here after c.loop-place.invariant.1 c.args.names.now c.loop-place.place _ c.number_of.result
+    c.number_of.ensures c.loop-place.all.items c.in-Err.answer (omega arith) c.loop-place.invariant.0 c.in-Err.ensures.stops
 
 pub returns-in-Err-clause-uncounted_err : goal.returns-in-Err-clause-uncounted_err
 returns-in-Err-clause-uncounted_err g c =

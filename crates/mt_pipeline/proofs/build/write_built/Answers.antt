@@ -1,4 +1,4 @@
-use Rattle.std.proofs.Common.{ℕ, refl, sym, subst}
+use Rattle.std.proofs.Common.{ℕ, refl, subst}
 use Rattle.mt_outside.specs.Told.{Rose}
 use Rattle.elf_image.specs.Image.{image_of}
 use Rattle.mt_answers.specs.Answer.{ended_of}

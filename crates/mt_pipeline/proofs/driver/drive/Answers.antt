@@ -3,9 +3,7 @@ use Rattle.std.specs.String.{string_bytes}
 use Rattle.mte_machine.specs.Objects.{objects}
 use Rattle.mt_answers.specs.Seen.{seen, files_seen}
 use Rattle.mt_answers.specs.declared.ended.Ended.{Ended}
-use Rattle.mt_answers.specs.declared.ended.Why.TheVariants.{Usage}
 use Rattle.mt_words.specs.HasJob.{HasJob}
-use Rattle.mt_words.specs.Jobs.{Job}
 use Rattle.mt_words.specs.Laws.Formed.{IsFormed}
 use Rattle.mt_words.specs.Laws.OneJob.{one_job}
 use Rattle.mt_words.specs.Model.{job_is}
