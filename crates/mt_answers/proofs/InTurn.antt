@@ -98,19 +98,19 @@ module _ {B : Type 0} (step : Step B) where
       made name.now why (omega (arith, size)) so_far stops) cause)
 
   -- the same, where the files outside are as they were at first
-  pub made_now : (seen here : FilesSeen) → here ≡ seen → (names : List (Bor (List ℕ))) (i : ℕ) (other : Bor (List ℕ))
+  pub made_now : (seen found : FilesSeen) → found ≡ seen → (names : List (Bor (List ℕ))) (i : ℕ) (other : Bor (List ℕ))
       (made all : List B) (one : B) → i < length names → all ≡ made ++ one ∷ [] → AreMadeOf step seen (names_of (take i names)) made →
-      IsMadeOf step here (get_or names i other).now one → AreMadeOf step seen (names_of (take (i + 1) names)) all
-  made_now seen here same names i other made all one within more so_far last =
+      IsMadeOf step found (get_or names i other).now one → AreMadeOf step seen (names_of (take (i + 1) names)) all
+  made_now seen found same names i other made all one within more so_far last =
       made_so_far seen names i other made all one within more so_far
       (subst (λ s. IsMadeOf step s (get_or names i other).now one) same last)
 
-  pub stops_now : (before here after : FilesSeen) → here ≡ before → (names : List (Bor (List ℕ))) (i : ℕ) (other : Bor (List ℕ))
+  pub stops_now : (before found after : FilesSeen) → found ≡ before → (names : List (Bor (List ℕ))) (i : ℕ) (other : Bor (List ℕ))
       (number : ℕ) → number ≡ file_number i → (made : List B) (answer : Answer) → i < length names →
       AreMadeOf step before (names_of (take i names)) made →
-      IsAnswerTo (StopsAt step number (get_or names i other).now here after) answer →
+      IsAnswerTo (StopsAt step number (get_or names i other).now found after) answer →
       IsAnswerTo (Stops step before after 0 (names_of names)) answer
-  stops_now before here after same names i other number is made answer within so_far cause =
+  stops_now before found after same names i other number is made answer within so_far cause =
       stops_here before after names i other made answer within so_far
       (subst (λ n. IsAnswerTo (StopsAt step n (get_or names i other).now before after) answer) is
       (subst (λ s. IsAnswerTo (StopsAt step number (get_or names i other).now s after) answer) same cause))
