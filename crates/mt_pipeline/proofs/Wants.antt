@@ -1,5 +1,5 @@
 -- Words that found no memory, and jobs that no command does yet.
-use Rattle.std.proofs.Common.{◌≡◌, refl, sym, subst, inr}
+use Rattle.std.proofs.Common.{◌≡◌, refl, sym, subst, inl, inr}
 use Rattle.mt_answers.specs.Counted.{UncountedReads}
 use Rattle.mt_answers.specs.Laws.Counts.{both_stay, unwritten}
 use Rattle.mt_answers.specs.Laws.Written.{same_files}
@@ -7,7 +7,7 @@ use Rattle.mt_answers.specs.Put.{output_of}
 use Rattle.mt_answers.specs.Seen.{FilesSeen, Seen, SameFiles}
 use Rattle.mt_answers.specs.Status.{ends}
 use Rattle.mt_answers.specs.declared.ended.Ended.{Ended}
-use Rattle.mt_answers.specs.declared.ended.Why.TheVariants.{NoMemory}
+use Rattle.mt_answers.specs.declared.ended.Why.TheVariants.{NoMemory, Usage}
 use Rattle.mt_words.specs.Jobs.{Job, Go, Build, Link, Run, Mean, Dump, Plan}
 use Rattle.mt_pipeline.specs.Answers.{Answers}
 use Rattle.mt_pipeline.specs.Build.{no_memory as build_no_memory}
@@ -70,3 +70,13 @@ not_yet_answers (Run image options) before after ended not answers = absurd not
 not_yet_answers (Mean files options) before after ended not answers = answers
 not_yet_answers (Dump file) before after ended not answers = absurd not
 not_yet_answers (Plan file) before after ended not answers = absurd not
+
+pub not_yet_usage : {S K : Type 0} (job : Job) (before : Seen S K) (ended : Ended) → IsNotYet job → ended ≡ ends Usage →
+    Answers job before before ended
+not_yet_usage (Go files options) before ended not is = absurd not
+not_yet_usage (Build files out) before ended not is = absurd not
+not_yet_usage (Link files out) before ended not is = record { usage = inl is; untouched = refl }
+not_yet_usage (Run image options) before ended not is = absurd not
+not_yet_usage (Mean files options) before ended not is = record { usage = inl is; untouched = refl }
+not_yet_usage (Dump file) before ended not is = absurd not
+not_yet_usage (Plan file) before ended not is = absurd not
