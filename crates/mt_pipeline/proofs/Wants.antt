@@ -1,5 +1,5 @@
 -- Words that found no memory, and jobs that no command does yet.
-use Rattle.std.proofs.Common.{◌≡◌, refl, sym, subst, inl, inr}
+use Rattle.std.proofs.Common.{◌≡◌, refl, sym, ap, ◌∙◌, subst, inl, inr}
 use Rattle.mt_answers.specs.Counted.{UncountedReads}
 use Rattle.mt_answers.specs.Laws.Counts.{both_stay, unwritten}
 use Rattle.mt_answers.specs.Laws.Written.{same_files}
@@ -80,3 +80,9 @@ not_yet_usage (Run image options) before ended not is = absurd not
 not_yet_usage (Mean files options) before ended not is = record { usage = inl is; untouched = refl }
 not_yet_usage (Dump file) before ended not is = absurd not
 not_yet_usage (Plan file) before ended not is = absurd not
+
+-- want of memory is no usage
+pub memory_not_usage : (ended : Ended) → ended ≡ ends NoMemory → ended.why ≡ Usage → ⊥
+memory_not_usage ended is e =
+    let same : NoMemory ≡ Usage = sym (ap (λ (x : Ended). x.why) is) ∙ e in
+    cc

@@ -6,7 +6,7 @@ ghost use Rattle.mt_answers.specs.Answer.{ended_of};
 ghost use Rattle.mt_answers.specs.Seen.{seen, files_seen};
 ghost use Rattle.mt_answers.specs.Status.{HasNoLine, ends, status_of};
 ghost use Rattle.mt_words.specs.HasJob.{HasJob};
-ghost use Rattle.mt_words.specs.Jobs.{Job};
+ghost use Rattle.mt_words.specs.Jobs.{Job as Asked};
 ghost use Rattle.mt_words.specs.Laws.Formed.{IsFormed};
 ghost use Rattle.mt_words.specs.Model.{job_is};
 ghost use Rattle.mt_pipeline.specs.Answers.{Answers};
@@ -33,7 +33,7 @@ pub fn drive<F: Files, S: Source, K: Sink, E: Sink>(
     out: &mut K,
     err: &mut E,
 ) -> Ended
-    ensures answers { (job : Job) → HasJob (map string_bytes words.now) job →
+    ensures answers { (job : Asked) → HasJob (map string_bytes words.now) job →
         Answers job (seen (files_seen F.Files files.old) (objects S.Source K.Sink input.old out.old))
         (seen (files_seen F.Files files.new) (objects S.Source K.Sink input.new out.new)) result }
     ensures usage { result.why ≡ Why.Usage → AskNothing (map string_bytes words.now) }
@@ -80,7 +80,11 @@ fn finish_job<F: Files, S: Source, K: Sink, E: Sink>(
             out: image,
         } => finish_build(err, names, image, write_built(alloc, names, image, files)),
         Job::Run { image, options } => {
-            finish(err, &[*image], run_file(alloc, image, options, files, input, out))
+            finish(
+                err,
+                &[*image],
+                run_file(alloc, image, options, files, input, out),
+            )
         }
         Job::Dump { file } => finish(err, &[*file], dump_file(alloc, file, files, out)),
         Job::Plan { file } => finish(err, &[*file], plan_file(alloc, file, files, out)),
