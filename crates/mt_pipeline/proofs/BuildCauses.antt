@@ -28,7 +28,8 @@ module _ (files : List (List ℕ)) (out : List ℕ) (before after : FilesSeen) w
       NotBuilt files before after why → ¬ ReadFailed before after → (ended ≡ ends why) ⊎ (ended ≡ ends NoMemory)
   build_refuses (written image bytes is file writes) why told has reads =
       absurd (built_or_not files before after told reads image why is has)
-  build_refuses (write_failed image is rose others) why told has reads = absurd (built_or_not files before after told reads image why is has)
+  build_refuses (write_failed image is rose others) why told has reads =
+      absurd (built_or_not files before after told reads image why is has)
   build_refuses (unbuilt {why = first} not same) why told has reads =
       inl (ap ends (one_reason files before after told reads first why not has))
   build_refuses (no_memory same) why told has reads = inr refl

@@ -116,4 +116,5 @@ module _ {S K : Type 0} (file : List ℕ) (options : RunOptions) (before after :
   run_refused bytes refusal may silent (inl wanting) =
       subst (λ r. CauseOfRun file options before after (ended_of (answer_to_run r))) (sym wanting) (no_memory silent)
   run_refused bytes _ may silent (inr (no_image fault has)) = refused bytes (run.Image fault) may (no_image fault has) silent
-  run_refused bytes _ may silent (inr (no_start image fault is has)) = refused bytes (run.Start fault) may (no_start image fault is has) silent
+  run_refused bytes _ may silent (inr (no_start image fault is has)) =
+      refused bytes (run.Start fault) may (no_start image fault is has) silent

@@ -99,7 +99,8 @@ module _ (files : List (List ℕ)) (before after : FilesSeen) (told : IsTold bef
       (link_stops objects refuses)
 
   pub one_reason : (why other : Why) → NotBuilt files before after why → NotBuilt files before after other → why ≡ other
-  one_reason why other (no_code stops) (no_code also) = one_stop compiled before after compiled_way told no_fault 0 files why other stops also
+  one_reason why other (no_code stops) (no_code also) =
+      one_stop compiled before after compiled_way told no_fault 0 files why other stops also
   one_reason why _ (no_code stops) (no_link objects refusal made refuses) =
       absurd (never_stops compiled before after compiled_way told no_fault 0 files objects why made stops)
   one_reason _ other (no_link objects refusal made refuses) (no_code also) =

@@ -40,8 +40,8 @@ unread_not_usage number file before after (failed rose) is = cc
 
 -- nor is one of which nothing was made, where no refusal is one
 stop_at_not_usage : {B : Type 0} (step : Step B) (before after : FilesSeen) →
-    ((number : ℕ) (bytes : List ℕ) (why : Why) → step.Refuses number bytes why → why ≡ Usage → ⊥) → (number : ℕ) (file : List ℕ) (why : Why) →
-    StopsAt step number file before after why → why ≡ Usage → ⊥
+    ((number : ℕ) (bytes : List ℕ) (why : Why) → step.Refuses number bytes why → why ≡ Usage → ⊥) →
+    (number : ℕ) (file : List ℕ) (why : Why) → StopsAt step number file before after why → why ≡ Usage → ⊥
 stop_at_not_usage step before after never number file why (unread cause) is = unread_not_usage number file before after cause is
 stop_at_not_usage step before after never number file why (refused bytes holds refuses) is = never number bytes why refuses is
 

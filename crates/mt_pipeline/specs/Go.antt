@@ -20,7 +20,8 @@ pub data CauseOfGo {S K : Type 0} (files : List (List ℕ)) (options : RunOption
   ran : {ended : Ended} (image : Image) → IsBuiltOf files before.files image → RunsTo image options before.streams after.streams ended →
       CauseOfGo files options before after ended
   -- or none was
-  unbuilt : {why : Why} → NotBuilt files before.files after.files why → IsSilent before after → CauseOfGo files options before after (ends why)
+  unbuilt : {why : Why} → NotBuilt files before.files after.files why → IsSilent before after →
+      CauseOfGo files options before after (ends why)
   no_memory : IsSilent before after → CauseOfGo files options before after (ends NoMemory)
 
 -- What `go` of files answers, and what it leaves.

@@ -42,7 +42,8 @@ step-at : (n stack : ℕ) (starts : Starts (constant_image n)) (tag : ℕ → �
     IsAt n stack tag k s → k < length (constant_code n) → get_or (constant_code n) k 0 ≡ word → Row word instr → step s ≡ effect instr s
 step-at n stack starts tag k s word instr at within is row =
     ap (λ found. carried_out found s)
-    (code_fetched (constant_image n) starts.intervals stack tag k s (constant_valid n) starts.objects within (rw is (Row-below word instr row)) at.regions at.byte
+    (code_fetched (constant_image n) starts.intervals stack tag k s (constant_valid n) starts.objects within
+    (rw is (Row-below word instr row)) at.regions at.byte
     (omega (arith, at.pc, constant_place n))
     ∙ ap instruction_of is ∙ Row-instruction word instr row)
 
@@ -104,13 +105,16 @@ soon_end status steps start few goes = record {
 
 -- the first step moves the lower half
 first_step : (n : ℕ) (starts : Starts (constant_image n)) (choices : List ℕ) (stack : ℕ) (w : Outside) → 0 < length (constant_code n) →
-    get_or (constant_code n) 0 0 ≡ movz_word (n % 65536) → Steps 1 (at_start n starts choices stack w) (low_moved n (at_start n starts choices stack w))
+    get_or (constant_code n) 0 0 ≡ movz_word (n % 65536) →
+    Steps 1 (at_start n starts choices stack w) (low_moved n (at_start n starts choices stack w))
 first_step n starts choices stack w within is =
-    Steps-one _ _ (step-at n stack starts (loaded_tag starts.intervals choices) 0 (at_start n starts choices stack w) (movz_word (n % 65536)) _
+    Steps-one _ _
+    (step-at n stack starts (loaded_tag starts.intervals choices) 0 (at_start n starts choices stack w) (movz_word (n % 65536)) _
     (record { regions = refl; byte = refl; pc = refl }) within is (movz_row (n % 65536) (omega arith)))
 
 -- the lower half alone, where the constant has no other
-short_run : (n : ℕ) (starts : Starts (constant_image n)) (choices : List ℕ) (stack steps : ℕ) → n < 65536 → EndsWith (n % 256) steps (at_start n starts choices stack)
+short_run : (n : ℕ) (starts : Starts (constant_image n)) (choices : List ℕ) (stack steps : ℕ) → n < 65536 →
+    EndsWith (n % 256) steps (at_start n starts choices stack)
 short_run n starts choices stack zero short =
     soon_end _ zero _ (omega arith) (λ w. record { state = at_start n starts choices stack w; leads = refl; outside = refl })
 short_run n starts choices stack (suc zero) short =
@@ -124,9 +128,11 @@ short_run n starts choices stack (suc (suc more)) short =
     let code : constant_code n ≡ movz_word (n % 65536) ∷ svc_word ∷ [] = constant_code-short n (omega (arith, short)) in
     late_end _ (suc (suc more)) _ (λ w.
     let s : State = low_moved n (at_start n starts choices stack w) in
-    let first : Steps 1 (at_start n starts choices stack w) s = first_step n starts choices stack w (rw code (omega arith)) (rw code refl) in
+    let first : Steps 1 (at_start n starts choices stack w) s =
+    first_step n starts choices stack w (rw code (omega arith)) (rw code refl) in
     let last : step s ≡ Ends (Exited (n % 65536 * 2 ^ (16 * 0) % 2 ^ 32 % 2 ^ 8)) =
-    step-at n stack starts (loaded_tag starts.intervals choices) 1 s svc_word _ (record { regions = refl; byte = refl; pc = refl }) (rw code (omega arith)) (rw code refl) svc_row in
+    step-at n stack starts (loaded_tag starts.intervals choices) 1 s svc_word _ (record { regions = refl; byte = refl; pc = refl })
+    (rw code (omega arith)) (rw code refl) svc_row in
     let value : n % 65536 * 2 ^ (16 * 0) % 2 ^ 32 % 2 ^ 8 ≡ n % 256 = omega arith in
     record { state = s; stops = run-ends (suc (suc more)) first last (omega arith) ∙ ap (λ v. Stopped (Exited v) s) value; outside = refl })
 
@@ -136,9 +142,11 @@ second_step : (n : ℕ) (starts : Starts (constant_image n)) (choices : List ℕ
     Steps 2 (at_start n starts choices stack w) (high_moved n (low_moved n (at_start n starts choices stack w)))
 second_step n starts choices stack w within code =
     let s : State = low_moved n (at_start n starts choices stack w) in
-    let first : Steps 1 (at_start n starts choices stack w) s = first_step n starts choices stack w (rw code (omega arith)) (rw code refl) in
+    let first : Steps 1 (at_start n starts choices stack w) s =
+    first_step n starts choices stack w (rw code (omega arith)) (rw code refl) in
     let second : Steps 1 s (high_moved n s) =
-    Steps-one _ _ (step-at n stack starts (loaded_tag starts.intervals choices) 1 s (movk_word (n / 65536)) _ (record { regions = refl; byte = refl; pc = refl })
+    Steps-one _ _ (step-at n stack starts (loaded_tag starts.intervals choices) 1 s (movk_word (n / 65536)) _
+    (record { regions = refl; byte = refl; pc = refl })
     (rw code (omega arith)) (rw code refl) (movk_row (n / 65536) (omega (arith, within)))) in
     Steps-add first second
 
@@ -166,7 +174,8 @@ long_run n starts choices stack (suc (suc (suc more))) long within =
     let s : State = high_moved n (low_moved n (at_start n starts choices stack w)) in
     let both : Steps 2 (at_start n starts choices stack w) s = second_step n starts choices stack w within code in
     let last : step s ≡ Ends (Exited (with_halfword (16 * 1) (n / 65536) (n % 65536 * 2 ^ (16 * 0) % 2 ^ 32 % 2 ^ 32) % 2 ^ 32 % 2 ^ 8)) =
-    step-at n stack starts (loaded_tag starts.intervals choices) 2 s svc_word _ (record { regions = refl; byte = refl; pc = refl }) (rw code (omega arith)) (rw code refl) svc_row in
+    step-at n stack starts (loaded_tag starts.intervals choices) 2 s svc_word _ (record { regions = refl; byte = refl; pc = refl })
+    (rw code (omega arith)) (rw code refl) svc_row in
     let value : with_halfword (16 * 1) (n / 65536) (n % 65536 * 2 ^ (16 * 0) % 2 ^ 32 % 2 ^ 32) % 2 ^ 32 % 2 ^ 8 ≡ n % 256 = omega arith in
     record {
       state = s;

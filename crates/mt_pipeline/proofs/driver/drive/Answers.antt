@@ -32,7 +32,8 @@ finish_job-requires g c = subst (λ (f : Option JobValue). IfSome f (λ j. IsFor
 pub returns-in-Some-clause-answers : goal.returns-in-Some-clause-answers
 returns-in-Some-clause-answers g c = λ job has.
     let before = seen (files_seen g.F.Files c.args.files.now) (objects g.S.Source g.K.Sink c.args.input.now c.args.out.now) in
-    let after = seen (files_seen g.F.Files c.finish_job.new.files) (objects g.S.Source g.K.Sink c.finish_job.new.input c.finish_job.new.out) in
+    let after = seen (files_seen g.F.Files c.finish_job.new.files)
+    (objects g.S.Source g.K.Sink c.finish_job.new.input c.finish_job.new.out) in
     let words = map string_bytes c.args.words.now in
     let found = subst (λ (f : Option JobValue). IfSome f (λ j. HasJob words (job_is j))) c.in-Some.is c.in-Ok.ensures.some in
     subst (λ (j : Job). Answers j before after c.finish_job.result) (one_job words (job_is c.in-Some.job) job found has)
@@ -47,7 +48,8 @@ returns-in-Some-clause-usage g c = λ is job has.
 pub returns-in-Some-clause-no_job : goal.returns-in-Some-clause-no_job
 returns-in-Some-clause-no_job g c = λ none.
     let before = seen (files_seen g.F.Files c.args.files.now) (objects g.S.Source g.K.Sink c.args.input.now c.args.out.now) in
-    let after = seen (files_seen g.F.Files c.finish_job.new.files) (objects g.S.Source g.K.Sink c.finish_job.new.input c.finish_job.new.out) in
+    let after = seen (files_seen g.F.Files c.finish_job.new.files)
+    (objects g.S.Source g.K.Sink c.finish_job.new.input c.finish_job.new.out) in
     let words = map string_bytes c.args.words.now in
     let found = subst (λ (f : Option JobValue). IfSome f (λ j. HasJob words (job_is j))) c.in-Some.is c.in-Ok.ensures.some in
     not_yet_answers (job_is c.in-Some.job) before after c.finish_job.result (none (job_is c.in-Some.job) found) c.finish_job.ensures.answers

@@ -43,7 +43,8 @@ returns-in-Build-clause-answers g c =
     let before = seen (files_seen g.F.Files c.args.files.now) (objects g.S.Source g.K.Sink c.args.input.now c.args.out.now) in
     let after = seen (files_seen g.F.Files c.write_built.new.files) (objects g.S.Source g.K.Sink c.args.input.now c.args.out.now) in
     let image = c.in-Build.image.now in
-    let done = subst (λ (xs : List (Bor (List ℕ))). WritesBuilt (names_of xs) image before.files after.files (ended_of c.write_built.result))
+    let done = subst
+    (λ (xs : List (Bor (List ℕ))). WritesBuilt (names_of xs) image before.files after.files (ended_of c.write_built.result))
     c.deref-in-Build-2.ensures.value c.write_built.ensures in
     subst (λ (j : JobValue). Answers (job_is j) before after c.finish_build.result) (sym c.in-Build.is)
     (subst (λ (e : Ended). BuildAnswers (names_of c.in-Build.names.items) image before after e) (sym c.finish_build.ensures.ended)
