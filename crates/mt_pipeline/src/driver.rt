@@ -13,11 +13,11 @@ ghost use Rattle.mt_pipeline.specs.Answers.{Answers};
 ghost use Rattle.mt_pipeline.specs.NoWords.{why_without_words};
 ghost use Rattle.mt_pipeline.specs.Usage.{AskNothing, IsNotYet, UsageAnswers};
 
-use crate::build::write_built;
 use crate::dump::dump_file;
 use crate::go::go;
 use crate::plan::plan_file;
 use crate::run::run_file;
+use crate::write::write_built;
 use mt_answers::{Answer, Ended, Why, finish};
 use mt_outside::{Files, Sink, Source};
 use mt_words::{Job, job_of};

@@ -1,7 +1,6 @@
 //! The commands of mtcc: from words, files and an input to an output, an error line and a status.
 #![tactic(auto)]
 
-mod build;
 mod builder;
 mod driver;
 mod dump;
@@ -10,6 +9,7 @@ mod plan;
 mod run;
 mod runner;
 mod sources;
+mod write;
 
 pub use builder::build;
 pub use driver::{NoWords, drive, end_without_words};

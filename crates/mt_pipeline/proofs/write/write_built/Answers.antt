@@ -11,7 +11,7 @@ use Rattle.mt_pipeline.specs.Sources.{NotBuilt}
 use Rattle.mt_pipeline.proofs.BuildCauses.{build_answers}
 use Rattle.mt_pipeline.proofs.BuiltRuns.{whole}
 use Rattle.mt_pipeline.proofs.SourceCauses.{answered}
-use Rattle.mt_pipeline.proofs.build.write_built.Goals as goal
+use Rattle.mt_pipeline.proofs.write.write_built.Goals as goal
 
 pub write_image-requires : goal.write_image-requires
 write_image-requires g c = (whole c.in-Ok.ensures.built.texts (image_of c.in-Ok.parts) c.in-Ok.ensures.built.builds).valid
