@@ -12,20 +12,18 @@ use Rattle.mt_words.specs.Numbers.{default_choices, default_count, default_stack
 use Rattle.mt_words.specs.Asks.{AskRun, go}
 use Rattle.mt_words.specs.HasJob.{HasJob}
 
-simple : is_simple_and_free mtcc ≡ true
-simple = refl
 
 abbrev pub go_a : List (List ℕ)
 go_a = codes "go" ∷ codes "a.c" ∷ []
 
 go_read : IsRead go_a
-unfolding clap_on_literals
-go_read = refl
+unfolding clap_on_literals mtcc
+go_read = record { no_fault = refl }
 
 go_taken : takes mtcc go_a ≡ true
-unfolding clap_on_literals
+unfolding clap_on_literals mtcc
 go_taken = refl
 
 go_given : given_by go_a ≡ record { command = Some (codes "go"); files = codes "a.c" ∷ []; options = none_given }
-unfolding clap_on_literals
+unfolding clap_on_literals mtcc given_by
 go_given = refl

@@ -1,1 +1,5 @@
+pub mod Digits
+pub mod Parsing
+pub mod Table
+pub mod Clauses
 mod Examples

@@ -6,5 +6,8 @@ pub mod Asks
 pub mod HasJob
 -- the job of the code's type
 pub mod Model
+-- what the parts of `job_of` hold
+pub mod Held
+pub mod Found
 -- laws for later proofs
 pub mod Laws

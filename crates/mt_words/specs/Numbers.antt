@@ -3,13 +3,17 @@ use Rattle.std.specs.Prelude.{◌≡◌, ◌≤◌, ◌*◌, ◌==◌, ℕ, Bool
 use Rattle.std.specs.Char.{digit_value}
 use Rattle.std.specs.Str.Parse.{AllDigits, digits_value}
 
+-- the number that decimal digits write is this, and not over `most`
+pub record IsNumber (digits : List ℕ) (most number : ℕ) : Type 0 where
+  pub all : AllDigits 10 digits
+  pub value : digits_value 10 digits ≡ number
+  pub in_range : number ≤ most
+
 -- steps or units of work: 1 to 20 decimal digits, of a value that 64 bits hold
 pub record IsCount (digits : List ℕ) (count : ℕ) : Type 0 where
   pub least : 1 ≤ length digits
   pub most : length digits ≤ 20
-  pub all : AllDigits 10 digits
-  pub value : digits_value 10 digits ≡ count
-  pub in_range : count ≤ 18446744073709551615
+  pub number : IsNumber digits 18446744073709551615 count
 
 abbrev pub starts_with_zero : List ℕ → Bool
 starts_with_zero [] = false
@@ -17,11 +21,11 @@ starts_with_zero (d ∷ ds) = d == 48
 
 -- a stack in bytes: the digits write its KiB, 1 to 65536, in decimal without a leading zero
 pub record IsStack (digits : List ℕ) (stack : ℕ) : Type 0 where
-  pub all : AllDigits 10 digits
+  pub kib : ℕ
+  pub number : IsNumber digits 65536 kib
   pub no_zero : starts_with_zero digits ≡ false
-  pub least : 1 ≤ digits_value 10 digits
-  pub most : digits_value 10 digits ≤ 65536
-  pub value : stack ≡ digits_value 10 digits * 1024
+  pub least : 1 ≤ kib
+  pub bytes : stack ≡ kib * 1024
 
 -- random choices: 1 to 4,096 hexadecimal digits, a choice each
 pub record AreChoices (digits choices : List ℕ) : Type 0 where

@@ -31,12 +31,12 @@ with_run_options = with_rule (with_rule (with_rule with_positionals (option_argu
     (option_argument (codes "stack"))
 
 -- the whole command
-abbrev pub mtcc : App
+unfoldable pub mtcc : App
 mtcc = with_rule (with_rule with_run_options (option_argument (codes "out"))) (option_argument (codes "work"))
 
--- the parse has no fault. A request for help is one.
-abbrev pub IsRead : List (List ℕ) → Type 0
-IsRead words = fault_of mtcc words ≡ []
+-- the command takes the words: their parse has no fault. A request for help is one.
+pub record IsRead (words : List (List ℕ)) : Type 0 where
+  pub no_fault : fault_of mtcc words ≡ []
 
 -- the values of the options that were given
 pub record Options : Type 0 where
@@ -68,6 +68,6 @@ given_in rows = record {
   options = options_in rows;
 }
 
--- what words hold of which the parse has no fault
-abbrev pub given_by : List (List ℕ) → Given
+-- what words hold that the command takes
+unfoldable pub given_by : List (List ℕ) → Given
 given_by words = given_in (matches_of mtcc words)

@@ -1,105 +1,102 @@
--- Words have one job at most: what is asked for is a function of what is given.
-use Rattle.std.proofs.Common.{◌≡◌, ℕ, ◌*◌, List, [], ◌∷◌, Bool, true, false, Option, Some, None, sym, ap, ◌∙◌}
-use Rattle.std.specs.Prelude.{codes, map}
+-- Words have one job at most: what is given decides it.
+use Rattle.std.specs.Prelude.{◌≡◌, ◌*◌, ◌==◌, ℕ, List, [], ◌∷◌, Option, Some, None, codes, map, unwrap_or, if◌then◌else◌}
+use Rattle.std.proofs.Common.{◌∙◌, sym, ap, refl}
 use Rattle.std.specs.Char.{digit_value}
+use Rattle.std.specs.Option.{option_map_or}
 use Rattle.std.specs.Str.{bytes_eq}
 use Rattle.std.specs.Str.Parse.{digits_value}
-use Rattle.mt_words.specs.Asks.{AskRun, AskMean, Asks, go, build, link, run, mean, dump, plan}
-use Rattle.mt_words.specs.HasJob.{HasJob}
-use Rattle.mt_words.specs.Jobs.{RunOptions, MeanOptions, Job, Go, Build, Link, Run, Mean, Dump, Plan}
+use Rattle.mt_words.specs.Jobs.{Job, Go, Build, Link, Run, Mean, Dump, Plan, MeanOptions, RunOptions}
 use Rattle.mt_words.specs.Numbers.{AreChoices, IsCount, IsStack, OrDefault, default_choices, default_count, default_stack}
-use Rattle.mt_words.specs.Reading.{Given, Options, given_by}
+use Rattle.mt_words.specs.Reading.{Given, Options}
+use Rattle.mt_words.specs.Asks.{AskMean, AskRun, Asks, go, build, link, run, mean, dump, plan}
+use Rattle.mt_words.specs.HasJob.{HasJob}
 
--- ---- the values of options
+-- what the digits of an option write, or the default
+choices_by : Option (List ℕ) → List ℕ
+choices_by None = default_choices
+choices_by (Some digits) = map digit_value digits
 
-choices_in : Option (List ℕ) → List ℕ
-choices_in None = default_choices
-choices_in (Some digits) = map digit_value digits
+count_by : Option (List ℕ) → ℕ
+count_by None = default_count
+count_by (Some digits) = digits_value 10 digits
 
-count_in : Option (List ℕ) → ℕ
-count_in None = default_count
-count_in (Some digits) = digits_value 10 digits
+stack_by : Option (List ℕ) → ℕ
+stack_by None = default_stack
+stack_by (Some digits) = digits_value 10 digits * 1024
 
-stack_in : Option (List ℕ) → ℕ
-stack_in None = default_stack
-stack_in (Some digits) = digits_value 10 digits * 1024
+are_choices : (value : Option (List ℕ)) (choices : List ℕ) → OrDefault AreChoices default_choices value choices → choices ≡ choices_by value
+unfolding choices_by
+are_choices None choices is = is
+are_choices (Some digits) choices is = is.values
 
-out_in : Option (List ℕ) → List ℕ
-out_in None = []
-out_in (Some name) = name
+is_count : (value : Option (List ℕ)) (count : ℕ) → OrDefault IsCount default_count value count → count ≡ count_by value
+unfolding count_by
+is_count None count is = is
+is_count (Some digits) count is = sym is.number.value
 
-first_in : List (List ℕ) → List ℕ
-first_in [] = []
-first_in (file ∷ files) = file
+is_stack : (value : Option (List ℕ)) (stack : ℕ) → OrDefault IsStack default_stack value stack → stack ≡ stack_by value
+unfolding stack_by
+is_stack None stack is = is
+is_stack (Some digits) stack is = is.bytes ∙ ap (λ kib. kib * 1024) (sym is.number.value)
 
-choices_same : (given : Option (List ℕ)) (choices : List ℕ) → OrDefault AreChoices default_choices given choices →
-    choices_in given ≡ choices
-unfolding choices_in
-choices_same None choices is = sym is
-choices_same (Some digits) choices is = sym is.values
+run_by : Options → RunOptions
+run_by options = record { choices = choices_by options.tags; steps = count_by options.steps; stack = stack_by options.stack }
 
-count_same : (given : Option (List ℕ)) (count : ℕ) → OrDefault IsCount default_count given count → count_in given ≡ count
-unfolding count_in
-count_same None count is = sym is
-count_same (Some digits) count is = is.number.value
+is_run : (options : Options) (how : RunOptions) → AskRun options how → how ≡ run_by options
+unfolding run_by
+is_run options how asks =
+    let choices = are_choices options.tags how.choices asks.choices in
+    let steps = is_count options.steps how.steps asks.steps in
+    let stack = is_stack options.stack how.stack asks.stack in
+    λ i. record { choices = choices i; steps = steps i; stack = stack i }
 
-stack_same : (given : Option (List ℕ)) (stack : ℕ) → OrDefault IsStack default_stack given stack → stack_in given ≡ stack
-unfolding stack_in
-stack_same None stack is = sym is
-stack_same (Some digits) stack is = ap (λ k. k * 1024) is.number.value ∙ sym is.bytes
+mean_by : Options → MeanOptions
+mean_by options = record { work = count_by options.work; stack = stack_by options.stack }
 
-abbrev run_in : Options → RunOptions
-run_in options = record { choices = choices_in options.tags; steps = count_in options.steps; stack = stack_in options.stack }
+is_mean : (options : Options) (how : MeanOptions) → AskMean options how → how ≡ mean_by options
+unfolding mean_by
+is_mean options how asks =
+    let work = is_count options.work how.work asks.work in
+    let stack = is_stack options.stack how.stack asks.stack in
+    λ i. record { work = work i; stack = stack i }
 
-abbrev mean_in : Options → MeanOptions
-mean_in options = record { work = count_in options.work; stack = stack_in options.stack }
+first : List (List ℕ) → List ℕ
+first [] = []
+first (x ∷ xs) = x
 
-run_same : (options : Options) (asked : RunOptions) → AskRun options asked → run_in options ≡ asked
-run_same options asked is = λ i. record {
-  choices = choices_same options.tags asked.choices is.choices i;
-  steps = count_same options.steps asked.steps is.steps i;
-  stack = stack_same options.stack asked.stack is.stack i;
-}
+-- the job of a command of this name, whatever else is given
+job_named : List ℕ → Given → Job
+job_named name given =
+    if bytes_eq name (codes "go") then Go given.files (run_by given.options)
+    else (if bytes_eq name (codes "build") then Build given.files (unwrap_or given.options.out [])
+    else (if bytes_eq name (codes "link") then Link given.files (unwrap_or given.options.out [])
+    else (if bytes_eq name (codes "run") then Run (first given.files) (run_by given.options)
+    else (if bytes_eq name (codes "mean") then Mean given.files (mean_by given.options)
+    else (if bytes_eq name (codes "dump") then Dump (first given.files) else Plan (first given.files))))))
 
-mean_same : (options : Options) (asked : MeanOptions) → AskMean options asked → mean_in options ≡ asked
-mean_same options asked is = λ i. record {
-  work = count_same options.work asked.work is.work i;
-  stack = stack_same options.stack asked.stack is.stack i;
-}
+named : Given → Job
+named given = job_named (unwrap_or given.command []) given
 
--- ---- the job
+by_name : (given : Given) (name : List ℕ) → given.command ≡ Some name → named given ≡ job_named name given
+unfolding named
+by_name given name is = ap (λ command. job_named (unwrap_or command []) given) is
 
--- by whether the command is `go`, `build`, `link`, `run`, `mean`, `dump`, and else `plan`
-job_in : Bool → Bool → Bool → Bool → Bool → Bool → Given → Job
-job_in true b l r m d given = Go given.files (run_in given.options)
-job_in false true l r m d given = Build given.files (out_in given.options.out)
-job_in false false true r m d given = Link given.files (out_in given.options.out)
-job_in false false false true m d given = Run (first_in given.files) (run_in given.options)
-job_in false false false false true d given = Mean given.files (mean_in given.options)
-job_in false false false false false true given = Dump (first_in given.files)
-job_in false false false false false false given = Plan (first_in given.files)
+is_named : (given : Given) (job : Job) → Asks given job → job ≡ named given
+unfolding job_named first
+is_named given _ (go options name some asks) = ap (Go given.files) (is_run given.options options asks) ∙ sym (by_name given (codes "go") name)
+is_named given _ (build out name some asks) =
+    ap (λ o. Build given.files (unwrap_or o.out [])) (sym asks) ∙ sym (by_name given (codes "build") name)
+is_named given _ (link out name some asks) =
+    ap (λ o. Link given.files (unwrap_or o.out [])) (sym asks) ∙ sym (by_name given (codes "link") name)
+is_named given _ (run image options name one asks) =
+    ap (Run image) (is_run given.options options asks) ∙ ap (λ files. Run (first files) (run_by given.options)) (sym one)
+    ∙ sym (by_name given (codes "run") name)
+is_named given _ (mean options name some asks) = ap (Mean given.files) (is_mean given.options options asks) ∙ sym (by_name given (codes "mean") name)
+is_named given _ (dump file name one asks) = ap (λ files. Dump (first files)) (sym one) ∙ sym (by_name given (codes "dump") name)
+is_named given _ (plan file name one asks) = ap (λ files. Plan (first files)) (sym one) ∙ sym (by_name given (codes "plan") name)
 
-asked : Given → Option (List ℕ) → Option Job
-asked given None = None
-asked given (Some name) =
-    Some (job_in (bytes_eq name (codes "go")) (bytes_eq name (codes "build")) (bytes_eq name (codes "link"))
-    (bytes_eq name (codes "run")) (bytes_eq name (codes "mean")) (bytes_eq name (codes "dump")) given)
+pub one_asked : (given : Given) (j k : Job) → Asks given j → Asks given k → j ≡ k
+one_asked given j k a b = is_named given j a ∙ sym (is_named given k b)
 
-asks : (given : Given) (job : Job) → Asks given job → asked given given.command ≡ Some job
-unfolding asked job_in out_in first_in
-asks given _ (go options name some is) = ap (asked given) name ∙ ap (λ o. Some (Go given.files o)) (run_same given.options options is)
-asks given _ (build out name some is) = ap (asked given) name ∙ ap (λ o. Some (Build given.files (out_in o.out))) is
-asks given _ (link out name some is) = ap (asked given) name ∙ ap (λ o. Some (Link given.files (out_in o.out))) is
-asks given _ (run image options name one is) =
-    ap (asked given) name ∙ ap (λ files. Some (Run (first_in files) (run_in given.options))) one
-    ∙ ap (λ o. Some (Run image o)) (run_same given.options options is)
-asks given _ (mean options name some is) = ap (asked given) name ∙ ap (λ o. Some (Mean given.files o)) (mean_same given.options options is)
-asks given _ (dump file name one none) = ap (asked given) name ∙ ap (λ files. Some (Dump (first_in files))) one
-asks given _ (plan file name one none) = ap (asked given) name ∙ ap (λ files. Some (Plan (first_in files))) one
-
-same_some : (job other : Job) → ◌≡◌ {A = Option Job} (Some job) (Some other) → job ≡ other
-same_some job other e = cc
-
-pub one_job : (words : List (List ℕ)) (job other : Job) → HasJob words job → HasJob words other → job ≡ other
-one_job words job other first second =
-    same_some job other (sym (asks (given_by words) job first.asks) ∙ asks (given_by words) other second.asks)
+pub one_job : (words : List (List ℕ)) (j k : Job) → HasJob words j → HasJob words k → j ≡ k
+one_job words j k a b = one_asked _ j k a.asks b.asks
