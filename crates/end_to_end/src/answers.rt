@@ -1,5 +1,4 @@
-// How a call ends with each answer. No program that can be built today ends in some of these ways, and no command links the
-// code of several sources.
+// How a call ends with each answer. No program that can be built today ends in some of these ways.
 use crate::calls::shown;
 use c_ast::Name;
 use c_lex::LexRefusal;
@@ -22,7 +21,7 @@ pub fn ended(alloc: Global, row: &str) -> Result<String, AllocError> {
     let mut err = MemSink::new(alloc, 100, Vec::new(alloc))?;
     let ended = match (no_words(name), answer_of(alloc, name, numbers)?) {
         (Some(cause), _) => end_without_words(&mut err, cause),
-        (None, Some(answer)) => finish(&mut err, "a.c", answer),
+        (None, Some(answer)) => finish(&mut err, &["a.c"], answer),
         (None, None) => return String::from_str(alloc, "no answer"),
     };
     shown(alloc, ended, b"", err.taken())

@@ -3,7 +3,7 @@ use Rattle.std.proofs.Common.{ℕ, ◌%◌, List, sym, subst}
 use Rattle.elf_image.specs.Laws.ConstantLaws.{constant_valid}
 use Rattle.elf_image.specs.Image.{Image}
 use Rattle.elf_image.specs.Places.{IsValid}
-use Rattle.tag_startup.specs.Loaded.{HoldsCodeAlone}
+use Rattle.tag_startup.specs.Starts.{Starts}
 use Rattle.mt_compile.specs.Laws.ConstantTrees.{constant_in_range}
 use Rattle.mt_pipeline.specs.Agrees.{ExitsAlways}
 use Rattle.mt_pipeline.specs.Built.{AreCompiled, Builds, Linked}
@@ -29,7 +29,7 @@ linked_builds texts objects image compiled linked =
 pub record IsWhole (texts : List (List ℕ)) (image : Image) : Type 0 where
   pub of : IsOfConstant texts image
   pub valid : IsValid image
-  pub starts : HoldsCodeAlone image
+  pub starts : Starts image
   pub exits : ExitsAlways image (of.constant % 256)
 
 pub whole : (texts : List (List ℕ)) (image : Image) → Builds texts image → IsWhole texts image
@@ -38,6 +38,6 @@ whole texts image builds =
     record {
       of = found;
       valid = subst (λ i. IsValid i) (sym found.is) (constant_valid found.constant);
-      starts = subst (λ i. HoldsCodeAlone i) (sym found.is) (constant_starts found.constant);
+      starts = subst (λ i. Starts i) (sym found.is) (constant_starts found.constant);
       exits = of_exits texts image found;
     }

@@ -7,20 +7,18 @@ use Rattle.memtag_dump.specs.Laws.OneText.{one_text, one_fault, no_fault}
 use Rattle.memtag_dump.specs.declared.refusal.DumpRefusal.{DumpRefusal}
 use Rattle.memtag_dump.specs.declared.refusal.DumpRefusal.TheVariants.{NoMemory as DumpNoMemory}
 use Rattle.mt_pipeline.specs.Dump.{CauseOfDump, put, put_failed, refused, unread, no_memory, Dumps}
-use Rattle.mt_pipeline.specs.Put.{Output, PutsAll, with_output, IsPut, all, part}
-use Rattle.mt_pipeline.specs.Counted.{UncountedReads}
-use Rattle.mt_pipeline.specs.Answer.{ended_of}
-use Rattle.mt_pipeline.specs.Read.{CauseOfNoBytes}
+use Rattle.mt_answers.specs.Put.{Output, PutsAll, with_output, IsPut, all, part}
+use Rattle.mt_answers.specs.Counted.{UncountedReads}
+use Rattle.mt_answers.specs.Answer.{IsAnswerTo, ended_of}
+use Rattle.mt_answers.specs.Read.{CauseOfNoBytes}
 use Rattle.mt_pipeline.specs.Undumped.{answer_to_dump}
-use Rattle.mt_pipeline.specs.Unread.{answer_to_unread, why_unread}
-use Rattle.mt_pipeline.specs.declared.answer.Answer.{Answer}
-use Rattle.mt_pipeline.specs.declared.read.Unread.{Unread}
-use Rattle.mt_pipeline.specs.declared.read.Unread.TheVariants.{Absent, Failed, NoMemory as WantsMemory}
-use Rattle.mt_pipeline.specs.Seen.{FilesSeen, MayHold, bytes_of, ReadFailed, SameFiles}
-use Rattle.mt_pipeline.specs.Status.{ends}
-use Rattle.mt_pipeline.specs.declared.ended.Ended.{Ended}
-use Rattle.mt_pipeline.specs.declared.ended.Why.TheVariants.{Done, BadImage, NoMemory, Usage}
-use Rattle.mt_pipeline.proofs.SameBytes.{same_bytes, unread_wants}
+use Rattle.mt_answers.specs.declared.answer.Answer.{Answer}
+use Rattle.mt_answers.specs.Seen.{FilesSeen, MayHold, bytes_of, ReadFailed, SameFiles}
+use Rattle.mt_answers.specs.Status.{ends}
+use Rattle.mt_answers.specs.declared.ended.Ended.{Ended}
+use Rattle.mt_answers.specs.declared.ended.Why.TheVariants.{Done, BadImage, NoMemory, Usage}
+use Rattle.mt_answers.specs.Laws.SameBytes.{same_bytes, not_unread}
+use Rattle.mt_pipeline.proofs.SourceCauses.{answered}
 use Rattle.mt_pipeline.proofs.Statuses.{unread_not_usage}
 
 module _ {K : Type 0} (file : List ℕ) (before after : FilesSeen) (out now : Output K) where
@@ -34,7 +32,7 @@ module _ {K : Type 0} (file : List ℕ) (before after : FilesSeen) (out now : Ou
   dump_prints (refused read fault may none silent) bytes text holds is no_read no_put =
       absurd (no_fault bytes text fault is (subst (λ b. HasNoText b fault) (same_bytes before file bytes read holds may) none))
   dump_prints (unread cause silent) bytes text holds is no_read no_put =
-      inr (ap ends (unread_wants file bytes before after cause holds no_read))
+      absurd (not_unread 0 file bytes before after cause holds no_read)
   dump_prints (no_memory silent) bytes text holds is no_read no_put = inr refl
 
   dump_refuses : {ended : Ended} → CauseOfDump file (with_output before out) (with_output after now) ended
@@ -50,7 +48,7 @@ module _ {K : Type 0} (file : List ℕ) (before after : FilesSeen) (out now : Ou
       let same : first ≡ fault = one_fault bytes first fault (subst (λ b. HasNoText b first)
       (same_bytes before file bytes read holds may) none) is in
       inl (ap (λ f. ends (BadImage 0 (number_of f) (place_of f))) same)
-  dump_refuses (unread cause silent) bytes fault holds is no_read = inr (ap ends (unread_wants file bytes before after cause holds no_read))
+  dump_refuses (unread cause silent) bytes fault holds is no_read = absurd (not_unread 0 file bytes before after cause holds no_read)
   dump_refuses (no_memory silent) bytes fault holds is no_read = inr refl
 
   -- A cause is the whole of the answer.
@@ -69,14 +67,15 @@ module _ {K : Type 0} (file : List ℕ) (before after : FilesSeen) (out now : Ou
   dump_not_usage (put read found may has puts) e = cc
   dump_not_usage (put_failed read found may has puts) e = cc
   dump_not_usage (refused read fault may none silent) e = cc
-  dump_not_usage (unread cause silent) e = unread_not_usage file before after cause e
+  dump_not_usage (unread cause silent) e = unread_not_usage 0 file before after cause e
   dump_not_usage (no_memory silent) e = cc
 
-  pub dump_unread : (not : Unread) → CauseOfNoBytes file before after (why_unread not) → now ≡ out →
-      CauseOfDump file (with_output before out) (with_output after now) (ended_of (answer_to_unread not))
-  dump_unread Absent cause silent = unread cause silent
-  dump_unread Failed cause silent = unread cause silent
-  dump_unread WantsMemory cause silent = unread cause silent
+  -- it was not read, or memory was wanting
+  pub dump_unread : (answer : Answer) → IsAnswerTo (CauseOfNoBytes 0 file before after) answer → now ≡ out →
+      CauseOfDump file (with_output before out) (with_output after now) (ended_of answer)
+  dump_unread answer cause silent =
+      answered (CauseOfDump file (with_output before out) (with_output after now)) (CauseOfNoBytes 0 file before after) answer cause
+      (no_memory silent) (λ why not. unread not silent)
 
   pub dump_put : (bytes text : List ℕ) (answer : Answer) → MayHold before file bytes → HasText bytes text → IsPut text out now answer →
       CauseOfDump file (with_output before out) (with_output after now) (ended_of answer)

@@ -7,20 +7,18 @@ use Rattle.mt_compile.specs.Laws.OnePlan.{one_plan, one_plan_refusal, no_plan}
 use Rattle.mt_compile.specs.declared.refusal.CompileRefusal.{CompileRefusal}
 use Rattle.mt_compile.specs.declared.refusal.CompileRefusal.TheVariants.{NoMemory as SourceNoMemory}
 use Rattle.mt_pipeline.specs.Plan.{CauseOfPlan, put, put_failed, refused, unread, no_memory, Plans}
-use Rattle.mt_pipeline.specs.Put.{Output, PutsAll, with_output, IsPut, all, part}
-use Rattle.mt_pipeline.specs.Counted.{UncountedReads}
-use Rattle.mt_pipeline.specs.Answer.{ended_of}
-use Rattle.mt_pipeline.specs.Read.{CauseOfNoBytes}
-use Rattle.mt_pipeline.specs.Unplanned.{answer_to_source}
-use Rattle.mt_pipeline.specs.Unread.{answer_to_unread, why_unread}
-use Rattle.mt_pipeline.specs.declared.answer.Answer.{Answer}
-use Rattle.mt_pipeline.specs.declared.read.Unread.{Unread}
-use Rattle.mt_pipeline.specs.declared.read.Unread.TheVariants.{Absent, Failed, NoMemory as WantsMemory}
-use Rattle.mt_pipeline.specs.Seen.{FilesSeen, MayHold, bytes_of, ReadFailed, SameFiles}
-use Rattle.mt_pipeline.specs.Status.{ends}
-use Rattle.mt_pipeline.specs.declared.ended.Ended.{Ended}
-use Rattle.mt_pipeline.specs.declared.ended.Why.TheVariants.{Done, Refused, NoMemory, Usage}
-use Rattle.mt_pipeline.proofs.SameBytes.{same_bytes, unread_wants}
+use Rattle.mt_answers.specs.Put.{Output, PutsAll, with_output, IsPut, all, part}
+use Rattle.mt_answers.specs.Counted.{UncountedReads}
+use Rattle.mt_answers.specs.Answer.{IsAnswerTo, ended_of}
+use Rattle.mt_answers.specs.Read.{CauseOfNoBytes}
+use Rattle.mt_answers.specs.Refusals.{answer_to_source}
+use Rattle.mt_answers.specs.declared.answer.Answer.{Answer}
+use Rattle.mt_answers.specs.Seen.{FilesSeen, MayHold, bytes_of, ReadFailed, SameFiles}
+use Rattle.mt_answers.specs.Status.{ends}
+use Rattle.mt_answers.specs.declared.ended.Ended.{Ended}
+use Rattle.mt_answers.specs.declared.ended.Why.TheVariants.{Done, Refused, NoMemory, Usage}
+use Rattle.mt_answers.specs.Laws.SameBytes.{same_bytes, not_unread}
+use Rattle.mt_pipeline.proofs.SourceCauses.{answered}
 use Rattle.mt_pipeline.proofs.Statuses.{unread_not_usage}
 
 -- a text that is refused is refused so
@@ -42,7 +40,7 @@ module _ {K : Type 0} (file : List ℕ) (before after : FilesSeen) (out now : Ou
   plan_prints (refused read refusal byte may refuses silent) bytes lines holds is no_read no_put =
       absurd (no_plan is (subst (λ b. PlanRefuses b refusal byte) (same_bytes before file bytes read holds may) refuses))
   plan_prints (unread cause silent) bytes lines holds is no_read no_put =
-      inr (ap ends (unread_wants file bytes before after cause holds no_read))
+      absurd (not_unread 0 file bytes before after cause holds no_read)
   plan_prints (no_memory silent) bytes lines holds is no_read no_put = inr refl
 
   plan_refuses : {ended : Ended} → CauseOfPlan file (with_output before out) (with_output after now) ended →
@@ -56,7 +54,7 @@ module _ {K : Type 0} (file : List ℕ) (before after : FilesSeen) (out now : Ou
       inl (plan_same bytes number at byte refusal is
       (subst (λ b. PlanRefuses b refusal byte) (same_bytes before file bytes read holds may) refuses))
   plan_refuses (unread cause silent) bytes number at holds is no_read =
-      inr (ap ends (unread_wants file bytes before after cause holds no_read))
+      absurd (not_unread 0 file bytes before after cause holds no_read)
   plan_refuses (no_memory silent) bytes number at holds is no_read = inr refl
 
   -- A cause is the whole of the answer.
@@ -74,14 +72,15 @@ module _ {K : Type 0} (file : List ℕ) (before after : FilesSeen) (out now : Ou
   plan_not_usage (put read found may has puts) e = cc
   plan_not_usage (put_failed read found may has puts) e = cc
   plan_not_usage (refused read refusal byte may refuses silent) e = cc
-  plan_not_usage (unread cause silent) e = unread_not_usage file before after cause e
+  plan_not_usage (unread cause silent) e = unread_not_usage 0 file before after cause e
   plan_not_usage (no_memory silent) e = cc
 
-  pub plan_unread : (not : Unread) → CauseOfNoBytes file before after (why_unread not) → now ≡ out →
-      CauseOfPlan file (with_output before out) (with_output after now) (ended_of (answer_to_unread not))
-  plan_unread Absent cause silent = unread cause silent
-  plan_unread Failed cause silent = unread cause silent
-  plan_unread WantsMemory cause silent = unread cause silent
+  -- it was not read, or memory was wanting
+  pub plan_unread : (answer : Answer) → IsAnswerTo (CauseOfNoBytes 0 file before after) answer → now ≡ out →
+      CauseOfPlan file (with_output before out) (with_output after now) (ended_of answer)
+  plan_unread answer cause silent =
+      answered (CauseOfPlan file (with_output before out) (with_output after now)) (CauseOfNoBytes 0 file before after) answer cause
+      (no_memory silent) (λ why not. unread not silent)
 
   pub plan_put : (bytes lines : List ℕ) (answer : Answer) → MayHold before file bytes → HasPlan bytes lines → IsPut lines out now answer →
       CauseOfPlan file (with_output before out) (with_output after now) (ended_of answer)
@@ -91,9 +90,9 @@ module _ {K : Type 0} (file : List ℕ) (before after : FilesSeen) (out now : Ou
   -- a refusal is the want of memory, or that of the text
   pub plan_refused : (bytes : List ℕ) (refusal : CompileRefusal) (place : ℕ) → MayHold before file bytes → now ≡ out →
       (refusal ≡ SourceNoMemory) ⊎ PlanRefuses bytes refusal place →
-      CauseOfPlan file (with_output before out) (with_output after now) (ended_of (answer_to_source refusal place))
+      CauseOfPlan file (with_output before out) (with_output after now) (ended_of (answer_to_source 0 refusal place))
   plan_refused bytes refusal place may silent (inl wanting) =
-      subst (λ r. CauseOfPlan file (with_output before out) (with_output after now) (ended_of (answer_to_source r place))) (sym wanting)
+      subst (λ r. CauseOfPlan file (with_output before out) (with_output after now) (ended_of (answer_to_source 0 r place))) (sym wanting)
       (no_memory silent)
   plan_refused bytes SourceNoMemory place may silent (inr refuses) = no_memory silent
   plan_refused bytes refusal place may silent (inr refuses) = refused bytes refusal place may refuses silent

@@ -6,8 +6,8 @@ use Rattle.mt_pipeline.specs.Agrees.{Return}
 use Rattle.mt_pipeline.specs.Built.{RefusesTexts, source, link}
 use Rattle.mt_pipeline.specs.Laws.OneBuild.{one_build_refusal}
 use Rattle.mt_pipeline.specs.Unbuilt.{IsCause}
-use Rattle.mt_pipeline.specs.declared.refusal.BuildRefusal.{BuildRefusal}
-use Rattle.mt_pipeline.specs.declared.refusal.BuildRefusal.TheVariants.{NoMemory}
+use Rattle.mt_answers.specs.declared.refusal.BuildRefusal.{BuildRefusal}
+use Rattle.mt_answers.specs.declared.refusal.BuildRefusal.TheVariants.{NoMemory}
 use Rattle.mt_compile.specs.declared.refused.Refused.{Refused}
 use Rattle.mt_pipeline.proofs.BuildRefused.{one_front, one_links}
 

@@ -1,16 +1,17 @@
 -- What texts are built into, and why they are not (this project's own).
-use Rattle.std.specs.Prelude.{◌≡◌, ◌<◌, ◌≤◌, ℕ, min, List, [], ◌∷◌, ◌++◌, length, map, codes}
+use Rattle.std.specs.Prelude.{◌≡◌, ◌<◌, ◌≤◌, ℕ, List, [], ◌∷◌, ◌++◌, length, map, codes}
 use Rattle.elf_image.specs.Image.{Image}
 use Rattle.elf_image.specs.ImageFile.{ImageFile}
 use Rattle.mt_compile.specs.Compiled.{Compiled}
 use Rattle.mt_compile.specs.Refused.{Refuses}
 use Rattle.mt_compile.specs.declared.refusal.CompileRefusal.{CompileRefusal}
 use Rattle.mt_compile.specs.declared.source.SourceText.{SourceText}
+use Rattle.mt_answers.specs.Each.{file_number}
 use Rattle.mt_pipeline.specs.Agrees.{Agrees}
-use Rattle.mt_pipeline.specs.declared.refusal.BuildRefusal.{BuildRefusal}
-use Rattle.mt_pipeline.specs.declared.refusal.BuildRefusal.TheVariants.{Compile, Link}
-use Rattle.mt_pipeline.specs.declared.refusal.LinkRefusal.{LinkRefusal}
-use Rattle.mt_pipeline.specs.declared.refusal.LinkRefusal.TheVariants.{TooManyObjects, Duplicate, NoMain}
+use Rattle.mt_answers.specs.declared.refusal.BuildRefusal.{BuildRefusal}
+use Rattle.mt_answers.specs.declared.refusal.BuildRefusal.TheVariants.{Compile, Link}
+use Rattle.mt_answers.specs.declared.refusal.LinkRefusal.{LinkRefusal}
+use Rattle.mt_answers.specs.declared.refusal.LinkRefusal.TheVariants.{TooManyObjects, Duplicate, NoMain}
 
 -- the bytes of each text
 abbrev pub texts_of : List SourceText → List (List ℕ)
@@ -58,10 +59,6 @@ pub data RefusesLink (objects : List (List ℕ)) : LinkRefusal → Type 0 where
   too_many : most_objects < length objects → RefusesLink objects (TooManyObjects (length objects))
   twice : 1 < length objects → length objects ≤ most_objects → RefusesLink objects (Duplicate (codes "main"))
   no_main : objects ≡ [] → RefusesLink objects NoMain
-
--- a text's number, from 0, as 32 bits tell it: one that they do not hold is told as their last number
-abbrev pub file_number : ℕ → ℕ
-file_number n = min n 4294967295
 
 -- The texts have this refusal, and this byte is told of it, 0 where none is. The first text that is refused comes before the link.
 pub data RefusesTexts (texts : List (List ℕ)) : BuildRefusal → ℕ → Type 0 where

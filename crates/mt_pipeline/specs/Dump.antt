@@ -4,14 +4,14 @@ use Rattle.mt_outside.specs.Told.{Rose}
 use Rattle.memtag_dump.specs.Lines.{HasText}
 use Rattle.memtag_dump.specs.Refusal.{HasNoText, number_of, place_of}
 use Rattle.memtag_dump.specs.declared.refusal.DumpRefusal.{DumpRefusal}
-use Rattle.mt_pipeline.specs.Counted.{UncountedReads}
-use Rattle.mt_pipeline.specs.Put.{FilesAndOutput, PutsAll, PutsPart, output_of, with_output}
-use Rattle.mt_pipeline.specs.Read.{CauseOfNoBytes}
-use Rattle.mt_pipeline.specs.Seen.{Seen, bytes_of, MayHold, ReadFailed, SameFiles}
-use Rattle.mt_pipeline.specs.Status.{ends}
-use Rattle.mt_pipeline.specs.declared.ended.Ended.{Ended}
-use Rattle.mt_pipeline.specs.declared.ended.Why.{Why}
-use Rattle.mt_pipeline.specs.declared.ended.Why.TheVariants.{Done, BadImage, NoMemory, OutputFault}
+use Rattle.mt_answers.specs.Counted.{UncountedReads}
+use Rattle.mt_answers.specs.Put.{FilesAndOutput, PutsAll, PutsPart, output_of, with_output}
+use Rattle.mt_answers.specs.Read.{CauseOfNoBytes}
+use Rattle.mt_answers.specs.Seen.{Seen, bytes_of, MayHold, ReadFailed, SameFiles}
+use Rattle.mt_answers.specs.Status.{ends}
+use Rattle.mt_answers.specs.declared.ended.Ended.{Ended}
+use Rattle.mt_answers.specs.declared.ended.Why.{Why}
+use Rattle.mt_answers.specs.declared.ended.Why.TheVariants.{Done, BadImage, NoMemory, OutputFault}
 
 -- The answers, each by its cause.
 pub data CauseOfDump {K : Type 0} (file : List ℕ) (before after : FilesAndOutput K) : Ended → Type 0 where
@@ -26,7 +26,7 @@ pub data CauseOfDump {K : Type 0} (file : List ℕ) (before after : FilesAndOutp
       → after.output ≡ before.output →
       CauseOfDump file before after (ends (BadImage 0 (number_of fault) (place_of fault)))
   -- it was not read
-  unread : {why : Why} → CauseOfNoBytes file before.files after.files why → after.output ≡ before.output
+  unread : {why : Why} → CauseOfNoBytes 0 file before.files after.files why → after.output ≡ before.output
       → CauseOfDump file before after (ends why)
   no_memory : after.output ≡ before.output → CauseOfDump file before after (ends NoMemory)
 

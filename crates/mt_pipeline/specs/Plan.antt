@@ -4,14 +4,14 @@ use Rattle.mt_outside.specs.Told.{Rose}
 use Rattle.mt_compile.specs.Planned.{HasPlan, PlanRefuses, IsPlanRefused}
 use Rattle.mt_compile.specs.Refused.{number_of}
 use Rattle.mt_compile.specs.declared.refusal.CompileRefusal.{CompileRefusal}
-use Rattle.mt_pipeline.specs.Counted.{UncountedReads}
-use Rattle.mt_pipeline.specs.Put.{FilesAndOutput, PutsAll, PutsPart, output_of, with_output}
-use Rattle.mt_pipeline.specs.Read.{CauseOfNoBytes}
-use Rattle.mt_pipeline.specs.Seen.{Seen, bytes_of, MayHold, ReadFailed, SameFiles}
-use Rattle.mt_pipeline.specs.Status.{ends}
-use Rattle.mt_pipeline.specs.declared.ended.Ended.{Ended}
-use Rattle.mt_pipeline.specs.declared.ended.Why.{Why}
-use Rattle.mt_pipeline.specs.declared.ended.Why.TheVariants.{Done, Refused, NoMemory, OutputFault}
+use Rattle.mt_answers.specs.Counted.{UncountedReads}
+use Rattle.mt_answers.specs.Put.{FilesAndOutput, PutsAll, PutsPart, output_of, with_output}
+use Rattle.mt_answers.specs.Read.{CauseOfNoBytes}
+use Rattle.mt_answers.specs.Seen.{Seen, bytes_of, MayHold, ReadFailed, SameFiles}
+use Rattle.mt_answers.specs.Status.{ends}
+use Rattle.mt_answers.specs.declared.ended.Ended.{Ended}
+use Rattle.mt_answers.specs.declared.ended.Why.{Why}
+use Rattle.mt_answers.specs.declared.ended.Why.TheVariants.{Done, Refused, NoMemory, OutputFault}
 
 -- The answers, each by its cause.
 pub data CauseOfPlan {K : Type 0} (file : List ℕ) (before after : FilesAndOutput K) : Ended → Type 0 where
@@ -25,7 +25,7 @@ pub data CauseOfPlan {K : Type 0} (file : List ℕ) (before after : FilesAndOutp
   refused : (bytes : List ℕ) (refusal : CompileRefusal) (byte : ℕ) → MayHold before.files file bytes → PlanRefuses bytes refusal byte →
       after.output ≡ before.output → CauseOfPlan file before after (ends (Refused 0 (number_of refusal) byte))
   -- it was not read
-  unread : {why : Why} → CauseOfNoBytes file before.files after.files why → after.output ≡ before.output →
+  unread : {why : Why} → CauseOfNoBytes 0 file before.files after.files why → after.output ≡ before.output →
       CauseOfPlan file before after (ends why)
   no_memory : after.output ≡ before.output → CauseOfPlan file before after (ends NoMemory)
 

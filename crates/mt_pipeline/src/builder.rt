@@ -5,10 +5,10 @@ ghost use Rattle.mt_pipeline.specs.Agrees.{Return};
 ghost use Rattle.mt_pipeline.specs.Built.{AreCompiled, Builds, IsBuilt, Linked, RefusesLink, RefusesTexts, texts_of};
 ghost use Rattle.mt_pipeline.specs.Unbuilt.{IsCause};
 
-use crate::refusal::{BuildRefusal, LinkRefusal};
 use c_ast::Name;
 use elf_base::Bytes;
 use elf_image::{ImageParts, write_image};
+use mt_answers::{BuildRefusal, LinkRefusal};
 use mt_compile::{Refused, SourceText, compile};
 use std::alloc::Global;
 
@@ -35,8 +35,8 @@ pub fn build(alloc: Global, texts: &[SourceText]) -> Result<Vec<u8>, BuildRefusa
     }
 }
 
-/// The same, and a refusal with the byte that is told of it.
-pub fn image_bytes(alloc: Global, texts: &[SourceText]) -> Result<Vec<u8>, Refused<BuildRefusal>>
+// The same, and a refusal with the byte that is told of it.
+fn image_bytes(alloc: Global, texts: &[SourceText]) -> Result<Vec<u8>, Refused<BuildRefusal>>
     ensures built { IfOk result (λ file. IsBuilt (texts_of texts.now) file.items) }
     ensures refused { IfErr result (IsCause (texts_of texts.now)) }
 {
@@ -46,8 +46,8 @@ pub fn image_bytes(alloc: Global, texts: &[SourceText]) -> Result<Vec<u8>, Refus
     }
 }
 
-/// The parts of the image of these texts.
-pub fn parts_of(alloc: Global, texts: &[SourceText]) -> Result<ImageParts, Refused<BuildRefusal>>
+// The parts of the image of these texts.
+fn parts_of(alloc: Global, texts: &[SourceText]) -> Result<ImageParts, Refused<BuildRefusal>>
     ensures parts { IfOk result (λ parts. Builds (texts_of texts.now) (image_of parts)) }
     ensures refused { IfErr result (IsCause (texts_of texts.now)) }
 {
@@ -76,8 +76,8 @@ fn objects_of(alloc: Global, texts: &[SourceText]) -> Result<Vec<Vec<u32>>, Refu
     Ok(objects)
 }
 
-// The parts of the image of the code of texts, each of which defines `main`.
-fn link(alloc: Global, mut objects: Vec<Vec<u32>>) -> Result<ImageParts, LinkRefusal>
+/// The parts of the image of the code of texts, each of which defines `main`.
+pub fn link(alloc: Global, mut objects: Vec<Vec<u32>>) -> Result<ImageParts, LinkRefusal>
     ensures linked { IfOk result (λ parts. Linked (map (λ words. words.items) objects.items) (image_of parts)) }
     ensures refused { IfErr result (λ refusal. (refusal ≡ LinkRefusal.NoMemory)
         ⊎ RefusesLink (map (λ words. words.items) objects.items) refusal) }

@@ -1,23 +1,26 @@
 // The top call.
-ghost use Rattle.std.specs.Prelude.{◌≡◌, ◌↔◌, map};
+ghost use Rattle.std.specs.Prelude.{◌≡◌, map};
 ghost use Rattle.std.specs.String.{string_bytes};
 ghost use Rattle.mte_machine.specs.Objects.{objects};
-ghost use Rattle.mt_pipeline.specs.Answer.{ended_of};
+ghost use Rattle.mt_answers.specs.Answer.{ended_of};
+ghost use Rattle.mt_answers.specs.Seen.{seen, files_seen};
+ghost use Rattle.mt_answers.specs.Status.{HasNoLine, ends, status_of};
+ghost use Rattle.mt_words.specs.HasJob.{HasJob};
+ghost use Rattle.mt_words.specs.Jobs.{Job as Asked};
+ghost use Rattle.mt_words.specs.Laws.Formed.{IsFormed};
+ghost use Rattle.mt_words.specs.Model.{job_is};
 ghost use Rattle.mt_pipeline.specs.Answers.{Answers};
-ghost use Rattle.mt_pipeline.specs.Job.{Job, HasJob};
 ghost use Rattle.mt_pipeline.specs.NoWords.{why_without_words};
-ghost use Rattle.mt_pipeline.specs.Seen.{seen, files_seen};
-ghost use Rattle.mt_pipeline.specs.Status.{HasNoLine, ends, status_of};
-ghost use Rattle.mt_pipeline.specs.Usage.{UsageAnswers};
+ghost use Rattle.mt_pipeline.specs.Usage.{AskNothing, IsNotYet, UsageAnswers};
 
-use crate::answer::Answer;
-use crate::command::{Command, command_of};
-use crate::commands::{go, run_file, write_built};
 use crate::dump::dump_file;
-use crate::ended::{Ended, Why};
+use crate::go::go;
 use crate::plan::plan_file;
-use crate::report::finish;
+use crate::run::run_file;
+use crate::write::write_built;
+use mt_answers::{Answer, Ended, Why, finish};
 use mt_outside::{Files, Sink, Source};
+use mt_words::{Job, job_of};
 use std::alloc::Global;
 
 /// Does what the words after the program's name ask for. The program reads `input` and writes `out`; a line on `err`
@@ -30,30 +33,74 @@ pub fn drive<F: Files, S: Source, K: Sink, E: Sink>(
     out: &mut K,
     err: &mut E,
 ) -> Ended
-    ensures answers { (job : Job) → HasJob (map string_bytes words.now) job →
+    ensures answers { (job : Asked) → HasJob (map string_bytes words.now) job →
         Answers job (seen (files_seen F.Files files.old) (objects S.Source K.Sink input.old out.old))
         (seen (files_seen F.Files files.new) (objects S.Source K.Sink input.new out.new)) result }
-    ensures usage { (result.why ≡ Why.Usage) ↔ ((job : Job) → ¬ HasJob (map string_bytes words.now) job) }
-    ensures no_job { ((job : Job) → ¬ HasJob (map string_bytes words.now) job) →
+    ensures usage { result.why ≡ Why.Usage → AskNothing (map string_bytes words.now) }
+    ensures no_job { AskNothing (map string_bytes words.now) →
         UsageAnswers (seen (files_seen F.Files files.old) (objects S.Source K.Sink input.old out.old))
         (seen (files_seen F.Files files.new) (objects S.Source K.Sink input.new out.new)) result }
 
     ensures status { result.status ≡ status_of result.status result.why }
     ensures quiet { HasNoLine result.why → err.new ≡ err.old }
 {
-    match command_of(words) {
-        Some(Command::Go { file, steps }) => {
-            finish(err, file, go(alloc, file, steps, files, input, out))
+    let found = match job_of(alloc, words) {
+        Ok(found) => found,
+        Err(_) => return finish(err, &[], Answer::NoMemory),
+    };
+    match found {
+        Some(job) => finish_job(alloc, &job, files, input, out, err),
+        None => finish(err, &[], Answer::Usage),
+    }
+}
+
+// Does this job.
+fn finish_job<F: Files, S: Source, K: Sink, E: Sink>(
+    alloc: Global,
+    job: &Job<'_>,
+    files: &mut F,
+    input: &mut S,
+    out: &mut K,
+    err: &mut E,
+) -> Ended
+    requires { IsFormed (job_is job.now) }
+    ensures answers { Answers (job_is job.now) (seen (files_seen F.Files files.old) (objects S.Source K.Sink input.old out.old))
+        (seen (files_seen F.Files files.new) (objects S.Source K.Sink input.new out.new)) result }
+    ensures usage { result.why ≡ Why.Usage → IsNotYet (job_is job.now) }
+    ensures status { result.status ≡ status_of result.status result.why }
+    ensures quiet { HasNoLine result.why → err.new ≡ err.old }
+{
+    match job {
+        Job::Go {
+            files: names,
+            options,
+        } => finish(err, names, go(alloc, names, options, files, input, out)),
+        Job::Build {
+            files: names,
+            out: image,
+        } => finish_build(err, names, image, write_built(alloc, names, image, files)),
+        Job::Run { image, options } => {
+            finish(
+                err,
+                &[*image],
+                run_file(alloc, image, options, files, input, out),
+            )
         }
-        Some(Command::Build { file, out: image }) => {
-            finish_build(err, file, image, write_built(alloc, file, image, files))
-        }
-        Some(Command::Run { image, steps }) => {
-            finish(err, image, run_file(alloc, image, steps, files, input, out))
-        }
-        Some(Command::Dump { file }) => finish(err, file, dump_file(alloc, file, files, out)),
-        Some(Command::Plan { file }) => finish(err, file, plan_file(alloc, file, files, out)),
-        None => finish(err, "", Answer::Usage),
+        Job::Dump { file } => finish(err, &[*file], dump_file(alloc, file, files, out)),
+        Job::Plan { file } => finish(err, &[*file], plan_file(alloc, file, files, out)),
+        Job::Link { .. } | Job::Mean { .. } => finish(err, &[], Answer::Usage),
+    }
+}
+
+// The same of an answer of `build`, whose line names the image where it could not be written.
+fn finish_build<E: Sink>(err: &mut E, names: &[&str], image: &str, answer: Answer) -> Ended
+    ensures ended { result ≡ ended_of answer }
+    ensures status { result.status ≡ status_of result.status result.why }
+    ensures quiet { HasNoLine result.why → err.new ≡ err.old }
+{
+    match answer {
+        Answer::WriteFault { .. } => finish(err, &[image], answer),
+        _ => finish(err, names, answer),
     }
 }
 
@@ -71,18 +118,7 @@ pub fn end_without_words<E: Sink>(err: &mut E, cause: NoWords) -> Ended
     ensures { result ≡ ends (why_without_words cause) }
 {
     match cause {
-        NoWords::NotText => finish(err, "", Answer::Usage),
-        NoWords::NoMemory => finish(err, "", Answer::NoMemory),
-    }
-}
-
-// The same of an answer of `build`, whose line names the file that could not be written.
-fn finish_build<E: Sink>(err: &mut E, file: &str, image: &str, answer: Answer) -> Ended
-    ensures ended { result ≡ ended_of answer }
-    ensures quiet { HasNoLine result.why → err.new ≡ err.old }
-{
-    match answer {
-        Answer::WriteFault { .. } => finish(err, image, answer),
-        _ => finish(err, file, answer),
+        NoWords::NotText => finish(err, &[], Answer::Usage),
+        NoWords::NoMemory => finish(err, &[], Answer::NoMemory),
     }
 }

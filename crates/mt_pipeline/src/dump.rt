@@ -1,15 +1,13 @@
 // The command `dump`.
 ghost use Rattle.std.specs.Prelude.{◌≡◌};
-ghost use Rattle.mt_pipeline.specs.Answer.{ended_of};
+ghost use Rattle.mt_answers.specs.Answer.{ended_of};
 ghost use Rattle.mt_pipeline.specs.Dump.{Dumps};
-ghost use Rattle.mt_pipeline.specs.Put.{output_seen, with_output};
-ghost use Rattle.mt_pipeline.specs.Seen.{files_seen};
+ghost use Rattle.mt_answers.specs.Put.{output_seen, with_output};
+ghost use Rattle.mt_answers.specs.Seen.{files_seen};
 ghost use Rattle.mt_pipeline.specs.Undumped.{answer_to_dump};
 
-use crate::answer::Answer;
-use crate::put::put_bytes;
-use crate::read::read_file;
 use memtag_dump::{DumpRefusal, dump};
+use mt_answers::{Answer, put_bytes, read_file};
 use mt_outside::{Files, Sink};
 use std::alloc::Global;
 
@@ -18,9 +16,9 @@ pub fn dump_file<F: Files, K: Sink>(alloc: Global, file: &str, files: &mut F, ou
     ensures { Dumps file.now (with_output (files_seen F.Files files.old) (output_seen K.Sink out.old))
         (with_output (files_seen F.Files files.new) (output_seen K.Sink out.new)) (ended_of result) }
 {
-    let bytes = match read_file(alloc, files, file) {
+    let bytes = match read_file(alloc, 0, file, files) {
         Ok(bytes) => bytes,
-        Err(unread) => return unread.answer(),
+        Err(answer) => return answer,
     };
     match dump(alloc, &bytes) {
         Ok(text) => put_bytes(text.as_str().as_bytes(), out),

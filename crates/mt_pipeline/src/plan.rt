@@ -1,15 +1,11 @@
 // The command `plan`.
-ghost use Rattle.std.specs.Prelude.{◌≡◌};
-ghost use Rattle.mt_pipeline.specs.Answer.{ended_of};
+ghost use Rattle.mt_answers.specs.Answer.{ended_of};
 ghost use Rattle.mt_pipeline.specs.Plan.{Plans};
-ghost use Rattle.mt_pipeline.specs.Put.{output_seen, with_output};
-ghost use Rattle.mt_pipeline.specs.Seen.{files_seen};
-ghost use Rattle.mt_pipeline.specs.Unplanned.{answer_to_source};
+ghost use Rattle.mt_answers.specs.Put.{output_seen, with_output};
+ghost use Rattle.mt_answers.specs.Seen.{files_seen};
 
-use crate::answer::Answer;
-use crate::put::put_bytes;
-use crate::read::read_file;
-use mt_compile::{CompileRefusal, Refused, plan_of};
+use mt_answers::{Answer, put_bytes, read_file};
+use mt_compile::plan_of;
 use mt_outside::{Files, Sink};
 use std::alloc::Global;
 
@@ -18,27 +14,12 @@ pub fn plan_file<F: Files, K: Sink>(alloc: Global, file: &str, files: &mut F, ou
     ensures { Plans file.now (with_output (files_seen F.Files files.old) (output_seen K.Sink out.old))
         (with_output (files_seen F.Files files.new) (output_seen K.Sink out.new)) (ended_of result) }
 {
-    let bytes = match read_file(alloc, files, file) {
+    let bytes = match read_file(alloc, 0, file, files) {
         Ok(bytes) => bytes,
-        Err(unread) => return unread.answer(),
+        Err(answer) => return answer,
     };
     match plan_of(alloc, &bytes) {
         Ok(lines) => put_bytes(&lines, out),
-        Err(refused) => answer_to_source(refused),
-    }
-}
-
-// What is answered where the source of the first file is refused.
-fn answer_to_source(refused: Refused<CompileRefusal>) -> Answer
-    ensures { result ≡ answer_to_source refused.refusal refused.place }
-{
-    let Refused { refusal, place } = refused;
-    match refusal {
-        CompileRefusal::NoMemory => Answer::NoMemory,
-        refusal => Answer::Refused {
-            file: 0,
-            place,
-            refusal,
-        },
+        Err(refused) => Answer::of_source(0, refused),
     }
 }

@@ -1,15 +1,16 @@
 // The run of an image.
-ghost use Rattle.std.specs.Prelude.{◌≡◌, ◌≢◌, ◌⊎◌, [], IfErr, IfOk, IsErrOf, MatchResult};
+ghost use Rattle.std.specs.Prelude.{◌≡◌, ◌≢◌, ◌⊎◌, [], IfErr, IfOk, MatchResult};
 ghost use Rattle.elf_image.specs.Image.{Image, image_of};
 ghost use Rattle.elf_image.specs.Places.{IsValid};
 ghost use Rattle.elf_image.specs.Ranges.{IsFileOf};
 ghost use Rattle.mt_pipeline.specs.RunFile.{RefusesRun};
 ghost use Rattle.mte_machine.specs.Objects.{objects};
-ghost use Rattle.tag_startup.specs.Loaded.{HoldsCodeAlone, IsStack};
+ghost use Rattle.tag_startup.specs.Parts.{IsStack};
+ghost use Rattle.tag_startup.specs.Starts.{Starts, StartFault};
 ghost use Rattle.tag_startup.specs.Machine.{RunsImage, launch};
 
-use crate::refusal::RunRefusal;
 use elf_image::{ImageParts, read_image};
+use mt_answers::RunRefusal;
 use mt_base::Tag;
 use mt_outside::{Sink, Source};
 use mte_machine::MachineEnd;
@@ -68,9 +69,12 @@ pub fn run_parts<S: Source, K: Sink>(
     requires stack { IsStack stack }
     ensures runs { IfOk result (λ end. RunsImage (launch (image_of parts.now) choices.now stack n)
         (objects S.Source K.Sink source.old sink.old) (objects S.Source K.Sink source.new sink.new) end) }
-    ensures not_yet { IsErrOf result StartRefusal.NotYet → ¬ HoldsCodeAlone (image_of parts.now) }
-    ensures refused { IfErr result (λ _. (source.new ≡ source.old) × (sink.new ≡ sink.old)) }
+    ensures starts { Starts (image_of parts.now) → IfErr result (λ e. e ≡ StartRefusal.NoMemory) }
+    ensures refused { IfErr result (λ e. (e ≡ StartRefusal.NoMemory) ⊎ StartFault (image_of parts.now) e) }
+    ensures silent { IfErr result (λ _. (source.new ≡ source.old) × (sink.new ≡ sink.old)) }
 {
-    let mut machine = start(alloc, parts, choices, stack)?;
-    Ok(machine.run(source, sink, n))
+    match start(alloc, parts, choices, stack) {
+        Ok(mut machine) => Ok(machine.run(source, sink, n)),
+        Err(refusal) => Err(refusal),
+    }
 }

@@ -19,26 +19,31 @@ use Rattle.elf_image.specs.Constant.{constant_code, constant_image, movz_word, m
 use Rattle.elf_image.specs.Laws.ConstantLaws.{constant_place, constant_valid}
 use Rattle.mte_machine.specs.Run.{Running, Stopped, run, end_of, output_after, answers_after, Steps}
 use Rattle.mte_machine.specs.Laws.Steps.{Steps-one, Steps-add, run-ends}
-use Rattle.tag_startup.specs.Loaded.{HoldsCodeAlone, loaded, loaded_byte, loaded_regions}
+use Rattle.tag_startup.specs.Loaded.{loaded, loaded_byte}
+use Rattle.tag_startup.specs.Parts.{loaded_regions}
+use Rattle.tag_startup.specs.Starts.{Starts}
+use Rattle.tag_startup.specs.Tags.{loaded_tag}
+use Rattle.tag_startup.specs.Laws.CodeAlone.{code_alone_starts}
 use Rattle.tag_startup.specs.Laws.CodeInMemory.{code_fetched}
-use Rattle.tag_startup.specs.Laws.MachineLaws.{machine_of}
+use Rattle.tag_startup.specs.Laws.MachineLaws.{machine_of, one_end}
 use Rattle.mt_compile.specs.Laws.CodeRows.{status_register, movz_row, movk_row, svc_row, constant_code-short, constant_code-long}
 use Rattle.mt_pipeline.specs.Agrees.{ExitsAlways}
 
 -- ---- a step
 
 -- the state has the memory of the constant's image, and PC is at the k-th word of the code
-record IsAt (n stack k : ℕ) (s : State) : Type 0 where
+record IsAt (n stack : ℕ) (tag : ℕ → ℕ) (k : ℕ) (s : State) : Type 0 where
   regions : s.regions ≡ loaded_regions (constant_image n) stack
-  byte : s.byte ≡ loaded_byte (constant_image n) stack
+  byte : s.byte ≡ loaded_byte (constant_image n) stack tag
   pc : s.pc ≡ 0x10001000 + 4 * k
 
 -- a step from there carries out the instruction of that word
-step-at : (n stack k : ℕ) (s : State) (word : ℕ) (instr : Instr) → IsAt n stack k s → k < length (constant_code n) →
-    get_or (constant_code n) k 0 ≡ word → Row word instr → step s ≡ effect instr s
-step-at n stack k s word instr at within is row =
+step-at : (n stack : ℕ) (starts : Starts (constant_image n)) (tag : ℕ → ℕ) (k : ℕ) (s : State) (word : ℕ) (instr : Instr) →
+    IsAt n stack tag k s → k < length (constant_code n) → get_or (constant_code n) k 0 ≡ word → Row word instr → step s ≡ effect instr s
+step-at n stack starts tag k s word instr at within is row =
     ap (λ found. carried_out found s)
-    (code_fetched (constant_image n) stack k s (constant_valid n) within (rw is (Row-below word instr row)) at.regions at.byte
+    (code_fetched (constant_image n) starts.intervals stack tag k s (constant_valid n) starts.objects within
+    (rw is (Row-below word instr row)) at.regions at.byte
     (omega (arith, at.pc, constant_place n))
     ∙ ap instruction_of is ∙ Row-instruction word instr row)
 
@@ -51,8 +56,8 @@ high_moved n s =
     advanced (with_general status_register (of_width false (with_halfword (16 * 1) (n / 65536)
     (of_width false (general s status_register)))) s)
 
-abbrev at_start : ℕ → List ℕ → ℕ → Outside → State
-at_start n choices stack w = loaded (constant_image n) choices stack w
+abbrev at_start : (n : ℕ) → Starts (constant_image n) → List ℕ → ℕ → Outside → State
+at_start n starts choices stack w = loaded (constant_image n) starts.intervals choices stack w
 
 -- ---- runs
 
@@ -99,69 +104,78 @@ soon_end status steps start few goes = record {
 }
 
 -- the first step moves the lower half
-first_step : (n : ℕ) (choices : List ℕ) (stack : ℕ) (w : Outside) → 0 < length (constant_code n) →
-    get_or (constant_code n) 0 0 ≡ movz_word (n % 65536) → Steps 1 (at_start n choices stack w) (low_moved n (at_start n choices stack w))
-first_step n choices stack w within is =
-    Steps-one _ _ (step-at n stack 0 (at_start n choices stack w) (movz_word (n % 65536)) _
+first_step : (n : ℕ) (starts : Starts (constant_image n)) (choices : List ℕ) (stack : ℕ) (w : Outside) → 0 < length (constant_code n) →
+    get_or (constant_code n) 0 0 ≡ movz_word (n % 65536) →
+    Steps 1 (at_start n starts choices stack w) (low_moved n (at_start n starts choices stack w))
+first_step n starts choices stack w within is =
+    Steps-one _ _
+    (step-at n stack starts (loaded_tag starts.intervals choices) 0 (at_start n starts choices stack w) (movz_word (n % 65536)) _
     (record { regions = refl; byte = refl; pc = refl }) within is (movz_row (n % 65536) (omega arith)))
 
 -- the lower half alone, where the constant has no other
-short_run : (n : ℕ) (choices : List ℕ) (stack steps : ℕ) → n < 65536 → EndsWith (n % 256) steps (at_start n choices stack)
-short_run n choices stack zero short =
-    soon_end _ zero _ (omega arith) (λ w. record { state = at_start n choices stack w; leads = refl; outside = refl })
-short_run n choices stack (suc zero) short =
+short_run : (n : ℕ) (starts : Starts (constant_image n)) (choices : List ℕ) (stack steps : ℕ) → n < 65536 →
+    EndsWith (n % 256) steps (at_start n starts choices stack)
+short_run n starts choices stack zero short =
+    soon_end _ zero _ (omega arith) (λ w. record { state = at_start n starts choices stack w; leads = refl; outside = refl })
+short_run n starts choices stack (suc zero) short =
     let code : constant_code n ≡ movz_word (n % 65536) ∷ svc_word ∷ [] = constant_code-short n (omega (arith, short)) in
     soon_end _ 1 _ (omega arith) (λ w. record {
-      state = low_moved n (at_start n choices stack w);
-      leads = (first_step n choices stack w (rw code (omega arith)) (rw code refl)).runs;
+      state = low_moved n (at_start n starts choices stack w);
+      leads = (first_step n starts choices stack w (rw code (omega arith)) (rw code refl)).runs;
       outside = refl;
     })
-short_run n choices stack (suc (suc more)) short =
+short_run n starts choices stack (suc (suc more)) short =
     let code : constant_code n ≡ movz_word (n % 65536) ∷ svc_word ∷ [] = constant_code-short n (omega (arith, short)) in
     late_end _ (suc (suc more)) _ (λ w.
-    let s : State = low_moved n (at_start n choices stack w) in
-    let first : Steps 1 (at_start n choices stack w) s = first_step n choices stack w (rw code (omega arith)) (rw code refl) in
+    let s : State = low_moved n (at_start n starts choices stack w) in
+    let first : Steps 1 (at_start n starts choices stack w) s =
+    first_step n starts choices stack w (rw code (omega arith)) (rw code refl) in
     let last : step s ≡ Ends (Exited (n % 65536 * 2 ^ (16 * 0) % 2 ^ 32 % 2 ^ 8)) =
-    step-at n stack 1 s svc_word _ (record { regions = refl; byte = refl; pc = refl }) (rw code (omega arith)) (rw code refl) svc_row in
+    step-at n stack starts (loaded_tag starts.intervals choices) 1 s svc_word _ (record { regions = refl; byte = refl; pc = refl })
+    (rw code (omega arith)) (rw code refl) svc_row in
     let value : n % 65536 * 2 ^ (16 * 0) % 2 ^ 32 % 2 ^ 8 ≡ n % 256 = omega arith in
     record { state = s; stops = run-ends (suc (suc more)) first last (omega arith) ∙ ap (λ v. Stopped (Exited v) s) value; outside = refl })
 
 -- the second step moves the upper half
-second_step : (n : ℕ) (choices : List ℕ) (stack : ℕ) (w : Outside) → n ≤ 2147483647 →
+second_step : (n : ℕ) (starts : Starts (constant_image n)) (choices : List ℕ) (stack : ℕ) (w : Outside) → n ≤ 2147483647 →
     constant_code n ≡ movz_word (n % 65536) ∷ movk_word (n / 65536) ∷ svc_word ∷ [] →
-    Steps 2 (at_start n choices stack w) (high_moved n (low_moved n (at_start n choices stack w)))
-second_step n choices stack w within code =
-    let s : State = low_moved n (at_start n choices stack w) in
-    let first : Steps 1 (at_start n choices stack w) s = first_step n choices stack w (rw code (omega arith)) (rw code refl) in
+    Steps 2 (at_start n starts choices stack w) (high_moved n (low_moved n (at_start n starts choices stack w)))
+second_step n starts choices stack w within code =
+    let s : State = low_moved n (at_start n starts choices stack w) in
+    let first : Steps 1 (at_start n starts choices stack w) s =
+    first_step n starts choices stack w (rw code (omega arith)) (rw code refl) in
     let second : Steps 1 s (high_moved n s) =
-    Steps-one _ _ (step-at n stack 1 s (movk_word (n / 65536)) _ (record { regions = refl; byte = refl; pc = refl })
+    Steps-one _ _ (step-at n stack starts (loaded_tag starts.intervals choices) 1 s (movk_word (n / 65536)) _
+    (record { regions = refl; byte = refl; pc = refl })
     (rw code (omega arith)) (rw code refl) (movk_row (n / 65536) (omega (arith, within)))) in
     Steps-add first second
 
 -- both halves
-long_run : (n : ℕ) (choices : List ℕ) (stack steps : ℕ) → 65535 < n → n ≤ 2147483647 → EndsWith (n % 256) steps (at_start n choices stack)
-long_run n choices stack zero long within =
-    soon_end _ zero _ (omega arith) (λ w. record { state = at_start n choices stack w; leads = refl; outside = refl })
-long_run n choices stack (suc zero) long within =
+long_run : (n : ℕ) (starts : Starts (constant_image n)) (choices : List ℕ) (stack steps : ℕ) → 65535 < n → n ≤ 2147483647 →
+    EndsWith (n % 256) steps (at_start n starts choices stack)
+long_run n starts choices stack zero long within =
+    soon_end _ zero _ (omega arith) (λ w. record { state = at_start n starts choices stack w; leads = refl; outside = refl })
+long_run n starts choices stack (suc zero) long within =
     let code : constant_code n ≡ movz_word (n % 65536) ∷ movk_word (n / 65536) ∷ svc_word ∷ [] = constant_code-long n long in
     soon_end _ 1 _ (omega arith) (λ w. record {
-      state = low_moved n (at_start n choices stack w);
-      leads = (first_step n choices stack w (rw code (omega arith)) (rw code refl)).runs;
+      state = low_moved n (at_start n starts choices stack w);
+      leads = (first_step n starts choices stack w (rw code (omega arith)) (rw code refl)).runs;
       outside = refl;
     })
-long_run n choices stack (suc (suc zero)) long within =
+long_run n starts choices stack (suc (suc zero)) long within =
     soon_end _ 2 _ (omega arith) (λ w. record {
-      state = high_moved n (low_moved n (at_start n choices stack w));
-      leads = (second_step n choices stack w within (constant_code-long n long)).runs;
+      state = high_moved n (low_moved n (at_start n starts choices stack w));
+      leads = (second_step n starts choices stack w within (constant_code-long n long)).runs;
       outside = refl;
     })
-long_run n choices stack (suc (suc (suc more))) long within =
+long_run n starts choices stack (suc (suc (suc more))) long within =
     let code : constant_code n ≡ movz_word (n % 65536) ∷ movk_word (n / 65536) ∷ svc_word ∷ [] = constant_code-long n long in
     late_end _ (suc (suc (suc more))) _ (λ w.
-    let s : State = high_moved n (low_moved n (at_start n choices stack w)) in
-    let both : Steps 2 (at_start n choices stack w) s = second_step n choices stack w within code in
+    let s : State = high_moved n (low_moved n (at_start n starts choices stack w)) in
+    let both : Steps 2 (at_start n starts choices stack w) s = second_step n starts choices stack w within code in
     let last : step s ≡ Ends (Exited (with_halfword (16 * 1) (n / 65536) (n % 65536 * 2 ^ (16 * 0) % 2 ^ 32 % 2 ^ 32) % 2 ^ 32 % 2 ^ 8)) =
-    step-at n stack 2 s svc_word _ (record { regions = refl; byte = refl; pc = refl }) (rw code (omega arith)) (rw code refl) svc_row in
+    step-at n stack starts (loaded_tag starts.intervals choices) 2 s svc_word _ (record { regions = refl; byte = refl; pc = refl })
+    (rw code (omega arith)) (rw code refl) svc_row in
     let value : with_halfword (16 * 1) (n / 65536) (n % 65536 * 2 ^ (16 * 0) % 2 ^ 32 % 2 ^ 32) % 2 ^ 32 % 2 ^ 8 ≡ n % 256 = omega arith in
     record {
       state = s;
@@ -171,11 +185,11 @@ long_run n choices stack (suc (suc (suc more))) long within =
     })
 
 -- Its run exits with the constant modulo 256, or is out of steps before, whatever the outside is.
-pub constant_ends : (n steps : ℕ) (choices : List ℕ) (stack : ℕ) → n ≤ 2147483647 →
-    EndsWith (n % 256) steps (loaded (constant_image n) choices stack)
-constant_ends n steps choices stack within = elim (cases_lt 65535 n) [
-  | inl long ↦ long_run n choices stack steps long within
-  | inr short ↦ short_run n choices stack steps (omega (arith, short))
+pub constant_ends : (n steps : ℕ) (starts : Starts (constant_image n)) (choices : List ℕ) (stack : ℕ) → n ≤ 2147483647 →
+    EndsWith (n % 256) steps (loaded (constant_image n) starts.intervals choices stack)
+constant_ends n steps starts choices stack within = elim (cases_lt 65535 n) [
+  | inl long ↦ long_run n starts choices stack steps long within
+  | inr short ↦ short_run n starts choices stack steps (omega (arith, short))
 ]
 
 either : (end : MachineEnd) (status : ℕ) → {other : MachineEnd} → other ≡ end → (end ≡ Exited status) ⊎ (end ≡ OutOfSteps) →
@@ -186,15 +200,16 @@ either end status same (inr over) = inr (same ∙ over)
 -- ---- the image
 
 -- the image of a constant starts
-pub constant_starts : (n : ℕ) → HoldsCodeAlone (constant_image n)
-constant_starts n = record { relocs = refl; descriptors = refl; rodata = refl; filled = refl; zero_bytes = refl }
+pub constant_starts : (n : ℕ) → Starts (constant_image n)
+constant_starts n =
+    code_alone_starts (constant_image n) (record { relocs = refl; descriptors = refl; rodata = refl; filled = refl; zero_bytes = refl })
 
 -- each of its runs exits with the constant modulo 256
 pub constant_exits : (n : ℕ) → n ≤ 2147483647 → ExitsAlways (constant_image n) (n % 256)
 constant_exits n within = record {
   starts = λ choices stack steps outside. (_, machine_of (constant_image n) choices stack steps outside (constant_starts n));
   exits = λ choices stack steps outside e m.
-      let run = constant_ends n steps choices stack within in
+      let run = constant_ends n steps m.starts choices stack within in
       record {
         late = λ enough. m.ends ∙ run.ends outside ∙ run.late enough;
         soon = either run.end (n % 256) (m.ends ∙ run.ends outside) run.soon;
@@ -202,6 +217,7 @@ constant_exits n within = record {
         takes_nothing = m.leaves ∙ run.takes_nothing outside;
       };
   one_end = λ choices stack steps outside other end last m o.
-      let run = constant_ends n steps choices stack within in
-      m.machine.ends ∙ run.ends outside ∙ sym (run.ends other) ∙ sym o.machine.ends;
+      let run = constant_ends n steps (constant_starts n) choices stack within in
+      one_end (constant_image n) choices stack steps outside end (constant_starts n) m ∙ run.ends outside
+      ∙ sym (run.ends other) ∙ sym (one_end (constant_image n) choices stack steps other last (constant_starts n) o);
 }

@@ -7,10 +7,11 @@ use Rattle.mt_compile.specs.Refused.{Refuses}
 use Rattle.mt_compile.specs.Laws.OneRefusal.{no_constant, one_refusal}
 use Rattle.mt_compile.specs.Laws.OneWay.{OneWay, GoesOn, Stops, at_first, behind, in_turn, ToldBy, told_by}
 use Rattle.mt_compile.specs.declared.refusal.CompileRefusal.{CompileRefusal}
-use Rattle.mt_pipeline.specs.Built.{AreCompiled, Builds, RefusesTexts, source, link, file_number}
+use Rattle.mt_answers.specs.Each.{file_number}
+use Rattle.mt_pipeline.specs.Built.{AreCompiled, Builds, RefusesTexts, source, link}
 use Rattle.mt_pipeline.specs.Laws.OneLink.{LinkGives, LinkStops, linking, link_gives, link_stops}
-use Rattle.mt_pipeline.specs.declared.refusal.BuildRefusal.{BuildRefusal}
-use Rattle.mt_pipeline.specs.declared.refusal.BuildRefusal.TheVariants.{Compile, Link}
+use Rattle.mt_answers.specs.declared.refusal.BuildRefusal.{BuildRefusal}
+use Rattle.mt_answers.specs.declared.refusal.BuildRefusal.TheVariants.{Compile, Link}
 
 -- ---- one text
 
@@ -21,7 +22,7 @@ one_code text words other first second =
 one_cause : (text : List ℕ) (r s : CompileRefusal) (p q : ℕ) → Refuses text r p → Refuses text s q → (r ≡ s) × (p ≡ q)
 one_cause text r s p q x y = let one = one_refusal x y in (one.same, one.there)
 
-compiling : (text : List ℕ) → OneWay (Compiled text) (Refuses text)
+pub compiling : (text : List ℕ) → OneWay (Compiled text) (Refuses text)
 compiling text = record {
   gives_one = one_code text;
   refuses_one = one_cause text;

@@ -2,16 +2,15 @@ use Rattle.std.proofs.Common.{◌≡◌, ◌⊎◌, ◌∙◌, List, ℕ, refl, 
 use Rattle.memtag_dump.specs.Lines.{HasText}
 use Rattle.memtag_dump.specs.Refusal.{HasNoText}
 use Rattle.memtag_dump.specs.declared.refusal.DumpRefusal.TheVariants.{NoMemory}
-use Rattle.mt_pipeline.specs.declared.answer.Answer.{Answer}
-use Rattle.mt_pipeline.specs.Answer.{ended_of}
+use Rattle.mt_answers.specs.declared.answer.Answer.{Answer}
+use Rattle.mt_answers.specs.Answer.{ended_of}
 use Rattle.mt_pipeline.specs.Dump.{Dumps}
-use Rattle.mt_pipeline.specs.Put.{output_seen, with_output}
-use Rattle.mt_pipeline.specs.Seen.{files_seen}
+use Rattle.mt_answers.specs.Put.{output_seen, with_output}
+use Rattle.mt_answers.specs.Seen.{files_seen}
 use Rattle.mt_pipeline.specs.Undumped.{answer_to_dump}
-use Rattle.mt_pipeline.specs.Unread.{answer_to_unread}
-use Rattle.mt_pipeline.proofs.Counts.{both_stay, unread_counts}
+use Rattle.mt_answers.specs.Laws.Counts.{both_stay}
 use Rattle.mt_pipeline.proofs.DumpCauses.{dump_answers, dump_unread, dump_put, dump_refused}
-use Rattle.mt_pipeline.proofs.Written.{same_files}
+use Rattle.mt_answers.specs.Laws.Written.{same_files}
 use Rattle.mt_pipeline.proofs.dump.dump_file.Goals as goal
 
 -- there were no bytes
@@ -20,11 +19,10 @@ returns-in-Err g c =
     let before = files_seen g.F.Files c.args.files.now in
     let after = files_seen g.F.Files c.read_file.new.files in
     let out = output_seen g.K.Sink c.args.out.now in
-    subst (λ (a : Answer). Dumps c.args.file.now (with_output before out) (with_output after out) (ended_of a)) (sym c.answer.ensures)
-    (dump_answers c.args.file.now before after out out (ended_of (answer_to_unread c.in-Err.unread))
-    (dump_unread c.args.file.now before after out out c.in-Err.unread c.in-Err.ensures.cause refl)
+    dump_answers c.args.file.now before after out out (ended_of c.in-Err.answer)
+    (dump_unread c.args.file.now before after out out c.in-Err.answer c.in-Err.ensures.cause refl)
     (same_files _ _ c.read_file.ensures.kept)
-    (unread_counts _ _ c.in-Err.unread c.in-Err.ensures.uncounted_err c.read_file.ensures.writes))
+    (record { reads = c.in-Err.ensures.uncounted_err; writes = c.read_file.ensures.writes })
 
 -- the text was put, or a part of it
 pub returns-in-Ok-dump : goal.returns-in-Ok-dump

@@ -1,15 +1,14 @@
 use Rattle.std.proofs.Common.{List, ℕ, refl, sym, subst}
 use Rattle.mt_compile.specs.Planned.{HasPlan, IsPlanCause}
-use Rattle.mt_pipeline.specs.declared.answer.Answer.{Answer}
-use Rattle.mt_pipeline.specs.Answer.{ended_of}
+use Rattle.mt_answers.specs.declared.answer.Answer.{Answer}
+use Rattle.mt_answers.specs.Answer.{ended_of}
 use Rattle.mt_pipeline.specs.Plan.{Plans}
-use Rattle.mt_pipeline.specs.Put.{output_seen, with_output}
-use Rattle.mt_pipeline.specs.Seen.{files_seen}
-use Rattle.mt_pipeline.specs.Unplanned.{answer_to_source}
-use Rattle.mt_pipeline.specs.Unread.{answer_to_unread}
-use Rattle.mt_pipeline.proofs.Counts.{both_stay, unread_counts}
+use Rattle.mt_answers.specs.Put.{output_seen, with_output}
+use Rattle.mt_answers.specs.Seen.{files_seen}
+use Rattle.mt_answers.specs.Refusals.{answer_to_source}
+use Rattle.mt_answers.specs.Laws.Counts.{both_stay}
 use Rattle.mt_pipeline.proofs.PlanCauses.{plan_answers, plan_unread, plan_put, plan_refused}
-use Rattle.mt_pipeline.proofs.Written.{same_files}
+use Rattle.mt_answers.specs.Laws.Written.{same_files}
 use Rattle.mt_pipeline.proofs.plan.plan_file.Goals as goal
 
 -- there were no bytes
@@ -18,11 +17,10 @@ returns-in-Err g c =
     let before = files_seen g.F.Files c.args.files.now in
     let after = files_seen g.F.Files c.read_file.new.files in
     let out = output_seen g.K.Sink c.args.out.now in
-    subst (λ (a : Answer). Plans c.args.file.now (with_output before out) (with_output after out) (ended_of a)) (sym c.answer.ensures)
-    (plan_answers c.args.file.now before after out out (ended_of (answer_to_unread c.in-Err.unread))
-    (plan_unread c.args.file.now before after out out c.in-Err.unread c.in-Err.ensures.cause refl)
+    plan_answers c.args.file.now before after out out (ended_of c.in-Err.answer)
+    (plan_unread c.args.file.now before after out out c.in-Err.answer c.in-Err.ensures.cause refl)
     (same_files _ _ c.read_file.ensures.kept)
-    (unread_counts _ _ c.in-Err.unread c.in-Err.ensures.uncounted_err c.read_file.ensures.writes))
+    (record { reads = c.in-Err.ensures.uncounted_err; writes = c.read_file.ensures.writes })
 
 -- the lines were put, or a part of them
 pub returns-in-Ok-plan_of : goal.returns-in-Ok-plan_of
@@ -49,8 +47,8 @@ returns g c =
     let refused = c.in-Err-plan_of.refused in
     let cause = subst (λ (b : List ℕ). IsPlanCause b refused) c.deref.ensures.value c.in-Err-plan_of.ensures.refused in
     subst (λ (a : Answer). Plans c.args.file.now (with_output before out) (with_output after out) (ended_of a))
-    (sym c.answer_to_source.ensures)
-    (plan_answers c.args.file.now before after out out (ended_of (answer_to_source refused.refusal refused.place))
+    (sym c.of_source.ensures)
+    (plan_answers c.args.file.now before after out out (ended_of (answer_to_source 0 refused.refusal refused.place))
     (plan_refused c.args.file.now before after out out c.in-Ok.bytes.items refused.refusal refused.place c.in-Ok.ensures.bytes refl cause)
     (same_files _ _ c.read_file.ensures.kept)
     (both_stay before after c.in-Ok.ensures.uncounted_ok c.read_file.ensures.writes))

@@ -1,10 +1,10 @@
-use Rattle.std.proofs.Common.{Err, sym, ap, subst}
+use Rattle.std.proofs.Common.{sym, subst}
 use Rattle.elf_image.specs.Image.{Image, image_of}
 use Rattle.elf_image.specs.Laws.OneImage.{one_image}
 use Rattle.mte_machine.specs.Objects.{objects}
 use Rattle.tag_startup.specs.Machine.{RunsImage, launch}
 use Rattle.mt_pipeline.specs.Laws.OneRun.{no_refusal, refused_once}
-use Rattle.mt_pipeline.specs.declared.refusal.RunRefusal.{RunRefusal}
+use Rattle.mt_answers.specs.declared.refusal.RunRefusal.{RunRefusal}
 use Rattle.mt_pipeline.proofs.RunRefused.{IsRefusal, image_cause, start_cause}
 use Rattle.mt_pipeline.proofs.runner.run_image.Goals as goal
 
@@ -38,11 +38,11 @@ pub returns-clause-refused : goal.returns-clause-refused
 returns-clause-refused g c =
     subst (λ (r : RunRefusal). IsRefusal c.args.bytes.now r) (sym c.of_start.ensures)
     (start_cause c.args.bytes.now (image_of c.in-Ok.parts) c.in-Err-run_parts.refusal c.in-Ok.ensures.found
-    (λ same. c.in-Err-run_parts.ensures.not_yet (ap Err same)))
+    c.in-Err-run_parts.ensures.refused)
 
 pub returns-clause-refuses : goal.returns-clause-refuses
 returns-clause-refuses g c = λ cause has.
     refused_once c.args.bytes.now c.of_start.result cause
     (subst (λ (r : RunRefusal). IsRefusal c.args.bytes.now r) (sym c.of_start.ensures)
     (start_cause c.args.bytes.now (image_of c.in-Ok.parts) c.in-Err-run_parts.refusal c.in-Ok.ensures.found
-    (λ same. c.in-Err-run_parts.ensures.not_yet (ap Err same)))) has
+    c.in-Err-run_parts.ensures.refused)) has

@@ -1,0 +1,5 @@
+pub mod EachLaws
+pub mod SameBytes
+pub mod Written
+pub mod Counts
+pub mod StatusLaws
