@@ -1,3 +1,4 @@
+-- Placed and Writable are about regions, Inside about images that start.
 pub mod Placed
-pub mod CodeInMemory
-pub mod MachineLaws
+pub mod Writable
+pub mod Inside
