@@ -1,4 +1,12 @@
--- Placed and Writable are about regions, Inside about images that start.
+-- Placed and Writable are about regions, Inside and OneStart about images that start, TagLaws and PlaceLaws about what memory has,
+-- Kept and CodeInMemory about what start-up leaves as it is.
 pub mod Placed
 pub mod Writable
 pub mod Inside
+pub mod OneStart
+pub mod TagLaws
+pub mod PlaceLaws
+pub mod Kept
+pub mod CodeInMemory
+pub mod CodeAlone
+pub mod MachineLaws
