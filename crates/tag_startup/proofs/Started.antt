@@ -4,15 +4,17 @@ use mathlib.Core.Path.{fun_ext}
 use Rattle.mt_base.specs.Memory.{Span, Extent}
 use Rattle.mt_base.specs.Tags.{base}
 use Rattle.std.proofs.Common.{slice_index}
+use Rattle.elf_image.specs.declared.parts.RelativeReloc.{RelativeReloc}
+use Rattle.mte_machine.specs.declared.machine.Machine.{Machine}
 use Rattle.tag_mem.specs.declared.access.TagMemory.{Ghosts}
 use Rattle.a64_code.specs.Outside.{Outside}
 use Rattle.a64_code.specs.State.{State}
 use Rattle.elf_image.specs.Image.{Image}
 use Rattle.memtag_desc.specs.declared.interval.Interval.{Interval}
-use Rattle.mte_machine.specs.Machine.{clear_flags, initial_state}
+use Rattle.mte_machine.specs.Machine.{clear_flags, initial_state, state_of}
 use Rattle.tag_startup.specs.Laws.TagLaws.{put_tags}
 use Rattle.tag_startup.specs.Loaded.{before_relocations, loaded, loaded_byte}
-use Rattle.tag_startup.specs.Memory.{IsMapped, IsTagged, IsStored, before, with_objects}
+use Rattle.tag_startup.specs.Memory.{IsMapped, IsTagged, IsStarted, IsStored, before, with_objects}
 use Rattle.tag_startup.specs.Parts.{load_address, stack_end, loaded_guard, loaded_regions, file_byte}
 use Rattle.tag_startup.specs.Relocated.{Before, relocated_byte}
 use Rattle.tag_startup.specs.Starts.{AreObjects}
@@ -84,3 +86,27 @@ started shown memory image intervals choices stack pc drawn w is at_entry count 
       drawn = drawn;
       outside = w;
     }
+
+-- a machine that was made of memory that was mapped, tagged and relocated
+pub is_started : {M : Type 0} (shown : Ghosts M) (machine : Machine M) (mapped tagged memory : M) (image : Image)
+    (objects slice third : List Interval) (relocs : List RelativeReloc) (choices taken : List ℕ) (stack first pc drawn : ℕ) →
+    AreObjects image objects → slice ≡ objects → third ≡ objects → relocs ≡ image.relocs → taken ≡ choices →
+    first ≡ base (slice_index choices 0) → IsMapped shown mapped image stack →
+    IsTagged shown mapped tagged (with_objects (shown.tags mapped) first slice) →
+    IsStored shown tagged memory (relocated_byte (before shown tagged) relocs) →
+    pc ≡ (load_address + image.entry) % 2 ^ 64 → drawn ≡ choices_drawn third →
+    ((w : Outside) → state_of shown machine w ≡ initial_state shown memory pc stack_end taken drawn w) →
+    IsStarted shown machine image choices stack
+is_started shown machine mapped tagged memory image objects slice third relocs choices taken stack first pc drawn are same also places
+    took first_is map tag store at_entry count state = record {
+  starts = record { intervals = objects; objects = are };
+  state = λ w.
+      state w
+      ∙ ap (λ xs. initial_state shown memory pc stack_end xs drawn w) took
+      ∙ started shown memory image objects choices stack pc drawn w is_loaded at_entry (count ∙ ap choices_drawn also);
+}
+  where
+    is_loaded : IsLoaded shown memory image objects choices stack
+    is_loaded = filled shown mapped tagged memory image objects choices stack first are first_is map
+        (subst (λ xs. IsTagged shown mapped tagged (with_objects (shown.tags mapped) first xs)) same tag)
+        (subst (λ rs. IsStored shown tagged memory (relocated_byte (before shown tagged) rs)) places store)

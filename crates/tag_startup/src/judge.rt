@@ -1,8 +1,9 @@
 // Whether an image starts, and the objects that it tags.
-ghost use Rattle.std.specs.Prelude.{◌≡◌, ◌⊎◌, ◌<◌, ◌+◌, ◌^◌, length, IfErr, IfOk, IfSome};
+ghost use Rattle.std.specs.Prelude.{◌≡◌, ◌⊎◌, ◌<◌, ◌^◌, length, IfErr, IfOk, IfSome};
+ghost use Rattle.std.specs.List.{position};
 ghost use Rattle.elf_image.specs.Image.{image_of};
 ghost use Rattle.elf_image.specs.Places.{IsValid};
-ghost use Rattle.tag_startup.specs.Starts.{AreObjects, StartFault, first_outside, is_misplaced, is_outside};
+ghost use Rattle.tag_startup.specs.Starts.{AreObjects, StartFault, counted_on, first_outside, is_misplaced, is_outside};
 
 use crate::refusal::StartRefusal;
 use elf_image::{ImageParts, RelativeReloc};
@@ -27,18 +28,41 @@ pub fn objects_of(alloc: Global, image: &ImageParts) -> Result<Vec<Interval>, St
 // The first object or relocation that is not within the writable part. Relocations are counted on after the objects.
 fn first_outside(image: &ImageParts, objects: &[Interval]) -> Option<usize>
     requires { IsValid (image_of image.now) }
-    ensures is { result ≡ first_outside (image_of image.now) objects.now }
-    ensures within { IfSome result (λ index. index < length objects.now + length image.now.relocs.items) }
+    ensures { result ≡ first_outside (image_of image.now) objects.now }
 {
     let start = image.dynamic_place();
     let end = image.memory_end();
-    if let Some(index) = objects.iter().position(|i| is_outside(start, end, i)) {
-        return Some(index);
+    let reloc = first_reloc(start, end, &image.relocs);
+    match first_object(start, end, objects) {
+        Some(index) => Some(index),
+        None => counted_on(objects, reloc),
     }
-    match image.relocs.iter().position(|r| is_misplaced(start, end, r)) {
+}
+
+// An index that is counted on after the objects.
+fn counted_on(objects: &[Interval], index: Option<usize>) -> Option<usize>
+    requires { IfSome index (λ k. k < 2 ^ 62) }
+    ensures { result ≡ counted_on (length objects.now) None index }
+{
+    match index {
         Some(index) => Some(objects.len() + index),
         None => None,
     }
+}
+
+// The first object that is not within a part of the image.
+fn first_object(start: u64, end: u64, objects: &[Interval]) -> Option<usize>
+    ensures { result ≡ position (is_outside start end) objects.now }
+{
+    objects.iter().position(|i| is_outside(start, end, i))
+}
+
+// The first relocation whose place is not within a part of the image.
+fn first_reloc(start: u64, end: u64, relocs: &[RelativeReloc]) -> Option<usize>
+    ensures is { result ≡ position (is_misplaced start end) relocs.now }
+    ensures near { IfSome result (λ k. k < 2 ^ 62) }
+{
+    relocs.iter().position(|r| is_misplaced(start, end, r))
 }
 
 // Whether an object is not within a part of the image.

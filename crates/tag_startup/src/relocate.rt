@@ -2,7 +2,7 @@
 ghost use Rattle.std.specs.Prelude.{◌≡◌, ◌≤◌, IfOk, OnOk, length, map};
 ghost use Rattle.std.specs.List.{All};
 ghost use Rattle.tag_startup.specs.Memory.{CanBeRelocated, IsStored, before, stored};
-ghost use Rattle.tag_startup.specs.Relocated.{pointer, relocated_byte};
+ghost use Rattle.tag_startup.specs.Relocated.{pointer, relocated_byte, target};
 
 use crate::parts::LOAD_ADDRESS;
 use elf_image::RelativeReloc;
@@ -49,11 +49,18 @@ fn pointer<M: TagMemory>(memory: &M, reloc: &RelativeReloc) -> u64
 {
     let mut content = [0; 8];
     memory.read(LOAD_ADDRESS + reloc.place, &mut content);
-    let target = LOAD_ADDRESS.wrapping_add(reloc.addend as u64);
+    let target = target(reloc);
     match memory.tag(target.wrapping_add(u64::from_le_bytes(content))) {
         Some(tag) => target.wrapping_add(u64::from(tag.value()) << 56),
         None => target,
     }
+}
+
+// The load address plus the addend of a relocation.
+fn target(reloc: &RelativeReloc) -> u64
+    ensures { result ≡ target reloc.now }
+{
+    LOAD_ADDRESS.wrapping_add(reloc.addend.cast_unsigned())
 }
 
 // Puts each pointer at the place of its relocation, in order.

@@ -10,7 +10,7 @@ use crate::judge::objects_of;
 use crate::parts::{LOAD_ADDRESS, STACK_END, guard_of, regions_of};
 use crate::refusal::StartRefusal;
 use crate::relocate::relocate;
-use crate::tags::{base_tag, tag_objects};
+use crate::tags::{choices_drawn, first_tag, tag_objects};
 use elf_image::ImageParts;
 use mt_base::Tag;
 use mte_machine::Machine;
@@ -40,13 +40,30 @@ pub fn start(
     ensures refuses { (fault : StartRefusal) → StartFault (image_of image.now) fault →
         MatchResult result (λ _. ⊥) (λ e. (e ≡ fault) ⊎ (e ≡ StartRefusal.NoMemory)) }
 {
+    machine_of(alloc, image, choices, stack)
+}
+
+// The machine, by what its clauses stand on.
+fn machine_of(
+    alloc: Global,
+    image: &ImageParts,
+    choices: &[Tag],
+    stack: u64,
+) -> Result<Machine<FlatMemory>, StartRefusal>
+    requires valid { IsValid (image_of image.now) }
+    requires choices { choices.now ≢ [] }
+    requires stack { IsStack stack }
+    ensures started { IfOk result (λ machine.
+        IsStarted ⟦<FlatMemory as TagMemory>⟧ machine (image_of image.now) choices.now stack) }
+    ensures refused { IfErr result (λ e. (e ≡ StartRefusal.NoMemory) ⊎ StartFault (image_of image.now) e) }
+{
     let objects = objects_of(alloc, image)?;
     let mut memory = memory_of(alloc, image, stack)?;
-    tag_objects(&mut memory, &objects, base_tag(choices[0]));
+    tag_objects(&mut memory, &objects, first_tag(choices));
     relocate(alloc, &mut memory, &image.relocs)?;
     let choices = Vec::from_slice(alloc, choices)?;
-    let drawn = u64::from(!objects.is_empty());
     let pc = LOAD_ADDRESS.wrapping_add(image.entry);
+    let drawn = choices_drawn(&objects);
     Ok(Machine::new(memory, pc, STACK_END, choices, drawn))
 }
 

@@ -1,8 +1,9 @@
 // The tags of an image's objects.
-ghost use Rattle.std.specs.Prelude.{◌≡◌};
+ghost use Rattle.std.specs.Prelude.{◌≡◌, ◌≢◌, [], slice_index};
 ghost use Rattle.std.specs.List.{All};
 ghost use Rattle.mt_base.specs.Tags.{base};
 ghost use Rattle.tag_startup.specs.Memory.{CanBeTagged, IsTagged, with_object, with_objects};
+ghost use Rattle.tag_startup.specs.Tags.{choices_drawn};
 
 use crate::parts::LOAD_ADDRESS;
 use memtag_desc::Interval;
@@ -12,11 +13,22 @@ use tag_mem::TagMemory;
 // The tag 0 alone, which no object gets.
 const ZERO_EXCLUDED: Exclude = Exclude(1);
 
-/// The tag of the first object, by a choice that was drawn.
-pub fn base_tag(choice: Tag) -> Tag
-    ensures { result ≡ base choice }
+/// The tag of the first object: the base tag of the first choice.
+pub fn first_tag(choices: &[Tag]) -> Tag
+    requires { choices.now ≢ [] }
+    ensures { result ≡ base (slice_index choices.now 0) }
 {
-    next_tag(choice, 0, ZERO_EXCLUDED)
+    next_tag(choices[0], 0, ZERO_EXCLUDED)
+}
+
+/// How many choices the objects draw.
+pub fn choices_drawn(objects: &[Interval]) -> u64
+    ensures { result ≡ choices_drawn objects.now }
+{
+    match objects {
+        [] => 0,
+        _ => 1,
+    }
 }
 
 /// Tags the objects in order: the first one with this tag, each next one with the tag after it.
