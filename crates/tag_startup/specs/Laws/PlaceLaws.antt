@@ -1,6 +1,6 @@
 -- The bytes behind relocations: pointers put in order, the last one at a place counts, and what is at no place stays.
 use Rattle.std.proofs.Common.{◌≡◌, ◌≢◌, ◌≤◌, ◌<◌, ℕ, zero, suc, ◌+◌, ◌-◌, ◌*◌, ◌%◌, ◌^◌, Bool, true, false, if◌then◌else◌, List, [], ◌∷◌, ◌++◌}
-use Rattle.std.proofs.Common.{length, get_or, map, reverse, Option, Some, None, slice_index, refl, sym, ap, ◌∙◌, inl, inr, arith}
+use Rattle.std.proofs.Common.{length, get_or, map, pos, reverse, Option, Some, None, slice_index, refl, sym, ap, ◌∙◌, inl, inr, arith}
 use mathlib.Core.Path.{fun_ext}
 use Rattle.std.specs.List.{All, find}
 use Rattle.std.specs.Option.{option_or}
@@ -61,25 +61,25 @@ pointers_stored memory relocs = fun_ext (λ at.
 
 -- ---- what is at no place
 
-find_none : (at : ℕ) (relocs : List RelativeReloc) →
-    ((k : ℕ) (d : RelativeReloc) → k < length relocs → is_at_place at (get_or relocs k d) ≡ false) →
-    find (is_at_place at) (reverse relocs) ≡ None
-find_none at [] none = refl
-find_none at (r ∷ relocs) none =
+one_fails : (at : ℕ) (r : RelativeReloc) → is_at_place at r ≡ false → find (is_at_place at) (r ∷ []) ≡ None
+one_fails at r other = rw other refl
+
+find_nowhere : (at : ℕ) (relocs : List RelativeReloc) (d : RelativeReloc) →
+    ((k : ℕ) → k < length relocs → is_at_place at (get_or relocs k d) ≡ false) → find (is_at_place at) (reverse relocs) ≡ None
+find_nowhere at [] d none = refl
+find_nowhere at (r ∷ relocs) d none =
     find_last at r relocs
     ∙ ap (λ found. option_or found (find (is_at_place at) (r ∷ [])))
-    (find_none at relocs (λ k d inside. none (suc k) d (omega (arith, inside))))
-    ∙ last (is_at_place at r) (none 0 r (omega arith))
-  where
-    last : (b : Bool) → is_at_place at r ≡ false → find (is_at_place at) (r ∷ []) ≡ None
-    last b other = rw other refl
+    (find_nowhere at relocs d (λ k inside. none (suc k) (omega (arith, inside))))
+    ∙ one_fails at r (none 0 (omega arith))
 
 -- a byte that is at no place stays
 pub byte_kept : (memory : Before) (relocs : List RelativeReloc) (at : ℕ) →
     ((k : ℕ) (d : RelativeReloc) → k < length relocs → is_at_place at (get_or relocs k d) ≡ false) →
     relocated_byte memory relocs at ≡ memory.byte at
 unfolding relocated_byte
-byte_kept memory relocs at none = ap (λ found. byte_by memory found at) (find_none at relocs none)
+byte_kept memory relocs at none =
+    ap (λ found. byte_by memory found at) (find_nowhere at relocs (record { place = 0; addend = pos 0 }) (λ k. none k _))
 
 -- without relocations all bytes stay
 pub no_relocations : (memory : Before) → relocated_byte memory [] ≡ memory.byte
@@ -88,8 +88,19 @@ no_relocations memory = refl
 
 -- ---- the last relocation at a place
 
--- no relocation behind one of the list has its place
-pub record IsLast (relocs : List RelativeReloc) (k : ℕ) (r : RelativeReloc) : Type 0 where
-  pub inside : k < length relocs
-  pub is : (d : RelativeReloc) → get_or relocs k d ≡ r
-  pub last : (j : ℕ) (d : RelativeReloc) → k < j → j < length relocs → (get_or relocs j d).place ≢ r.place
+-- where one has a byte and none behind it in the list does, the byte is of that one
+pub find_that : (at : ℕ) (relocs : List RelativeReloc) (k : ℕ) (d : RelativeReloc) → k < length relocs →
+    is_at_place at (get_or relocs k d) ≡ true →
+    ((j : ℕ) → k < j → j < length relocs → is_at_place at (get_or relocs j d) ≡ false) →
+    find (is_at_place at) (reverse relocs) ≡ Some (get_or relocs k d)
+find_that at [] k d inside here last = absurd (omega (arith, inside))
+find_that at (r ∷ relocs) zero d inside here last =
+    find_last at r relocs
+    ∙ ap (λ found. option_or found (find (is_at_place at) (r ∷ [])))
+    (find_nowhere at relocs d (λ j below. last (suc j) (omega arith) (omega (arith, below))))
+    ∙ rw here refl
+find_that at (r ∷ relocs) (suc k) d inside here last =
+    find_last at r relocs
+    ∙ ap (λ found. option_or found (find (is_at_place at) (r ∷ [])))
+    (find_that at relocs k d (omega (arith, inside)) here
+    (λ j above below. last (suc j) (omega (arith, above)) (omega (arith, below))))
