@@ -1,5 +1,5 @@
 -- The objects and the places of an image that starts can be tagged and relocated in its memory.
-use Rattle.std.proofs.Common.{◌≡◌, ◌≤◌, ◌<◌, ◌⊎◌, ℕ, ◌+◌, ◌*◌, ◌%◌, ◌^◌, List, length, get_or, Result, Ok, Err, refl, sym, subst, inl, inr, arith}
+use Rattle.std.proofs.Common.{◌≡◌, ◌⊎◌, ℕ, ◌+◌, ◌*◌, List, get_or, Result, Ok, Err, sym, subst, inl, inr, arith}
 use Rattle.std.specs.List.{All}
 use Rattle.std.specs.Prelude.{IfErr, IfOk, MatchResult}
 use Rattle.mt_base.specs.Memory.{Span, Extent}

@@ -1,9 +1,8 @@
 -- What is wrong with an image, as the code finds it.
-use Rattle.std.proofs.Common.{◌≡◌, ◌⊎◌, ◌≤◌, ◌<◌, ℕ, ◌+◌, ◌*◌, ◌^◌, Bool, List, [], ◌∷◌, ◌++◌, length, Option, Some, None, Result, Ok, Err}
+use Rattle.std.proofs.Common.{◌≡◌, ◌⊎◌, ◌≤◌, ◌<◌, ℕ, ◌+◌, ◌*◌, ◌^◌, List, length, Option, Some, None, Result, Ok, Err}
 use Rattle.std.proofs.Common.{refl, sym, ap, ap₂, subst, ◌∙◌, inl, inr, arith, length-append}
-use Rattle.std.specs.Global.{Vec}
 use Rattle.std.specs.List.{position}
-use Rattle.std.specs.Prelude.{IfErr, IfOk}
+use Rattle.std.specs.Prelude.{IfErr}
 use Rattle.std.specs.Result.{IsErrAnd}
 use Rattle.elf_image.specs.Image.{Image}
 use Rattle.elf_image.specs.Places.{IsValid, descriptors_place, dynamic_place, memory_end, rodata_end, rodata_place}
@@ -18,7 +17,7 @@ use Rattle.tag_startup.specs.declared.refusal.StartRefusal.TheVariants.{NoMemory
 use Rattle.tag_startup.specs.Laws.Inside.{first_within}
 use Rattle.tag_startup.specs.Laws.Placed.{AreInOrder, in_order}
 use Rattle.tag_startup.specs.Refusal.{of_descriptors}
-use Rattle.tag_startup.specs.Starts.{AreObjects, StartFault, descriptors, counted_on, first_outside, is_outside, is_misplaced}
+use Rattle.tag_startup.specs.Starts.{StartFault, descriptors, counted_on, first_outside, is_outside, is_misplaced}
 
 -- ---- the first that is outside
 

@@ -1,6 +1,5 @@
 -- The state of a machine with the memory of an image that starts.
-use Rattle.std.proofs.Common.{◌≡◌, ℕ, ◌+◌, ◌%◌, ◌^◌, List, length, refl, sym, ap, ap₂, subst, ◌∙◌}
-use mathlib.Core.Path.{fun_ext}
+use Rattle.std.proofs.Common.{◌≡◌, ℕ, ◌+◌, ◌%◌, ◌^◌, List, length, ap, ap₂, subst, ◌∙◌}
 use Rattle.mt_base.specs.Memory.{Span, Extent}
 use Rattle.mt_base.specs.Tags.{base}
 use Rattle.std.proofs.Common.{slice_index}
@@ -13,10 +12,10 @@ use Rattle.elf_image.specs.Image.{Image}
 use Rattle.memtag_desc.specs.declared.interval.Interval.{Interval}
 use Rattle.mte_machine.specs.Machine.{clear_flags, initial_state, state_of}
 use Rattle.tag_startup.specs.Laws.TagLaws.{put_tags}
-use Rattle.tag_startup.specs.Loaded.{before_relocations, loaded, loaded_byte}
+use Rattle.tag_startup.specs.Loaded.{loaded, loaded_byte}
 use Rattle.tag_startup.specs.Memory.{IsMapped, IsTagged, IsStarted, IsStored, before, with_objects}
 use Rattle.tag_startup.specs.Parts.{load_address, stack_end, loaded_guard, loaded_regions, file_byte}
-use Rattle.tag_startup.specs.Relocated.{Before, relocated_byte}
+use Rattle.tag_startup.specs.Relocated.{relocated_byte}
 use Rattle.tag_startup.specs.Starts.{AreObjects}
 use Rattle.tag_startup.specs.Tags.{choices_drawn, loaded_tag, tags_from}
 

@@ -1,5 +1,5 @@
 -- What start-up finds of the memory that it makes, and what it does to it.
-use Rattle.std.specs.Prelude.{◌≡◌, ◌≤◌, ◌<◌, ℕ, ◌+◌, ◌*◌, ◌%◌, ◌^◌, Bool, if◌then◌else◌, List, [], ◌∷◌}
+use Rattle.std.specs.Prelude.{◌≡◌, ◌≤◌, ◌<◌, ℕ, ◌+◌, ◌*◌, ◌%◌, ◌^◌, if◌then◌else◌, List, [], ◌∷◌}
 use Rattle.mt_base.specs.Memory.{Span, Extent, store}
 use Rattle.tag_mem.specs.declared.access.Access.TheVariants.{Done}
 use Rattle.tag_mem.specs.declared.access.TagMemory.{Ghosts}

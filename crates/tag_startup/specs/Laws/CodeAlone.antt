@@ -1,10 +1,9 @@
 -- An image that is code alone starts. Its memory is its file, without tags, and no choice is drawn.
-use Rattle.std.proofs.Common.{◌≡◌, ℕ, ◌+◌, ◌%◌, ◌^◌, List, [], length, Option, None, refl, ap, ap₂, subst, sym, ◌∙◌}
+use Rattle.std.proofs.Common.{◌≡◌, ℕ, ◌+◌, ◌%◌, ◌^◌, List, [], length, None, refl, ap, ap₂, subst, sym, ◌∙◌}
 use Rattle.std.proofs.Math.Nat.{zero-mod}
 use Rattle.a64_code.specs.Outside.{Outside}
 use Rattle.a64_code.specs.State.{State}
 use Rattle.elf_image.specs.Image.{Image}
-use Rattle.elf_image.specs.declared.parts.RelativeReloc.{RelativeReloc}
 use Rattle.memtag_desc.specs.Descriptors.{Describes, nothing}
 use Rattle.mte_machine.specs.Machine.{clear_flags}
 use Rattle.tag_startup.specs.Laws.PlaceLaws.{no_relocations}
@@ -12,7 +11,7 @@ use Rattle.tag_startup.specs.Laws.TagLaws.{no_tags}
 use Rattle.tag_startup.specs.Loaded.{before_relocations, loaded, loaded_byte}
 use Rattle.tag_startup.specs.Parts.{load_address, stack_end, loaded_regions, loaded_guard, file_byte}
 use Rattle.tag_startup.specs.Relocated.{relocated_byte}
-use Rattle.tag_startup.specs.Starts.{AreObjects, Starts, counted_on, first_outside, is_misplaced}
+use Rattle.tag_startup.specs.Starts.{Starts, first_outside}
 use Rattle.tag_startup.specs.Tags.{loaded_tag}
 
 -- the image has no relocation, no tagged object and no data

@@ -1,8 +1,7 @@
 -- The objects of an image that starts, and the places of its relocations, are in its writable part.
-use Rattle.std.proofs.Common.{◌≡◌, ◌≤◌, ◌<◌, ℕ, zero, suc, ◌+◌, ◌%◌, ◌==◌, Bool, true, false, not, ◌&&◌, List, [], ◌∷◌, length, get_or}
-use Rattle.std.proofs.Common.{Option, Some, None, nat_le, refl, sym, ap, ◌∙◌, inl, inr, arith}
+use Rattle.std.proofs.Common.{◌≡◌, ◌≤◌, ◌<◌, ℕ, zero, suc, ◌+◌, ◌%◌, ◌==◌, Bool, false, not, ◌&&◌, List, [], ◌∷◌, length, get_or}
+use Rattle.std.proofs.Common.{Option, Some, None, nat_le, refl, sym, ◌∙◌, inl, inr, arith}
 use Rattle.std.specs.List.{All, position, position_or_len}
-use Rattle.std.specs.Option.{option_map}
 use Rattle.std.proofs.lemmas.Bool.{cases_lt}
 use Rattle.std.proofs.lemmas.Bool.Decides.{nat_tests}
 use Rattle.std.proofs.lemmas.List.Sums.{fails_before_first}
@@ -10,7 +9,7 @@ use Rattle.elf_image.specs.Image.{Image}
 use Rattle.elf_image.specs.Places.{dynamic_place, memory_end}
 use Rattle.elf_image.specs.declared.parts.RelativeReloc.{RelativeReloc}
 use Rattle.memtag_desc.specs.declared.interval.Interval.{Interval}
-use Rattle.memtag_desc.specs.Descriptors.{HaveDescription, end_of, address_limit}
+use Rattle.memtag_desc.specs.Descriptors.{HaveDescription, end_of}
 use Rattle.memtag_desc.specs.Laws.OneSpelling.{have_description}
 use Rattle.tag_startup.specs.Starts.{AreObjects, counted_on, first_outside, is_outside, is_misplaced}
 

@@ -1,21 +1,19 @@
 -- What start-up leaves as the image's file has it: all that is not in the writable part.
-use Rattle.std.proofs.Common.{◌≡◌, ◌≤◌, ◌<◌, ℕ, ◌+◌, ◌-◌, ◌*◌, Bool, true, false, ◌&&◌, ◌||◌, not, List, length, get_or, refl, ap, ◌∙◌, arith}
+use Rattle.std.proofs.Common.{◌≡◌, ◌≤◌, ◌<◌, ℕ, ◌+◌, ◌-◌, ◌*◌, Bool, true, false, ◌&&◌, ◌||◌, List, get_or, refl, arith}
 use Rattle.std.proofs.lemmas.Bool.Decides.{nat_tests}
 use Rattle.mt_base.specs.Granules.{round16}
 use Rattle.mt_base.specs.Laws.Granules.{round16-covers}
-use Rattle.mt_base.specs.Memory.{is_between, is_in_extent, is_protected}
+use Rattle.mt_base.specs.Memory.{is_between, is_protected}
 use Rattle.elf_image.specs.Image.{Image}
 use Rattle.elf_image.specs.Places.{rodata_end, code_place, code_end, dynamic_place}
-use Rattle.elf_image.specs.declared.parts.RelativeReloc.{RelativeReloc}
 use Rattle.memtag_desc.specs.declared.interval.Interval.{Interval}
-use Rattle.tag_startup.specs.Laws.Inside.{IsPlaced, objects_within, relocs_placed}
+use Rattle.tag_startup.specs.Laws.Inside.{objects_within, relocs_placed}
 use Rattle.tag_startup.specs.Laws.PlaceLaws.{byte_kept}
 use Rattle.tag_startup.specs.Laws.TagLaws.{other_tag}
 use Rattle.tag_startup.specs.Loaded.{before_relocations, loaded_byte}
-use Rattle.tag_startup.specs.Parts.{load_address, part, loaded_regions, file_byte}
-use Rattle.tag_startup.specs.Relocated.{is_at_place}
+use Rattle.tag_startup.specs.Parts.{load_address, loaded_regions, file_byte}
 use Rattle.tag_startup.specs.Starts.{AreObjects}
-use Rattle.tag_startup.specs.Tags.{has_granule, loaded_tag}
+use Rattle.tag_startup.specs.Tags.{loaded_tag}
 
 before_interval : (start bytes at : ℕ) → at < start → is_between start bytes at ≡ false
 before_interval start bytes at below = grind (arith, nat_tests)

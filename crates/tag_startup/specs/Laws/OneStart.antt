@@ -1,10 +1,8 @@
 -- An image has one list of objects where it starts, or one refusal, and never both.
-use Rattle.std.proofs.Common.{◌≡◌, ◌⊎◌, ℕ, List, Option, Some, None, refl, sym, ap, subst, ◌∙◌, inl, inr}
+use Rattle.std.proofs.Common.{◌≡◌, ◌⊎◌, ℕ, List, Option, Some, None, refl, sym, ap, ◌∙◌, inl, inr}
 use Rattle.elf_image.specs.Image.{Image}
 use Rattle.memtag_desc.specs.declared.interval.Interval.{Interval}
-use Rattle.memtag_desc.specs.declared.refusal.DescRefusal.{DescRefusal}
 use Rattle.memtag_desc.specs.Descriptors.{Describes}
-use Rattle.memtag_desc.specs.Faults.{HasFault}
 use Rattle.memtag_desc.specs.Laws.OneAnswer.{one_list, no_fault, one_fault, one_or_other}
 use Rattle.memtag_desc.specs.Laws.ReadNumber.{IsBytes}
 use Rattle.tag_startup.specs.declared.refusal.StartRefusal.{StartRefusal}

@@ -1,5 +1,5 @@
 -- What the place of a relocation holds at the start: the pointer of the last relocation there. A pointer to an object has its tag.
-use Rattle.std.proofs.Common.{◌≡◌, ◌≢◌, ◌≤◌, ◌<◌, ℕ, ◌+◌, ◌-◌, ◌*◌, ◌/◌, ◌%◌, ◌^◌, Bool, true, false, if◌then◌else◌, List, length, get_or}
+use Rattle.std.proofs.Common.{◌≡◌, ◌≢◌, ◌≤◌, ◌<◌, ℕ, ◌+◌, ◌-◌, ◌*◌, ◌/◌, ◌%◌, ◌^◌, true, false, List, length, get_or}
 use Rattle.std.proofs.Common.{Some, slice_index, refl, sym, ap, ap₂, ◌∙◌, inl, inr, arith, w64}
 use Rattle.std.specs.Int.{cast_unsigned}
 use Rattle.std.proofs.lemmas.Bool.{cases_lt}
@@ -10,18 +10,18 @@ use Rattle.mt_base.specs.Laws.Memory.{length-bytes_of, load-store_same, load_sam
 use Rattle.mt_base.specs.Tags.{base}
 use Rattle.mt_base.specs.Wrapping.{wrapping_add, wrapping_sub}
 use Rattle.elf_image.specs.Image.{Image}
-use Rattle.elf_image.specs.Places.{IsValid, dynamic_place, memory_end}
+use Rattle.elf_image.specs.Places.{IsValid}
 use Rattle.elf_image.specs.declared.parts.RelativeReloc.{RelativeReloc}
 use Rattle.memtag_desc.specs.declared.interval.Interval.{Interval}
-use Rattle.tag_startup.specs.Laws.Inside.{IsPlaced, IsWholeObject, IsWithin, objects_whole, objects_within, relocs_placed}
+use Rattle.tag_startup.specs.Laws.Inside.{IsWholeObject, IsWithin, objects_whole, objects_within, relocs_placed}
 use Rattle.tag_startup.specs.Laws.PlaceLaws.{find_that}
 use Rattle.tag_startup.specs.Laws.TagLaws.{nth_tag, object_tag}
 use Rattle.tag_startup.specs.Laws.Writable.{writable_mapped}
 use Rattle.tag_startup.specs.Loaded.{before_relocations, loaded_byte}
-use Rattle.tag_startup.specs.Parts.{load_address, loaded_regions}
+use Rattle.tag_startup.specs.Parts.{load_address}
 use Rattle.tag_startup.specs.Relocated.{Before, byte_by, is_at_place, pointer, relocated_byte, tag_there, tagged_address, target}
 use Rattle.tag_startup.specs.Starts.{AreObjects}
-use Rattle.tag_startup.specs.Tags.{has_granule, loaded_tag}
+use Rattle.tag_startup.specs.Tags.{loaded_tag}
 
 -- ---- what a place holds
 

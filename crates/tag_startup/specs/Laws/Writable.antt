@@ -1,15 +1,15 @@
 -- What is in the writable part of an image can be read and written, and the guard is apart from it.
-use Rattle.std.proofs.Common.{◌≡◌, ◌≤◌, ◌<◌, ℕ, ◌+◌, ◌-◌, ◌*◌, ◌/◌, ◌%◌, Bool, true, false, not, ◌&&◌, ◌||◌, refl, ap, ◌∙◌, arith}
+use Rattle.std.proofs.Common.{◌≡◌, ◌≤◌, ◌<◌, ℕ, ◌+◌, ◌-◌, ◌*◌, ◌%◌, Bool, true, false, ◌&&◌, ◌||◌, refl, ap, ◌∙◌, arith}
 use Rattle.std.proofs.lemmas.Bool.Decides.{nat_tests}
 use Rattle.mt_base.specs.Granules.{round16, granule_of}
 use Rattle.mt_base.specs.Laws.Granules.{round16-covers}
-use Rattle.mt_base.specs.Memory.{Extent, is_between, is_in_extent, is_in_span, is_mapped, is_protected, every_byte, some_byte}
+use Rattle.mt_base.specs.Memory.{is_between, is_in_extent, is_in_span, is_mapped, is_protected, every_byte, some_byte}
 use Rattle.mt_base.specs.Laws.Memory.{every_byte_from, some_byte_none}
 use Rattle.tag_mem.specs.declared.access.Access.TheVariants.{Done}
 use Rattle.tag_mem.specs.Answers.{read_answer, write_answer, set_tag_answer}
 use Rattle.elf_image.specs.Image.{Image}
 use Rattle.elf_image.specs.Places.{IsValid, rodata_end, code_place, code_end, dynamic_place, memory_end}
-use Rattle.tag_startup.specs.Parts.{IsStack, load_address, part, stack_region, loaded_regions, loaded_guard}
+use Rattle.tag_startup.specs.Parts.{IsStack, load_address, part, loaded_regions, loaded_guard}
 use Rattle.tag_startup.specs.Laws.Placed.{AreInOrder, in_order}
 
 -- an address of the writable part

@@ -1,4 +1,4 @@
-use Rattle.std.proofs.Common.{◌≡◌, ◌∙◌, ap, Some, None}
+use Rattle.std.proofs.Common.{◌∙◌, ap, Some, None}
 use Rattle.std.specs.List.{position}
 use Rattle.elf_image.specs.Image.{image_of}
 use Rattle.tag_startup.specs.Starts.{is_misplaced}

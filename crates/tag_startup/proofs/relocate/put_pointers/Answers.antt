@@ -1,4 +1,4 @@
-use Rattle.std.proofs.Common.{◌≡◌, ◌+◌, ◌∙◌, get_or, length, pos, ap, ap₂, sym}
+use Rattle.std.proofs.Common.{◌≡◌, ◌+◌, ◌∙◌, get_or, length, pos, ap, sym}
 use Rattle.std.proofs.lemmas.List.{drop_all}
 use Rattle.mt_base.specs.Memory.{store, store_bytes}
 use Rattle.tag_mem.specs.declared.access.Access.TheVariants.{Done}

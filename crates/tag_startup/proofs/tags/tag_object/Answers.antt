@@ -1,7 +1,6 @@
 use Rattle.std.proofs.Common.{◌≡◌, ◌+◌, ◌*◌, ◌∙◌, ap₂, arith}
 use Rattle.tag_mem.specs.declared.access.Access.TheVariants.{Done}
 use Rattle.tag_mem.specs.Answers.{set_tag_answer}
-use Rattle.tag_startup.specs.Parts.{load_address}
 use Rattle.tag_startup.proofs.Tagging.{none_tagged, granule_tagged, all_tagged}
 use Rattle.tag_startup.proofs.tags.tag_object.Goals as goal
 
