@@ -10,7 +10,9 @@ use tag_startup::{StartRefusal, start};
 
 // The bytes of the stack, the bytes that an image may put out, and the steps that it may run.
 const STACK: u64 = 65_536;
+
 const OUTPUT: u64 = 4_096;
+
 const STEPS: u64 = 10_000;
 
 // The answer to a row's question.

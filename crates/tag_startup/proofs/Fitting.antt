@@ -27,9 +27,9 @@ can_tag image stack objects valid stack_is are k d inside = record {
   bytes_whole = whole.bytes;
   low = omega (arith, within.to, valid.memory);
   each = λ n below. can_be_tagged image stack (load_address + i.start + 16 * n) valid stack_is (omega (arith, whole.start)) (record {
-      from = omega (arith, within.from);
-      to = omega (arith, within.to, whole.bytes, below);
-    });
+    from = omega (arith, within.from);
+    to = omega (arith, within.to, whole.bytes, below);
+  });
 }
   where
     i : Interval

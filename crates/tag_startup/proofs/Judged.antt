@@ -34,8 +34,12 @@ found_first image objects start end one two from to first second =
 few_objects : (from : ℕ) (objects : List Interval) (bytes : List ℕ) → DescribesFrom from objects bytes → length objects ≤ length bytes
 few_objects from objects bytes (nothing _) = omega arith
 few_objects from objects bytes (next _ distance size others first rest is within described) =
-    omega (arith, length-append first rest, some_descriptor distance size first is,
-    few_objects (end_of (interval_at from distance size)) others rest described)
+    omega (
+      arith,
+      length-append first rest,
+      some_descriptor distance size first is,
+      few_objects (end_of (interval_at from distance size)) others rest described,
+    )
 
 tables_fit : (image : Image) → 24 * length image.relocs + length image.descriptors ≤ rodata_end image
 unfolding rodata_end rodata_place descriptors_place
@@ -63,8 +67,16 @@ pub index_fits : (image : Image) (objects : List Interval) (k : ℕ) → IsValid
     first_outside image objects ≡ Some k → k < 2 ^ 32
 index_fits image objects k valid described is =
     let order : AreInOrder image = in_order image valid in
-    omega (arith, outside_within image objects k is, few_objects 0 objects image.descriptors described, tables_fit image,
-    order.code_from, order.code_within, order.dynamic_from, order.end)
+    omega (
+      arith,
+      outside_within image objects k is,
+      few_objects 0 objects image.descriptors described,
+      tables_fit image,
+      order.code_from,
+      order.code_within,
+      order.dynamic_from,
+      order.end,
+    )
 
 -- ---- a refusal that a `?` passes on
 

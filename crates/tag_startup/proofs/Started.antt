@@ -98,12 +98,12 @@ pub is_started : {M : Type 0} (shown : Ghosts M) (machine : Machine M) (mapped t
     IsStarted shown machine image choices stack
 is_started shown machine mapped tagged memory image objects slice third relocs choices taken stack first pc drawn are same also places
     took first_is map tag store at_entry count state = record {
-  starts = record { intervals = objects; objects = are };
-  state = λ w.
-      state w
-      ∙ ap (λ xs. initial_state shown memory pc stack_end xs drawn w) took
-      ∙ started shown memory image objects choices stack pc drawn w is_loaded at_entry (count ∙ ap choices_drawn also);
-}
+      starts = record { intervals = objects; objects = are };
+      state = λ w.
+          state w
+          ∙ ap (λ xs. initial_state shown memory pc stack_end xs drawn w) took
+          ∙ started shown memory image objects choices stack pc drawn w is_loaded at_entry (count ∙ ap choices_drawn also);
+    }
   where
     is_loaded : IsLoaded shown memory image objects choices stack
     is_loaded = filled shown mapped tagged memory image objects choices stack first are first_is map

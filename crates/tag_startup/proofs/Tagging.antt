@@ -33,11 +33,11 @@ one_more tags start n tag granule whole = elim (cases_Bool (is_between start (16
       rw (more (granule * 16) before) (store_tag_other _ (start + 16 * n) tag granule (λ e. not_last (granule * 16) before (omega (arith, e, whole)))
       ∙ rw before refl)
   | inr other ↦ elim (cases_Bool (is_between start (16 * (n + 1)) (granule * 16))) [
-      | inl last ↦ rw last (store_tag_same _ (start + 16 * n) tag granule
-          (omega (arith, whole, (is_last (granule * 16) other last).0, (is_last (granule * 16) other last).1)))
-      | inr past ↦ rw past (store_tag_other _ (start + 16 * n) tag granule (λ e. not_past (granule * 16) past (omega (arith, e, whole)))
-          ∙ rw other refl)
-    ]
+    | inl last ↦ rw last (store_tag_same _ (start + 16 * n) tag granule
+        (omega (arith, whole, (is_last (granule * 16) other last).0, (is_last (granule * 16) other last).1)))
+    | inr past ↦ rw past (store_tag_other _ (start + 16 * n) tag granule (λ e. not_past (granule * 16) past (omega (arith, e, whole)))
+        ∙ rw other refl)
+  ]
 ]
   where
     more : (at : ℕ) → is_between start (16 * n) at ≡ true → is_between start (16 * (n + 1)) at ≡ true

@@ -102,8 +102,11 @@ can_be_read image stack at count valid stack_is are =
 pub can_be_written : (image : Image) (stack at count : ℕ) → IsValid image → IsStack stack → AreWritable image at count →
     write_answer (loaded_regions image stack) (loaded_guard stack) at count ≡ Done
 can_be_written image stack at count valid stack_is are =
-    rw (no_guard image stack at count valid stack_is are, all_mapped image stack at count valid are,
-    none_protected image stack at count valid are) refl
+    rw (
+      no_guard image stack at count valid stack_is are,
+      all_mapped image stack at count valid are,
+      none_protected image stack at count valid are,
+    ) refl
 
 -- a granule of it can get a tag
 pub can_be_tagged : (image : Image) (stack at : ℕ) → IsValid image → IsStack stack → at % 16 ≡ 0 → AreWritable image at 16 →
