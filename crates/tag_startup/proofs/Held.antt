@@ -20,7 +20,7 @@ use Rattle.elf_base.specs.Laying.{pad}
 use Rattle.mt_base.specs.Granules.{round16}
 use Rattle.mt_base.specs.Laws.Granules.{round16-covers}
 use Rattle.elf_base.specs.Laws.LaidOut.{length-pad}
-use Rattle.tag_startup.specs.Loaded.{IsStack, load_address, stack_end, part, stack_region, loaded_regions, loaded_byte}
+use Rattle.tag_startup.specs.Parts.{IsStack, load_address, stack_end, part, stack_region, loaded_regions, file_byte}
 use Rattle.tag_startup.specs.Laws.Placed.{in_order}
 
 -- a region holds the bytes of a file behind the load address, and zeros behind the file's end
@@ -131,10 +131,10 @@ held_byte file (r ∷ rs) at all = elim (cases_Bool (is_in_extent (extent_of r) 
 ]
 
 -- those of an image and its stack
-pub loaded_bytes : (image : Image) (stack : ℕ) (regions : List Region) → IsValid image → extents_of regions ≡ loaded_regions image stack →
-    All (HoldsFile (file_of image)) regions → byte_in regions ≡ loaded_byte image stack
-unfolding loaded_byte
-loaded_bytes image stack regions valid places all = fun_ext (λ at.
+pub bytes_held : (image : Image) (stack : ℕ) (regions : List Region) → IsValid image → extents_of regions ≡ loaded_regions image stack →
+    All (HoldsFile (file_of image)) regions → byte_in regions ≡ file_byte image stack
+unfolding file_byte
+bytes_held image stack regions valid places all = fun_ext (λ at.
     held_byte (file_of image) regions at all
     ∙ ap (λ extents. if is_mapped extents at then get_or (file_of image) (at - load_address) 0 else 0) places
     ∙ ap (λ byte. if is_mapped (loaded_regions image stack) at then byte else 0)

@@ -1,2 +1,6 @@
 mod Held
 mod Started
+mod Tagging
+mod Storing
+mod Judged
+mod Fitting

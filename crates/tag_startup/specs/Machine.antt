@@ -2,13 +2,15 @@
 use Rattle.std.specs.Prelude.{◌≡◌, ◌≢◌, ℕ, List, Option}
 use Rattle.mt_outside.specs.Told.{Rose}
 use Rattle.a64_code.specs.Outside.{Outside}
+use Rattle.a64_code.specs.State.{State}
 use Rattle.a64_code.specs.declared.end.MachineEnd.{MachineEnd}
 use Rattle.a64_code.specs.declared.end.MachineEnd.TheVariants.{InputFault, OutputFault}
 use Rattle.elf_image.specs.Image.{Image}
 use Rattle.mte_machine.specs.Answers.{CountsUpTo}
 use Rattle.mte_machine.specs.Objects.{Objects, MayAnswer, MayHaveTaken, Fits, GoesOn, without_input, without_output}
 use Rattle.mte_machine.specs.Run.{run, end_of, output_after, answers_after}
-use Rattle.tag_startup.specs.Loaded.{HoldsCodeAlone, loaded}
+use Rattle.tag_startup.specs.Loaded.{loaded}
+use Rattle.tag_startup.specs.Starts.{Starts}
 
 -- an image, what its start is given (the random tags that are drawn in turn, and the bytes of the stack), and how many steps it may run
 pub record Launch : Type 0 where
@@ -29,12 +31,16 @@ pub record Ending : Type 0 where
 abbrev pub ending : MachineEnd → List ℕ → List (Option ℕ) → Ending
 ending end output left = record { end = end; output = output; left = left }
 
+-- the state at the start of an image that starts
+abbrev pub first_state : (l : Launch) → Starts l.image → Outside → State
+first_state l starts outside = loaded l.image starts.intervals l.choices l.stack outside
+
 -- The image starts so, and its run of at most so many steps over this outside ends so. There is no run of an image that does not start.
 pub record Machine (l : Launch) (outside : Outside) (e : Ending) : Type 0 where
-  pub starts : HoldsCodeAlone l.image
-  pub ends : e.end ≡ end_of (run l.steps (loaded l.image l.choices l.stack outside))
-  pub puts : e.output ≡ output_after (run l.steps (loaded l.image l.choices l.stack outside))
-  pub leaves : e.left ≡ answers_after (run l.steps (loaded l.image l.choices l.stack outside))
+  pub starts : Starts l.image
+  pub ends : e.end ≡ end_of (run l.steps (first_state l starts outside))
+  pub puts : e.output ≡ output_after (run l.steps (first_state l starts outside))
+  pub leaves : e.left ≡ answers_after (run l.steps (first_state l starts outside))
 
 -- the run over this outside ends so
 pub record MachineEnds (l : Launch) (outside : Outside) (end : MachineEnd) : Type 0 where

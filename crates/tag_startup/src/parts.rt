@@ -5,7 +5,7 @@ ghost use Rattle.elf_image.specs.Image.{image_of};
 ghost use Rattle.elf_image.specs.Places.{IsValid};
 ghost use Rattle.mt_base.specs.Granules.{round16};
 ghost use Rattle.tag_mem.specs.Regions.{extent_of, extents_of, span_of, byte_in};
-ghost use Rattle.tag_startup.specs.Loaded.{IsStack, loaded_byte, loaded_guard, loaded_regions, part, stack_region};
+ghost use Rattle.tag_startup.specs.Parts.{IsStack, file_byte, loaded_guard, loaded_regions, part, stack_region};
 
 use elf_base::pad_to;
 use elf_image::{ImageParts, push_code, push_writable, read_only_bytes};
@@ -38,7 +38,7 @@ pub fn regions_of(alloc: Global, image: &ImageParts, stack: u64) -> Result<Vec<R
     requires valid { IsValid (image_of image.now) }
     requires stack { IsStack stack }
     ensures places { IfOk result (λ regions. extents_of regions.items ≡ loaded_regions (image_of image.now) stack) }
-    ensures bytes { IfOk result (λ regions. byte_in regions.items ≡ loaded_byte (image_of image.now) stack) }
+    ensures bytes { IfOk result (λ regions. byte_in regions.items ≡ file_byte (image_of image.now) stack) }
 {
     let tables = read_only_bytes(alloc, image)?;
     let read_only = part_of(tables, 0, image.rodata_end(), false, false)?;

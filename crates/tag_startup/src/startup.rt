@@ -1,14 +1,16 @@
 // The start of an image.
-ghost use Rattle.std.specs.Prelude.{◌≡◌, ◌≢◌, ◌↔◌, [], IfOk, IsErrOf, IsTrue};
-ghost use Rattle.a64_code.specs.Outside.{Outside};
+ghost use Rattle.std.specs.Prelude.{◌≡◌, ◌≢◌, ◌⊎◌, [], IfErr, IfOk, MatchResult};
 ghost use Rattle.elf_image.specs.Image.{image_of};
 ghost use Rattle.elf_image.specs.Places.{IsValid};
-ghost use Rattle.mte_machine.specs.Machine.{state_of};
-ghost use Rattle.tag_startup.specs.Loaded.{HoldsCodeAlone, IsStack, loaded};
-ghost use Rattle.tag_startup.specs.Memory.{IsLoaded};
+ghost use Rattle.tag_startup.specs.Memory.{IsMapped, IsStarted};
+ghost use Rattle.tag_startup.specs.Parts.{IsStack};
+ghost use Rattle.tag_startup.specs.Starts.{Starts, StartFault};
 
+use crate::judge::objects_of;
 use crate::parts::{LOAD_ADDRESS, STACK_END, guard_of, regions_of};
 use crate::refusal::StartRefusal;
+use crate::relocate::relocate;
+use crate::tags::{choices_drawn, first_tag, tag_objects};
 use elf_image::ImageParts;
 use mt_base::Tag;
 use mte_machine::Machine;
@@ -26,36 +28,50 @@ pub fn start(
     requires valid { IsValid (image_of image.now) }
     requires choices { choices.now ≢ [] }
     requires stack { IsStack stack }
-    ensures holds { IfOk result (λ _. HoldsCodeAlone (image_of image.now)) }
-    ensures loaded { IfOk result (λ machine. (w : Outside)
-        → state_of ⟦<FlatMemory as TagMemory>⟧ machine w ≡ loaded (image_of image.now) choices.now stack w) }
-    ensures not_yet { IsErrOf result StartRefusal.NotYet → ¬ HoldsCodeAlone (image_of image.now) }
+    // The machine is that of an image that starts, in its first state.
+    ensures started { IfOk result (λ machine.
+        IsStarted ⟦<FlatMemory as TagMemory>⟧ machine (image_of image.now) choices.now stack) }
+
+    // An image that starts is started, unless memory runs out.
+    ensures starts { Starts (image_of image.now) → IfErr result (λ e. e ≡ StartRefusal.NoMemory) }
+
+    // What is refused is refused for the first condition that fails, unless memory ran out, and where one fails it is.
+    ensures refused { IfErr result (λ e. (e ≡ StartRefusal.NoMemory) ⊎ StartFault (image_of image.now) e) }
+    ensures refuses { (fault : StartRefusal) → StartFault (image_of image.now) fault →
+        MatchResult result (λ _. ⊥) (λ e. (e ≡ fault) ⊎ (e ≡ StartRefusal.NoMemory)) }
 {
-    if !holds_code_alone(image) {
-        return Err(StartRefusal::NotYet);
-    }
-    let memory = memory_of(alloc, image, stack)?;
+    machine_of(alloc, image, choices, stack)
+}
+
+// The machine, by what its clauses stand on.
+fn machine_of(
+    alloc: Global,
+    image: &ImageParts,
+    choices: &[Tag],
+    stack: u64,
+) -> Result<Machine<FlatMemory>, StartRefusal>
+    requires valid { IsValid (image_of image.now) }
+    requires choices { choices.now ≢ [] }
+    requires stack { IsStack stack }
+    ensures started { IfOk result (λ machine.
+        IsStarted ⟦<FlatMemory as TagMemory>⟧ machine (image_of image.now) choices.now stack) }
+    ensures refused { IfErr result (λ e. (e ≡ StartRefusal.NoMemory) ⊎ StartFault (image_of image.now) e) }
+{
+    let objects = objects_of(alloc, image)?;
+    let mut memory = memory_of(alloc, image, stack)?;
+    tag_objects(&mut memory, &objects, first_tag(choices));
+    relocate(alloc, &mut memory, &image.relocs)?;
     let choices = Vec::from_slice(alloc, choices)?;
     let pc = LOAD_ADDRESS.wrapping_add(image.entry);
-    Ok(Machine::new(memory, pc, STACK_END, choices, 0))
+    let drawn = choices_drawn(&objects);
+    Ok(Machine::new(memory, pc, STACK_END, choices, drawn))
 }
 
-// Whether an image holds an entry and words alone.
-fn holds_code_alone(image: &ImageParts) -> bool
-    ensures { IsTrue result ↔ HoldsCodeAlone (image_of image.now) }
-{
-    image.relocs.is_empty()
-        && image.descriptors.as_slice().is_empty()
-        && image.rodata.as_slice().is_empty()
-        && image.filled.as_slice().is_empty()
-        && image.zero_bytes == 0
-}
-
-// The memory of an image with a stack of so many bytes.
+// The memory of an image with a stack of so many bytes, as the image's file has it.
 fn memory_of(alloc: Global, image: &ImageParts, stack: u64) -> Result<FlatMemory, AllocError>
     requires valid { IsValid (image_of image.now) }
     requires stack { IsStack stack }
-    ensures { IfOk result (λ m. IsLoaded ⟦<FlatMemory as TagMemory>⟧ m (image_of image.now) stack) }
+    ensures { IfOk result (λ m. IsMapped ⟦<FlatMemory as TagMemory>⟧ m (image_of image.now) stack) }
 {
     let regions = regions_of(alloc, image, stack)?;
     FlatMemory::new(alloc, regions, guard_of(stack))

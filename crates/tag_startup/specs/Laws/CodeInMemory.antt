@@ -1,5 +1,5 @@
 -- The code of an image in memory.
-use Rattle.std.proofs.Common.{◌≡◌, ◌≤◌, ◌<◌, ℕ, ◌+◌, ◌-◌, ◌*◌, ◌%◌, ◌^◌, Bool, true, false, ◌&&◌, ◌||◌, ◌==◌, length, get_or, refl, ap}
+use Rattle.std.proofs.Common.{◌≡◌, ◌≤◌, ◌<◌, ℕ, ◌+◌, ◌-◌, ◌*◌, ◌%◌, ◌^◌, Bool, true, false, ◌&&◌, ◌||◌, ◌==◌, List, length, get_or, refl, ap}
 use Rattle.std.proofs.Common.{◌∙◌, arith}
 use Rattle.std.proofs.lemmas.Bool.{or_right}
 use Rattle.std.proofs.lemmas.Bool.Decides.{nat_tests}
@@ -15,7 +15,11 @@ use Rattle.elf_image.specs.Places.{IsValid, code_place, code_end}
 use Rattle.elf_image.specs.Pieces.{pieces}
 use Rattle.elf_image.specs.FileByte.{byte_among}
 use Rattle.elf_image.specs.Laws.CodeBytes.{code_byte, word_loaded}
-use Rattle.tag_startup.specs.Loaded.{load_address, part, loaded_regions, loaded_byte}
+use Rattle.memtag_desc.specs.declared.interval.Interval.{Interval}
+use Rattle.tag_startup.specs.Laws.Kept.{before_writable}
+use Rattle.tag_startup.specs.Loaded.{loaded_byte}
+use Rattle.tag_startup.specs.Parts.{load_address, part, loaded_regions, file_byte}
+use Rattle.tag_startup.specs.Starts.{AreObjects}
 use Rattle.tag_startup.specs.Laws.Placed.{in_order}
 
 -- so many bytes behind the load address are the code's
@@ -27,6 +31,10 @@ code_inside image i within =
   where
     inside : (start bytes k : ℕ) → k < bytes → is_between start (round16 bytes) (start + k) ≡ true
     inside start bytes k below = let covers : bytes ≤ round16 bytes = round16-covers bytes in grind (arith, nat_tests)
+
+code_long : (image : Image) → code_end image ≡ code_place image + 4 * length image.words
+unfolding code_end
+code_long image = refl
 
 -- where the second of several tests holds, one of them does
 second : (a b c : Bool) → b ≡ true → (a || (b || c)) ≡ true
@@ -46,22 +54,32 @@ code_mapped : (image : Image) (stack i : ℕ) → i < 4 * length image.words →
 unfolding loaded_regions
 code_mapped image stack i within = second _ _ _ (code_inside image i within)
 
-loaded_code : (image : Image) (stack i : ℕ) → i < 4 * length image.words →
-    loaded_byte image stack (load_address + code_place image + i) ≡ byte_among (pieces image) (code_place image + i)
-unfolding loaded_byte
-loaded_code image stack i within =
+file_code : (image : Image) (stack i : ℕ) → i < 4 * length image.words →
+    file_byte image stack (load_address + code_place image + i) ≡ byte_among (pieces image) (code_place image + i)
+unfolding file_byte
+file_code image stack i within =
     rw (code_mapped image stack i within) (ap (byte_among (pieces image))
     (let e : load_address + code_place image + i - load_address ≡ code_place image + i = omega arith in e))
 
+-- relocations leave it as the file has it
+loaded_code : (image : Image) (intervals : List Interval) (stack : ℕ) (tag : ℕ → ℕ) (i : ℕ) → IsValid image → AreObjects image intervals →
+    i < 4 * length image.words →
+    loaded_byte image stack tag (load_address + code_place image + i) ≡ byte_among (pieces image) (code_place image + i)
+loaded_code image intervals stack tag i valid are within =
+    before_writable image intervals stack tag (load_address + code_place image + i) are
+    (omega (arith, within, (in_order image valid).dynamic_from, code_long image, round16-covers (code_end image - code_place image)))
+    ∙ file_code image stack i within
+
 -- the word of the code at an address
-pub code_word : (image : Image) (stack k : ℕ) → IsValid image → k < length image.words → get_or image.words k 0 < 2 ^ 32 →
-    load 4 (loaded_byte image stack) (load_address + code_place image + 4 * k) ≡ get_or image.words k 0
-code_word image stack k valid within short =
-    word_loaded (loaded_byte image stack) (load_address + code_place image + 4 * k) (get_or image.words k 0) short
+pub code_word : (image : Image) (intervals : List Interval) (stack : ℕ) (tag : ℕ → ℕ) (k : ℕ) → IsValid image →
+    AreObjects image intervals → k < length image.words → get_or image.words k 0 < 2 ^ 32 →
+    load 4 (loaded_byte image stack tag) (load_address + code_place image + 4 * k) ≡ get_or image.words k 0
+code_word image intervals stack tag k valid are within short =
+    word_loaded (loaded_byte image stack tag) (load_address + code_place image + 4 * k) (get_or image.words k 0) short
     (λ j small.
-    ap (loaded_byte image stack) (let e : load_address + code_place image + 4 * k + j ≡ load_address + code_place image + (4 * k + j) =
+    ap (loaded_byte image stack tag) (let e : load_address + code_place image + 4 * k + j ≡ load_address + code_place image + (4 * k + j) =
     omega arith in e)
-    ∙ loaded_code image stack (4 * k + j) (omega (arith, within, small))
+    ∙ loaded_code image intervals stack tag (4 * k + j) valid are (omega (arith, within, small))
     ∙ code_byte image k j valid within small)
 
 code_fetchable : (image : Image) (stack k : ℕ) (s : State) → IsValid image → k < length image.words →
@@ -78,11 +96,12 @@ code_fetchable image stack k s valid within regions pc = rw (aligned, each) refl
         (let e : load_address + code_place image + 4 * k + j ≡ load_address + code_place image + (4 * k + j) = omega arith in e)
         ∙ code_executable image stack (4 * k + j) (omega (arith, within, small))))
 
--- A state with the memory of an image, whose PC is at a word of the code, fetches that word's instruction.
-pub code_fetched : (image : Image) (stack k : ℕ) (s : State) → IsValid image → k < length image.words → get_or image.words k 0 < 2 ^ 32 →
-    s.regions ≡ loaded_regions image stack → s.byte ≡ loaded_byte image stack → s.pc ≡ load_address + code_place image + 4 * k →
+-- A state with the memory of an image that starts, whose PC is at a word of the code, fetches that word's instruction.
+pub code_fetched : (image : Image) (intervals : List Interval) (stack : ℕ) (tag : ℕ → ℕ) (k : ℕ) (s : State) → IsValid image →
+    AreObjects image intervals → k < length image.words → get_or image.words k 0 < 2 ^ 32 →
+    s.regions ≡ loaded_regions image stack → s.byte ≡ loaded_byte image stack tag → s.pc ≡ load_address + code_place image + 4 * k →
     fetched s ≡ instruction_of (get_or image.words k 0)
 unfolding fetched
-code_fetched image stack k s valid within short regions byte pc =
+code_fetched image intervals stack tag k s valid are within short regions byte pc =
     rw (code_fetchable image stack k s valid within regions pc)
-    (rw (byte, pc) (ap instruction_of (code_word image stack k valid within short)))
+    (rw (byte, pc) (ap instruction_of (code_word image intervals stack tag k valid are within short)))

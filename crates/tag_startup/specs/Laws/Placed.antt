@@ -8,7 +8,7 @@ use Rattle.tag_mem.specs.Laws.Regions.{apart_below, guard_above, guard_below, no
 use Rattle.elf_image.specs.Image.{Image}
 use Rattle.elf_image.specs.Places.{IsValid, rodata_end, code_place, code_end, dynamic_place, dynamic_end, filled_place, file_end}
 use Rattle.elf_image.specs.Places.{memory_end}
-use Rattle.tag_startup.specs.Loaded.{IsStack, load_address, part, stack_region, loaded_regions, loaded_guard}
+use Rattle.tag_startup.specs.Parts.{IsStack, load_address, part, stack_region, loaded_regions, loaded_guard}
 
 -- each part of a valid image begins a granule, and ends before the next one begins
 pub record AreInOrder (image : Image) : Type 0 where

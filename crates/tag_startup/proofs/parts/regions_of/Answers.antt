@@ -8,8 +8,8 @@ use Rattle.elf_image.specs.Laws.CodeBytes.{file_of, file_of-is}
 use Rattle.elf_image.specs.Laws.Loading.{length-read_only, length-code, length-writable}
 use Rattle.mt_base.specs.Granules.{round16}
 use Rattle.tag_mem.specs.Regions.{extent_of, extents_of}
-use Rattle.tag_startup.specs.Loaded.{part, loaded_regions}
-use Rattle.tag_startup.proofs.Held.{HoldsFile, four_hold, four_places, loaded_bytes, stack_holds, read_only_holds, code_holds}
+use Rattle.tag_startup.specs.Parts.{part, loaded_regions}
+use Rattle.tag_startup.proofs.Held.{HoldsFile, four_hold, four_places, bytes_held, stack_holds, read_only_holds, code_holds}
 use Rattle.tag_startup.proofs.Held.{writable_holds}
 use Rattle.tag_startup.specs.Laws.Placed.{AreInOrder, in_order}
 use Rattle.tag_startup.proofs.parts.regions_of.Goals as goal
@@ -118,7 +118,7 @@ stack_is c =
 pub returns-clause-bytes : goal.returns-clause-bytes
 returns-clause-bytes c =
     let image : Image = image_of c.args.image.now in
-    loaded_bytes image c.args.stack c.in_ok-vec.field-0.items c.requires.valid (places c)
+    bytes_held image c.args.stack c.in_ok-vec.field-0.items c.requires.valid (places c)
     (subst (All (HoldsFile (file_of image))) (sym c.in_ok-vec.ensures.items)
     (four_hold (file_of image) c.in_ok-read_only.read_only c.in_ok-code.code c.in_ok-data.data c.in_ok-stack.stack (read_only_is c)
     (code_is c) (data_is c) (stack_is c)))

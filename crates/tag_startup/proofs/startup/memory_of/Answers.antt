@@ -1,7 +1,7 @@
 use Rattle.std.proofs.Common.{sym, subst}
 use Rattle.elf_image.specs.Image.{image_of}
 use Rattle.tag_mem.specs.Regions.{extents_of, IsWellPlaced}
-use Rattle.tag_startup.specs.Loaded.{loaded_guard}
+use Rattle.tag_startup.specs.Parts.{loaded_guard}
 use Rattle.tag_startup.specs.Laws.Placed.{well_placed}
 use Rattle.tag_startup.proofs.startup.memory_of.Goals as goal
 

@@ -1,14 +1,11 @@
-use Rattle.std.proofs.Common.{◌∙◌, ap, length, refl}
-use Rattle.std.proofs.Math.Nat.{zero-mod}
 use Rattle.elf_image.specs.Image.{image_of}
-use Rattle.tag_startup.specs.Loaded.{loaded}
-use Rattle.tag_startup.proofs.Started.{started}
+use Rattle.tag_startup.proofs.Fitting.{starts_all, refuses_all}
 use Rattle.tag_startup.proofs.startup.start.Goals as goal
 
-pub returns-clause-loaded : goal.returns-clause-loaded
-returns-clause-loaded c w =
-    c.new.ensures.state w
-    ∙ started _ c.in_ok-memory.memory
-    (image_of c.args.image.now) c.in_ok-choices.choices.items c.args.stack _ w c.in_ok-memory.ensures refl
-    (zero-mod (length c.in_ok-choices.choices.items))
-    ∙ ap (λ choices. loaded (image_of c.args.image.now) choices c.args.stack w) c.in_ok-choices.ensures.items
+pub returns-clause-starts : goal.returns-clause-starts
+returns-clause-starts c = starts_all (image_of c.args.image.now) c.machine_of.result c.machine_of.ensures.refused
+
+pub returns-clause-refuses : goal.returns-clause-refuses
+returns-clause-refuses c =
+    refuses_all _ (image_of c.args.image.now) c.args.choices.now c.args.stack c.machine_of.result c.machine_of.ensures.started
+    c.machine_of.ensures.refused
