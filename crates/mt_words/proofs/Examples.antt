@@ -98,12 +98,12 @@ run_x_given = refl
 run_x_job : HasJob run_x (Run (codes "x") (record { choices = 1 ∷ 10 ∷ 7 ∷ []; steps = 0; stack = default_stack }))
 unfolding default_run
 run_x_job = has _ _ _ run_x_read run_x_given (run _ _ refl refl (record {
-      choices = record { least = lit≤ tt; most = lit≤ tt; all = (lit≤ tt, (lit≤ tt, (lit≤ tt, tt))); values = refl };
-      steps = record { least = lit≤ tt; most = lit≤ tt; number = record { all = (lit≤ tt, tt); value = refl; in_range = lit≤ tt } };
-      stack = refl;
-      no_out = refl;
-      no_work = refl;
-    }))
+  choices = record { least = lit≤ tt; most = lit≤ tt; all = (lit≤ tt, (lit≤ tt, (lit≤ tt, tt))); values = refl };
+  steps = record { least = lit≤ tt; most = lit≤ tt; number = record { all = (lit≤ tt, tt); value = refl; in_range = lit≤ tt } };
+  stack = refl;
+  no_out = refl;
+  no_work = refl;
+}))
 
 -- `mean -- --a --stack`: behind `--` all is a file
 abbrev mean_a : List (List ℕ)

@@ -25,17 +25,36 @@ pub struct MeanOptions {
 #[derive(Drop)]
 pub enum Job<'a> {
     /// Builds sources in memory and runs the image.
-    Go { files: Vec<&'a str>, options: RunOptions },
+    Go {
+        files: Vec<&'a str>,
+        options: RunOptions,
+    },
     /// Builds sources and writes the image.
-    Build { files: Vec<&'a str>, out: &'a str },
+    Build {
+        files: Vec<&'a str>,
+        out: &'a str,
+    },
     /// Links objects and writes the image.
-    Link { files: Vec<&'a str>, out: &'a str },
+    Link {
+        files: Vec<&'a str>,
+        out: &'a str,
+    },
     /// Loads an image and runs it.
-    Run { image: &'a str, options: RunOptions },
+    Run {
+        image: &'a str,
+        options: RunOptions,
+    },
     /// Gives the meaning of sources.
-    Mean { files: Vec<&'a str>, options: MeanOptions },
+    Mean {
+        files: Vec<&'a str>,
+        options: MeanOptions,
+    },
     /// Prints what an ELF file says of memory tagging.
-    Dump { file: &'a str },
+    Dump {
+        file: &'a str,
+    },
     /// Prints the frames of a source's functions.
-    Plan { file: &'a str },
+    Plan {
+        file: &'a str,
+    },
 }

@@ -9,10 +9,7 @@ use crate::numbers::{choices_or_default, count_or_default, stack_or_default};
 use std::alloc::{AllocError, Global};
 
 /// The options of a run; `None` where a value is wrong, or an option is given that no run has.
-pub fn run_options(
-    alloc: Global,
-    options: Options<'_>,
-) -> Result<Option<RunOptions>, AllocError>
+pub fn run_options(alloc: Global, options: Options<'_>) -> Result<Option<RunOptions>, AllocError>
     ensures { IfOk result (FindsRun (options_are options.entry)) }
 {
     if options.out.is_some() {

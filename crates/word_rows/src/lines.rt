@@ -9,14 +9,34 @@ const MOST_TAGS: usize = 16;
 /// The line that tells a job.
 pub fn line_of(alloc: Global, job: &Job<'_>) -> Result<String, AllocError> {
     match job {
-        Job::Go { files, options } => told(alloc, "go", files.as_slice(), run_line(alloc, options)?.as_str()),
-        Job::Build { files, out } => told(alloc, "build", files.as_slice(), out_line(alloc, out)?.as_str()),
-        Job::Link { files, out } => told(alloc, "link", files.as_slice(), out_line(alloc, out)?.as_str()),
+        Job::Go { files, options } => told(
+            alloc,
+            "go",
+            files.as_slice(),
+            run_line(alloc, options)?.as_str(),
+        ),
+        Job::Build { files, out } => told(
+            alloc,
+            "build",
+            files.as_slice(),
+            out_line(alloc, out)?.as_str(),
+        ),
+        Job::Link { files, out } => told(
+            alloc,
+            "link",
+            files.as_slice(),
+            out_line(alloc, out)?.as_str(),
+        ),
         Job::Run { image, options } => {
             let options = run_line(alloc, options)?;
             format!(in alloc; "run {image} {options}")
         }
-        Job::Mean { files, options } => told(alloc, "mean", files.as_slice(), mean_line(alloc, *options)?.as_str()),
+        Job::Mean { files, options } => told(
+            alloc,
+            "mean",
+            files.as_slice(),
+            mean_line(alloc, *options)?.as_str(),
+        ),
         Job::Dump { file } => format!(in alloc; "dump {file}"),
         Job::Plan { file } => format!(in alloc; "plan {file}"),
     }
@@ -44,14 +64,23 @@ fn mean_line(alloc: Global, options: MeanOptions) -> Result<String, AllocError> 
 
 fn run_line(alloc: Global, options: &RunOptions) -> Result<String, AllocError> {
     let tags = tags_line(alloc, options.choices.as_slice())?;
-    format!(in alloc; "tags {tags} steps {} stack {}", options.steps, options.stack)
+    format!(in alloc;
+        "tags {tags} steps {} stack {}",
+        options.steps, options.stack
+    )
 }
 
 /// The tags as hexadecimal digits, or of many the number, the first two and the last.
 fn tags_line(alloc: Global, tags: &[Tag]) -> Result<String, AllocError> {
     match tags {
         [first, second, .., last] if tags.len() > MOST_TAGS => {
-            format!(in alloc; "{}:{:x}{:x}..{:x}", tags.len(), first.value(), second.value(), last.value())
+            format!(in alloc;
+                "{}:{:x}{:x}..{:x}",
+                tags.len(),
+                first.value(),
+                second.value(),
+                last.value()
+            )
         }
         _ => digits_line(alloc, tags),
     }
