@@ -1,0 +1,4 @@
+pub mod Tables
+pub mod Turns
+mod LinkExamples
+mod UseExamples
