@@ -43,9 +43,6 @@ def ended(file, place, bits, constant):
     if fault:
         name, _, at = fault.partition(" ")
         return "cut" if fault == f"Truncated {len(file)}" else f"{NUMBERS[name]} {at or 0}"
-    filesz, memsz = struct.unpack_from("<QQ", file, 0xB0 + 32)
-    if memsz > filesz:
-        return "44 0"
     entry = struct.unpack_from("<Q", file, 24)[0]
     if entry != 0x1000:
         return bad_code((LOAD + entry) % 2 ** 64)
