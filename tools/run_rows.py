@@ -46,7 +46,9 @@ def ended(file, place, bits, constant):
     entry = struct.unpack_from("<Q", file, 24)[0]
     if entry != 0x1000:
         return bad_code((LOAD + entry) % 2 ** 64)
-    end = code_of(constant)[place - 0x1000, bits] if place is not None else constant % 256
+    # outside the code it is the number of zero bytes that was changed, and the image runs as before
+    changed = place is not None and place - 0x1000 in range(4 * len(TEXTS[constant]))
+    end = code_of(constant)[place - 0x1000, bits] if changed else constant % 256
     return end if isinstance(end, str) else f"{end} Exited"
 
 
