@@ -1,4 +1,7 @@
 // What an image puts out from its start.
+ghost use Rattle.elf_image.specs.Image.{image_of};
+ghost use Rattle.elf_image.specs.Places.{IsValid};
+
 use crate::bytes::bytes_of;
 use elf_image::{ImageParts, read_image};
 use mt_base::Tag;
@@ -44,7 +47,9 @@ fn choices_of(alloc: Global, digits: &str) -> Result<Vec<Tag>, AllocError> {
 }
 
 // What the image puts out, or why it does not start.
-fn found(alloc: Global, image: &ImageParts, choices: &[Tag]) -> Result<String, AllocError> {
+fn found(alloc: Global, image: &ImageParts, choices: &[Tag]) -> Result<String, AllocError>
+    requires { IsValid (image_of image.now) }
+{
     if choices.is_empty() {
         return String::from_str(alloc, "no tags");
     }
