@@ -13,7 +13,7 @@ use Rattle.std.proofs.lemmas.Slice.Eq.{bytes_eq-Decides}
 use Rattle.indexmap.specs.IndexMap.{IndexMap, get_by}
 use Rattle.elf_obj.specs.declared.parts.Symbol.{Symbol}
 use Rattle.linker.specs.declared.names.Numbers.{Numbers}
-use Rattle.linker.specs.Names.{Entry, entry, numbered_from, is_defined, is_global, defines}
+use Rattle.linker.specs.Names.{NumberedSymbol, numbered, numbered_from, is_defined, is_global, defines}
 use Rattle.linker.specs.Known.{numbers_of, Knows, is_known, is_unknown}
 
 -- ---- numbered symbols
@@ -23,7 +23,7 @@ pub numbered-append : (k n : ℕ) (xs ys : List Symbol) → numbered_from k n (x
 numbered-append k n [] ys = let e : n ≡ n + 0 = omega arith in ap (λ (m : ℕ). numbered_from k m ys) e
 numbered-append k n (x ∷ xs) ys =
     let e : (n + 1) + length xs ≡ n + suc (length xs) = omega arith in
-    ap (λ (l : List Entry). entry k n x ∷ l)
+    ap (λ (l : List NumberedSymbol). numbered k n x ∷ l)
     (numbered-append k (n + 1) xs ys ∙ ap (λ (m : ℕ). numbered_from k (n + 1) xs ++ numbered_from k m ys) e)
 
 pub length-took : {A : Type 0} (xs : List A) (i : ℕ) → i ≤ length xs → length (take i xs) ≡ i
@@ -33,15 +33,15 @@ length-took (x ∷ xs) (suc i) h = ap suc (length-took xs i (omega arith))
 
 -- the first so many and one more
 pub numbered-more : (k i : ℕ) (ss : List Symbol) (d : Symbol) → i < length ss
-    → numbered_from k 0 (take (i + 1) ss) ≡ numbered_from k 0 (take i ss) ++ entry k i (get_or ss i d) ∷ []
+    → numbered_from k 0 (take (i + 1) ss) ≡ numbered_from k 0 (take i ss) ++ numbered k i (get_or ss i d) ∷ []
 numbered-more k i ss d h =
     let len = length-took ss i (omega arith) in
     ap (numbered_from k 0) (take_more ss i d h) ∙ numbered-append k 0 (take i ss) (get_or ss i d ∷ [])
-    ∙ ap (λ (m : ℕ). numbered_from k 0 (take i ss) ++ entry k m (get_or ss i d) ∷ []) (omega (arith, len))
+    ∙ ap (λ (m : ℕ). numbered_from k 0 (take i ss) ++ numbered k m (get_or ss i d) ∷ []) (omega (arith, len))
 
 -- ---- what a map knows
 
-one_name : (name : List ℕ) (e : Entry) → defines name e ≡ true → e.symbol.name ≡ name
+one_name : (name : List ℕ) (e : NumberedSymbol) → defines name e ≡ true → e.symbol.name ≡ name
 one_name name e h = (bytes_eq-Decides e.symbol.name name).0 (second (is_global e.symbol) h)
   where
     second : (b : Bool) → (b && bytes_eq e.symbol.name name) ≡ true → bytes_eq e.symbol.name name ≡ true
@@ -49,21 +49,22 @@ one_name name e h = (bytes_eq-Decides e.symbol.name name).0 (second (is_global e
     second false p = absurd (true≢false (sym p))
 
 -- one symbol more in a search, by what was found before
-found_more : (p : Entry → Bool) (xs : List Entry) (e : Entry) → (p e ≡ true → is_some (find p xs) ≡ true)
+found_more : (p : NumberedSymbol → Bool) (xs : List NumberedSymbol) (e : NumberedSymbol) → (p e ≡ true → is_some (find p xs) ≡ true)
     → find p (xs ++ e ∷ []) ≡ find p xs
 found_more p xs e h = find-append p xs (e ∷ []) ∙ chosen (find p xs) (p e) h
   where
-    chosen : (o : Option Entry) (b : Bool) → (b ≡ true → is_some o ≡ true) → option_or o (cond b (Some e) None) ≡ o
+    chosen : (o : Option NumberedSymbol) (b : Bool) → (b ≡ true → is_some o ≡ true) → option_or o (cond b (Some e) None) ≡ o
     chosen (Some x) b h = refl
     chosen None true h = absurd (true≢false (sym (h refl)))
     chosen None false h = refl
 
 -- a symbol that adds no name
-pub knows_same : {S : Type 0} (m : IndexMap (Bor (List ℕ)) Numbers S) (xs : List Entry) (e : Entry)
+pub knows_same : {S : Type 0} (m : IndexMap (Bor (List ℕ)) Numbers S) (xs : List NumberedSymbol) (e : NumberedSymbol)
     → ((name : List ℕ) → defines name e ≡ true → is_some (find (defines name) xs) ≡ true) → Knows m xs → Knows m (xs ++ e ∷ [])
 knows_same m xs e h knows name = knows name ∙ sym (ap (option_map numbers_of) (found_more (defines name) xs e (h name)))
 
-pub knows_other : {S : Type 0} (m : IndexMap (Bor (List ℕ)) Numbers S) (xs : List Entry) (e : Entry) → is_global e.symbol ≡ false
+pub knows_other : {S : Type 0} (m : IndexMap (Bor (List ℕ)) Numbers S) (xs : List NumberedSymbol) (e : NumberedSymbol)
+    → is_global e.symbol ≡ false
     → Knows m xs → Knows m (xs ++ e ∷ [])
 knows_other m xs e local knows =
     knows_same m xs e (λ name h. absurd (true≢false (sym h ∙ ap (λ (b : Bool). b && bytes_eq e.symbol.name name) local))) knows
@@ -73,12 +74,12 @@ some-map f None = refl
 some-map f (Some x) = refl
 
 -- whether the map has a name
-pub knows_has : {S : Type 0} (m : IndexMap (Bor (List ℕ)) Numbers S) (xs : List Entry) (name : List ℕ) → Knows m xs
+pub knows_has : {S : Type 0} (m : IndexMap (Bor (List ℕ)) Numbers S) (xs : List NumberedSymbol) (name : List ℕ) → Knows m xs
     → is_some (get_by (λ k. bytes_eq name k.now) m) ≡ is_some (find (defines name) xs)
 knows_has m xs name knows = ap is_some (knows name) ∙ some-map numbers_of (find (defines name) xs)
 
 -- one whose name is there
-pub knows_again : {S : Type 0} (m : IndexMap (Bor (List ℕ)) Numbers S) (xs : List Entry) (e : Entry)
+pub knows_again : {S : Type 0} (m : IndexMap (Bor (List ℕ)) Numbers S) (xs : List NumberedSymbol) (e : NumberedSymbol)
     → is_some (get_by (λ k. bytes_eq e.symbol.name k.now) m) ≡ true → Knows m xs → Knows m (xs ++ e ∷ [])
 knows_again m xs e there knows = knows_same m xs e (λ name h. has name (one_name name e h)) knows
   where
@@ -88,7 +89,8 @@ knows_again m xs e there knows = knows_same m xs e (λ name h. has name (one_nam
         subst P same (sym (knows_has m xs e.symbol.name knows) ∙ there)
 
 -- one whose name is new
-pub knows_new : {S : Type 0} (m n : IndexMap (Bor (List ℕ)) Numbers S) (xs : List Entry) (e : Entry) → is_global e.symbol ≡ true
+pub knows_new : {S : Type 0} (m n : IndexMap (Bor (List ℕ)) Numbers S) (xs : List NumberedSymbol) (e : NumberedSymbol)
+    → is_global e.symbol ≡ true
     → is_some (get_by (λ k. bytes_eq e.symbol.name k.now) m) ≡ false
     → ((name : List ℕ) → get_by (λ k. bytes_eq name k.now) n
     ≡ cond (bytes_eq e.symbol.name name) (Some (numbers_of e)) (get_by (λ k. bytes_eq name k.now) m))
@@ -102,7 +104,7 @@ knows_new m n xs e global new updates knows name = updates name ∙ by_test (byt
     here : (b : Bool) → bytes_eq e.symbol.name name ≡ b → defines name e ≡ b
     here b is = ap (λ (g : Bool). g && bytes_eq e.symbol.name name) global ∙ is
 
-    none : (o : Option Entry) → is_some o ≡ false → option_or o (Some e) ≡ Some e
+    none : (o : Option NumberedSymbol) → is_some o ≡ false → option_or o (Some e) ≡ Some e
     none None h = refl
     none (Some x) h = absurd (true≢false h)
 
@@ -121,9 +123,10 @@ knows_new m n xs e global new updates knows name = updates name ∙ by_test (byt
         (found_more (defines name) xs e (λ h. absurd (true≢false (sym h ∙ here false is)))))
 
 -- the symbols so far, with those of the turn behind them
-pub knows_behind : {S : Type 0} (m : IndexMap (Bor (List ℕ)) Numbers S) (seen xs ys : List Entry) (e : Entry) → ys ≡ xs ++ e ∷ []
+pub knows_behind : {S : Type 0} (m : IndexMap (Bor (List ℕ)) Numbers S) (seen xs ys : List NumberedSymbol) (e : NumberedSymbol)
+    → ys ≡ xs ++ e ∷ []
     → Knows m ((seen ++ xs) ++ e ∷ []) → Knows m (seen ++ ys)
-knows_behind m seen xs ys e is h = subst (Knows m) (append_assoc seen xs (e ∷ []) ∙ ap (λ (l : List Entry). seen ++ l) (sym is)) h
+knows_behind m seen xs ys e is h = subst (Knows m) (append_assoc seen xs (e ∷ []) ∙ ap (λ (l : List NumberedSymbol). seen ++ l) (sym is)) h
 
 -- ---- a symbol whose name is there
 
@@ -142,7 +145,8 @@ any_found p (x ∷ xs) = by_test (p x) (any_found p xs)
     by_test false h = h
 
 -- whether it is one
-pub known_is : {S : Type 0} (m : IndexMap (Bor (List ℕ)) Numbers S) (seen : List Entry) (s : Symbol) (name : List ℕ) (global there : Bool)
+pub known_is : {S : Type 0} (m : IndexMap (Bor (List ℕ)) Numbers S) (seen : List NumberedSymbol) (s : Symbol) (name : List ℕ)
+    (global there : Bool)
     → Knows m seen → name ≡ s.name → global ≡ is_global s → there ≡ is_some (get_by (λ k. bytes_eq name k.now) m)
     → (global && there) ≡ is_known seen s
 known_is m seen s name global there knows is g t =
@@ -165,7 +169,7 @@ first_later p ss i s h is not =
 -- ---- a symbol whose name is not there
 
 -- whether it is one
-pub unknown_is : {S : Type 0} (m : IndexMap (Bor (List ℕ)) Numbers S) (seen : List Entry) (s : Symbol) (name : List ℕ)
+pub unknown_is : {S : Type 0} (m : IndexMap (Bor (List ℕ)) Numbers S) (seen : List NumberedSymbol) (s : Symbol) (name : List ℕ)
     (defined there : Bool)
     → Knows m seen → name ≡ s.name → defined ≡ is_defined s.home → there ≡ is_some (get_by (λ k. bytes_eq name k.now) m)
     → (not defined && not there) ≡ is_unknown seen s

@@ -21,13 +21,13 @@ use Rattle.elf_obj.specs.Laws.Ends.{contents_grow, valid_end}
 use Rattle.elf_image.specs.declared.parts.RelativeReloc.{RelativeReloc}
 use Rattle.linker.specs.declared.names.Numbers.{Numbers}
 use Rattle.linker.specs.declared.bases.Bases.{Bases}
-use Rattle.linker.specs.Names.{Entry, is_same, target}
+use Rattle.linker.specs.Names.{NumberedSymbol, is_same, target}
 use Rattle.linker.specs.Sections.{each_from}
 use Rattle.linker.specs.Got.{used_by, uses_from, firsts, got}
-use Rattle.linker.specs.Addresses.{entry_address}
+use Rattle.linker.specs.Addresses.{symbol_address}
 use Rattle.linker.specs.Relocations.{relative, got_reloc, data_reloc, data_relocs_from}
 use Rattle.linker.specs.Known.{numbers_of, number_address}
-use Rattle.linker.specs.Ready.{blank_entry}
+use Rattle.linker.specs.Ready.{blank_symbol}
 use Rattle.linker.proofs.Listed.{IsListed, target_listed, listed_address}
 
 -- ---- facts on all elements
@@ -51,7 +51,8 @@ all_at P (x ∷ xs) (suc i) d h lt = all_at P xs i d h.1 (omega arith)
 
 -- ---- the symbols of the table are listed
 
-used_listed : (os : List Object) (k : ℕ) (o : Object) (r : Reloc) (e : Entry) → slice_get os k ≡ Some o → used_by os k o.symbols r ≡ Some e
+used_listed : (os : List Object) (k : ℕ) (o : Object) (r : Reloc) (e : NumberedSymbol) → slice_get os k ≡ Some o
+    → used_by os k o.symbols r ≡ Some e
     → IsListed os e
 used_listed os k o r e there h = by_test (is_got_kind r.kind) h
   where
@@ -64,7 +65,8 @@ relocs_listed : (os : List Object) (k : ℕ) (o : Object) (rs : List Reloc) → 
 relocs_listed os k o [] there = tt
 relocs_listed os k o (r ∷ rs) there = by_case (used_by os k o.symbols r) refl (relocs_listed os k o rs there)
   where
-    by_case : (x : Option Entry) → used_by os k o.symbols r ≡ x → AllByRecursion (IsListed os) (filter_map (used_by os k o.symbols) rs)
+    by_case : (x : Option NumberedSymbol) → used_by os k o.symbols r ≡ x
+        → AllByRecursion (IsListed os) (filter_map (used_by os k o.symbols) rs)
         → AllByRecursion (IsListed os) (cons_option x (filter_map (used_by os k o.symbols) rs))
     by_case None is rest = rest
     by_case (Some e) is rest = (used_listed os k o r e there is, rest)
@@ -79,7 +81,7 @@ uses_listed objects k (o ∷ os) h =
     (relocs_listed objects k o o.text_relocs here)
     (uses_listed objects (k + 1) os (λ i x is. ap (slice_get objects) (omega arith) ∙ h (suc i) x is))
 
-firsts_listed : (os : List Object) (es : List Entry) → AllByRecursion (IsListed os) es → AllByRecursion (IsListed os) (firsts es)
+firsts_listed : (os : List Object) (es : List NumberedSymbol) → AllByRecursion (IsListed os) es → AllByRecursion (IsListed os) (firsts es)
 firsts_listed os [] h = tt
 firsts_listed os (e ∷ es) h = (h.0, all_filter (IsListed os) (λ f. not (is_same e f)) (firsts es) (firsts_listed os es h.1))
 
@@ -91,19 +93,19 @@ words_listed os = firsts_listed os (uses_from os 0 os) (uses_listed os 0 os (λ 
 
 pub word_record : (os : List Object) (bases : Bases) (keys : List Numbers) (i place address : ℕ) (n : Numbers) → i < length keys
     → keys ≡ map numbers_of (got os) → slice_get keys i ≡ Some n → address ≡ wrap 64 (number_address os bases n)
-    → place ≡ bases.filled + 8 * i → relative place address ≡ got_reloc os bases i (get_or (got os) i blank_entry)
+    → place ≡ bases.filled + 8 * i → relative place address ≡ got_reloc os bases i (get_or (got os) i blank_symbol)
 word_record os bases keys i place address n lt is found at from =
-    let e : Entry = get_or (got os) i blank_entry in
+    let e : NumberedSymbol = get_or (got os) i blank_symbol in
     let within : i < length (got os) = omega (arith, ap length is, length-map (got os) numbers_of) in
     let same : numbers_of e ≡ n =
-    sym (get_or-map numbers_of (got os) i blank_entry n within) ∙ ap (λ (l : List Numbers). get_or l i n) (sym is)
+    sym (get_or-map numbers_of (got os) i blank_symbol n within) ∙ ap (λ (l : List Numbers). get_or l i n) (sym is)
     ∙ same_Some (get_or keys i n) n (sym (slice_get-get_or keys i n lt) ∙ found) in
-    let listed : number_address os bases n ≡ entry_address os bases e =
+    let listed : number_address os bases n ≡ symbol_address os bases e =
     ap (number_address os bases) (sym same)
-    ∙ listed_address os bases e (all_at (IsListed os) (got os) i blank_entry (words_listed os) within) in
-    let wrapped : wrap 64 address ≡ wrap 64 (entry_address os bases e) =
-    ap (wrap 64) (at ∙ ap (wrap 64) listed) ∙ twice (entry_address os bases e) in
-    (λ j. relative (from j) address) ∙ again (bases.filled + 8 * i) address (entry_address os bases e) wrapped
+    ∙ listed_address os bases e (all_at (IsListed os) (got os) i blank_symbol (words_listed os) within) in
+    let wrapped : wrap 64 address ≡ wrap 64 (symbol_address os bases e) =
+    ap (wrap 64) (at ∙ ap (wrap 64) listed) ∙ twice (symbol_address os bases e) in
+    (λ j. relative (from j) address) ∙ again (bases.filled + 8 * i) address (symbol_address os bases e) wrapped
   where
     twice : (m : ℕ) → wrap 64 (wrap 64 m) ≡ wrap 64 m
     twice m = omega arith

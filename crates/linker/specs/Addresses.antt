@@ -8,7 +8,7 @@ use Rattle.elf_obj.specs.Object.{Object}
 use Rattle.elf_image.specs.Image.{Image}
 use Rattle.elf_image.specs.Places.{rodata_place, code_place, filled_place, file_end}
 use Rattle.linker.specs.declared.bases.Bases.{Bases}
-use Rattle.linker.specs.Names.{Entry}
+use Rattle.linker.specs.Names.{NumberedSymbol}
 use Rattle.linker.specs.Sections.{starts, word_counts, rodata_sizes, init_sizes, zero_sizes}
 use Rattle.linker.specs.Got.{got_number, got_bytes}
 
@@ -44,16 +44,16 @@ section_address objects bases k Init = init_address objects bases k
 section_address objects bases k Zero = zero_address objects bases k
 
 -- the address of a symbol, S
-abbrev pub entry_address : List Object → Bases → Entry → ℕ
-entry_address objects bases e = section_address objects bases e.object e.symbol.home + e.symbol.value
+abbrev pub symbol_address : List Object → Bases → NumberedSymbol → ℕ
+symbol_address objects bases e = section_address objects bases e.object e.symbol.home + e.symbol.value
 
 -- the address of a symbol that is there
-abbrev pub address : List Object → Bases → Option Entry → ℕ
+abbrev pub address : List Object → Bases → Option NumberedSymbol → ℕ
 address objects bases None = 0
-address objects bases (Some e) = entry_address objects bases e
+address objects bases (Some e) = symbol_address objects bases e
 
 -- the address of its word in the table, which begins the filled data, G
-abbrev pub got_address : List Object → Bases → Option Entry → ℕ
+abbrev pub got_address : List Object → Bases → Option NumberedSymbol → ℕ
 got_address objects bases None = 0
 got_address objects bases (Some e) = bases.filled + 8 * got_number objects e
 

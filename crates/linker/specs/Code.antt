@@ -20,7 +20,8 @@ site objects bases k o r = record {
   got = got_address objects bases (target objects k o.symbols r.symbol);
 }
 
--- the word that the image has for an instruction of an object: the object's, with its field where a relocation names it
+-- The word that the image has for one of an object, by the relocation at its place: the object's where there is none, and else the object's
+-- with the field of that relocation. Of several at one place, of which valid objects have none, the first would count.
 abbrev pub word_with : List Object → Bases → ℕ → Object → Option Reloc → ℕ → ℕ
 word_with objects bases k o None word = word
 word_with objects bases k o (Some r) word = relocated (site objects bases k o r) word

@@ -8,7 +8,7 @@ use Rattle.mt_base.specs.Wrapping.{wrapping_sub}
 use Rattle.elf_base.specs.Layout.{Piece}
 use Rattle.elf_obj.specs.declared.parts.Reloc.{Reloc}
 use Rattle.elf_obj.specs.Object.{Object}
-use Rattle.linker.specs.Names.{Entry, target}
+use Rattle.linker.specs.Names.{NumberedSymbol, target}
 use Rattle.linker.specs.Sections.{laid, ends, rodata_sizes, init_sizes, zero_sizes, each_from}
 use Rattle.linker.specs.Got.{got_bytes}
 
@@ -29,19 +29,20 @@ place_content size (pos a) = if nat_lt a size then 0 else wrapping_sub 64 0 a
 place_content size (negsuc a) = a + 1
 
 -- the size of a symbol that is there
-abbrev pub size_of : Option Entry → ℕ
-size_of None = 0
-size_of (Some e) = e.symbol.size
+abbrev pub target_size : Option NumberedSymbol → ℕ
+target_size None = 0
+target_size (Some e) = e.symbol.size
 
 -- the place of 8 bytes of a relocation has this byte
 abbrev pub covers : ℕ → Reloc → Bool
 covers i r = nat_le r.offset i && nat_lt i (r.offset + 8)
 
--- the byte that the image has for a byte of an object's filled data: the object's, or that of the place that has it
+-- The byte that the image has for byte i of an object's filled data, by the relocation whose 8 bytes have it: the object's where there is none,
+-- and else the byte with its number among the 8 that this place holds in the file.
 abbrev pub byte_with : List Object → ℕ → Object → Option Reloc → ℕ → ℕ → ℕ
 byte_with objects k o None i byte = byte
 byte_with objects k o (Some r) i byte =
-    slice_index (little_bytes 8 (place_content (size_of (target objects k o.symbols r.symbol)) r.addend)) (i - r.offset)
+    slice_index (little_bytes 8 (place_content (target_size (target objects k o.symbols r.symbol)) r.addend)) (i - r.offset)
 
 -- the filled bytes of the object of a number
 abbrev pub object_bytes : List Object → ℕ → Object → List ℕ

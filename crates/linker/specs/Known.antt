@@ -16,10 +16,10 @@ use Rattle.linker.specs.declared.refusal.LinkRefusal.TheVariants.{NoMemory}
 use Rattle.linker.specs.declared.bases.Bases.{Bases}
 use Rattle.linker.specs.declared.layout.Starts.{Starts}
 use Rattle.linker.specs.declared.layout.Layout.{Layout}
-use Rattle.linker.specs.Names.{Entry, entry, is_defined, is_global, defines, main_name}
+use Rattle.linker.specs.Names.{NumberedSymbol, numbered, is_defined, is_global, defines, main_name}
 use Rattle.linker.specs.Got.{firsts, got_bytes}
 use Rattle.linker.specs.Sections.{starts, word_counts, rodata_sizes, init_sizes, zero_sizes}
-use Rattle.linker.specs.Addresses.{entry_address}
+use Rattle.linker.specs.Addresses.{symbol_address}
 use Rattle.linker.specs.LinkFault.{LinkFault}
 
 -- the objects that the parts make
@@ -32,20 +32,20 @@ Refuses objects refusal = (refusal ≡ NoMemory) ⊎ LinkFault objects refusal
 
 -- ---- names
 
--- the numbers of an entry
-abbrev pub numbers_of : Entry → Numbers
+-- its two numbers
+abbrev pub numbers_of : NumberedSymbol → Numbers
 numbers_of e = record { object = e.object; number = e.number }
 
 -- the map has the names that these symbols define for all objects, each with the first that does
-abbrev pub Knows : {S : Type 0} → IndexMap (Bor (List ℕ)) Numbers S → List Entry → Type 0
+abbrev pub Knows : {S : Type 0} → IndexMap (Bor (List ℕ)) Numbers S → List NumberedSymbol → Type 0
 Knows m seen = (name : List ℕ) → get_by (λ k. bytes_eq name k.now) m ≡ option_map numbers_of (find (defines name) seen)
 
 -- one of these symbols defines the name that this one defines, all for all objects
-abbrev pub is_known : List Entry → Symbol → Bool
+abbrev pub is_known : List NumberedSymbol → Symbol → Bool
 is_known seen s = is_global s && list_any (defines s.name) seen
 
 -- the symbol is not defined, and none of these defines its name for all objects
-abbrev pub is_unknown : List Entry → Symbol → Bool
+abbrev pub is_unknown : List NumberedSymbol → Symbol → Bool
 is_unknown seen s = not (is_defined s.home) && not (list_any (defines s.name) seen)
 
 -- the symbol is a function `main` for all objects
@@ -55,7 +55,7 @@ is_main s = s.function && (is_global s && bytes_eq s.name main_name)
 -- ---- the global offset table
 
 -- the set has the symbols that these uses name, each once and in their order
-abbrev pub HasWords : {S : Type 0} → IndexSet Numbers S → List Entry → Type 0
+abbrev pub HasWords : {S : Type 0} → IndexSet Numbers S → List NumberedSymbol → Type 0
 HasWords s uses = s.keys ≡ map numbers_of (firsts uses)
 
 -- ---- addresses
@@ -87,7 +87,7 @@ pub record AreNear (l : Layout) : Type 0 where
 abbrev pub number_address_in : List Object → Bases → Numbers → Option Object → ℕ
 number_address_in objects bases n None = 0
 number_address_in objects bases n (Some o) =
-    elim (slice_get o.symbols n.number) as (λ _. ℕ) [ None ↦ 0 | Some s ↦ entry_address objects bases (entry n.object n.number s) ]
+    elim (slice_get o.symbols n.number) as (λ _. ℕ) [ None ↦ 0 | Some s ↦ symbol_address objects bases (numbered n.object n.number s) ]
 
 unfoldable pub number_address : List Object → Bases → Numbers → ℕ
 number_address objects bases n = number_address_in objects bases n (slice_get objects n.object)

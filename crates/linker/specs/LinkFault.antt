@@ -7,7 +7,7 @@ use Rattle.elf_image.specs.Image.{Image}
 use Rattle.elf_image.specs.Places.{memory_end}
 use Rattle.linker.specs.declared.refusal.LinkRefusal.{LinkRefusal}
 use Rattle.linker.specs.declared.refusal.LinkRefusal.TheVariants.{TooManyObjects, Duplicate, NoMain, Undefined, ImageTooLarge}
-use Rattle.linker.specs.Names.{Entry, entries, is_global, is_defined, defines, main_name}
+use Rattle.linker.specs.Names.{NumberedSymbol, all_numbered, is_global, is_defined, defines, main_name}
 use Rattle.linker.specs.Tagged.{sized, IsFewest}
 
 -- ---- names
@@ -17,24 +17,24 @@ abbrev pub object_limit : ℕ
 object_limit = 16
 
 -- among these symbols, one of an earlier object defines the name that this one defines, both for all objects
-abbrev pub is_repeated : List Entry → Entry → Bool
+abbrev pub is_repeated : List NumberedSymbol → NumberedSymbol → Bool
 is_repeated all e = is_global e.symbol && list_any (λ d. nat_lt d.object e.object && defines e.symbol.name d) all
 
 -- the first symbol, in the order of objects and symbols, whose name an earlier object has defined
-abbrev pub first_repeated : List Object → Option Entry
-first_repeated objects = find (is_repeated (entries objects)) (entries objects)
+abbrev pub first_repeated : List Object → Option NumberedSymbol
+first_repeated objects = find (is_repeated (all_numbered objects)) (all_numbered objects)
 
 -- an object defines a function `main` for all objects
 abbrev pub has_main : List Object → Bool
-has_main objects = list_any (λ e. e.symbol.function && defines main_name e) (entries objects)
+has_main objects = list_any (λ e. e.symbol.function && defines main_name e) (all_numbered objects)
 
 -- among these symbols, this one is not defined, and none defines its name for all objects
-abbrev pub is_missing : List Entry → Entry → Bool
+abbrev pub is_missing : List NumberedSymbol → NumberedSymbol → Bool
 is_missing all e = not (is_defined e.symbol.home) && not (list_any (defines e.symbol.name) all)
 
 -- the first symbol, in the order of objects and symbols, that no object defines
-abbrev pub first_missing : List Object → Option Entry
-first_missing objects = find (is_missing (entries objects)) (entries objects)
+abbrev pub first_missing : List Object → Option NumberedSymbol
+first_missing objects = find (is_missing (all_numbered objects)) (all_numbered objects)
 
 -- ---- sizes
 
@@ -69,9 +69,10 @@ pub record AreBound (objects : List Object) : Type 0 where
 -- bytes that agree with themselves
 pub data LinkFault (objects : List Object) : LinkRefusal → Type 0 where
   too_many : object_limit < length objects → LinkFault objects (TooManyObjects (length objects))
-  repeated : (e : Entry) → length objects ≤ object_limit → first_repeated objects ≡ Some e → LinkFault objects (Duplicate e.symbol.name)
+  repeated : (e : NumberedSymbol) → length objects ≤ object_limit → first_repeated objects ≡ Some e
+      → LinkFault objects (Duplicate e.symbol.name)
   no_main : length objects ≤ object_limit → first_repeated objects ≡ None → has_main objects ≡ false → LinkFault objects NoMain
-  missing : (e : Entry) → length objects ≤ object_limit → first_repeated objects ≡ None → has_main objects ≡ true
+  missing : (e : NumberedSymbol) → length objects ≤ object_limit → first_repeated objects ≡ None → has_main objects ≡ true
       → first_missing objects ≡ Some e → LinkFault objects (Undefined e.symbol.name)
   too_large : (count bytes : ℕ) → AreBound objects → IsFewest objects count → excess (sized objects count) ≡ Some bytes
       → LinkFault objects (ImageTooLarge bytes)

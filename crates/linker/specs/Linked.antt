@@ -11,7 +11,7 @@ use Rattle.linker.specs.Addresses.{bases_of}
 use Rattle.linker.specs.Code.{code_pieces, code_words}
 use Rattle.linker.specs.Data.{rodata_pieces, rodata_size, filled_pieces, filled_size, zero_size}
 use Rattle.linker.specs.Relocations.{relocations}
-use Rattle.linker.specs.Tagged.{AreTagged, Agrees}
+use Rattle.linker.specs.Tagged.{AreTagged, AgreesWithItself}
 use Rattle.linker.specs.LinkFault.{LinkFault}
 
 -- the descriptors of an image: they describe the tagged objects where this image has them, and no fewer bytes agree with themselves
@@ -19,7 +19,7 @@ pub record HasDescriptors (objects : List Object) (image : Image) : Type 0 where
   pub intervals : List Interval
   pub tagged : AreTagged objects (bases_of image) intervals
   pub described : Describes intervals image.descriptors
-  pub fewest : (count : ℕ) → Agrees objects count → length image.descriptors ≤ count
+  pub fewest : (count : ℕ) → AgreesWithItself objects count → length image.descriptors ≤ count
 
 -- The image is that of the objects, which are refused by no condition. It starts with the first word of its code. Each section has its
 -- place, and what lies there is the object's, but for the fields of relocations. Between the sections are zeros.

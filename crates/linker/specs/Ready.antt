@@ -7,16 +7,16 @@ use Rattle.elf_obj.specs.declared.parts.Home.TheVariants.{Undef}
 use Rattle.elf_obj.specs.Object.{Object}
 use Rattle.linker.specs.declared.bases.Bases.{Bases}
 use Rattle.linker.specs.declared.relocate.Link.{Link}
-use Rattle.linker.specs.Names.{Entry, entry, entries, target}
+use Rattle.linker.specs.Names.{NumberedSymbol, numbered, all_numbered, target}
 use Rattle.linker.specs.Got.{got}
 use Rattle.linker.specs.Fields.{relocated}
 use Rattle.linker.specs.Code.{site}
-use Rattle.linker.specs.Data.{place_content, size_of}
+use Rattle.linker.specs.Data.{place_content, target_size}
 use Rattle.linker.specs.Known.{objects_of, numbers_of, Knows, AreStarts, AreNear}
 
 -- the names of the objects, the words of their table, and where their sections lie, near the start of the image
 pub record IsReady (l : Link) : Type 0 where
-  pub names : Knows l.names (entries (objects_of l.objects.now))
+  pub names : Knows l.names (all_numbered (objects_of l.objects.now))
   pub words : l.table.keys ≡ map numbers_of (got (objects_of l.objects.now))
   pub few : length l.table.keys < 2 ^ 50
   pub starts : AreStarts (objects_of l.objects.now) l.layout.starts
@@ -29,12 +29,12 @@ pub record Relocates (objects : List Object) (bases : Bases) (k : ℕ) (o : Obje
   pub nowhere : ((i : ℕ) → i < length words → r.offset ≡ 4 * i → ⊥) → after ≡ before
 
 -- what a symbol past the end reads as
-abbrev pub blank_entry : Entry
-blank_entry = entry 0 0 (record { name = []; home = Undef; value = 0; size = 0; local = false; function = false })
+abbrev pub blank_symbol : NumberedSymbol
+blank_symbol = numbered 0 0 (record { name = []; home = Undef; value = 0; size = 0; local = false; function = false })
 
 -- what the place of a relocation of the object of a number holds in the file
 abbrev pub content_of : List Object → ℕ → Object → Reloc → ℕ
-content_of objects k o r = place_content (size_of (target objects k o.symbols r.symbol)) r.addend
+content_of objects k o r = place_content (target_size (target objects k o.symbols r.symbol)) r.addend
 
 -- a byte of a list by its place, where the first so many bytes of a number of eight stand from a place on
 abbrev pub with_bytes : ℕ → ℕ → ℕ → ℕ → ℕ → ℕ

@@ -6,18 +6,18 @@ use Rattle.elf_obj.specs.declared.parts.Reloc.{Reloc}
 use Rattle.elf_obj.specs.Object.{Object}
 use Rattle.elf_image.specs.declared.parts.RelativeReloc.{RelativeReloc}
 use Rattle.linker.specs.declared.bases.Bases.{Bases}
-use Rattle.linker.specs.Names.{Entry, target}
+use Rattle.linker.specs.Names.{NumberedSymbol, target}
 use Rattle.linker.specs.Sections.{each_from}
 use Rattle.linker.specs.Got.{got}
-use Rattle.linker.specs.Addresses.{entry_address, init_address, address, plus}
+use Rattle.linker.specs.Addresses.{symbol_address, init_address, address, plus}
 
 -- a place and the address that is put there, as a signed number of 64 bits
 abbrev pub relative : ℕ → ℕ → RelativeReloc
 relative place at = record { place = place; addend = cast_signed w64 (wrap 64 at) }
 
 -- the i-th word of the table holds the address of its symbol
-abbrev pub got_reloc : List Object → Bases → ℕ → Entry → RelativeReloc
-got_reloc objects bases i e = relative (bases.filled + 8 * i) (entry_address objects bases e)
+abbrev pub got_reloc : List Object → Bases → ℕ → NumberedSymbol → RelativeReloc
+got_reloc objects bases i e = relative (bases.filled + 8 * i) (symbol_address objects bases e)
 
 -- a place of the filled data of the object of a number
 abbrev pub data_reloc : List Object → Bases → ℕ → Object → Reloc → RelativeReloc

@@ -10,8 +10,8 @@ use Rattle.memtag_desc.specs.declared.interval.Interval.{Interval}
 use Rattle.memtag_desc.specs.Numbers.{IsShortest}
 use Rattle.memtag_desc.specs.Descriptors.{interval_at, end_of}
 use Rattle.linker.specs.declared.bases.Bases.{Bases}
-use Rattle.linker.specs.Names.{entry}
-use Rattle.linker.specs.Addresses.{bases_of, entry_address}
+use Rattle.linker.specs.Names.{numbered}
+use Rattle.linker.specs.Addresses.{bases_of, symbol_address}
 use Rattle.linker.specs.Code.{code_words}
 use Rattle.linker.specs.Data.{rodata_size, filled_size, zero_size}
 use Rattle.linker.specs.Relocations.{relative, relocation_count}
@@ -20,7 +20,7 @@ use Rattle.linker.specs.Relocations.{relative, relocation_count}
 
 -- the bytes of a symbol of the object of a number
 abbrev pub interval_of : List Object → Bases → ℕ → ℕ → Symbol → Interval
-interval_of objects bases k number s = record { start = entry_address objects bases (entry k number s); bytes = s.size }
+interval_of objects bases k number s = record { start = symbol_address objects bases (numbered k number s); bytes = s.size }
 
 -- those of the tagged symbols of objects that are counted from a number, in the order of the objects and of the symbols
 abbrev pub tagged_from : List Object → Bases → ℕ → List Object → List Interval
@@ -43,7 +43,8 @@ pub data SpellsOne : ℕ → ℕ → List ℕ → Type 0 where
   large : (distance size : ℕ) (first second : List ℕ) → 8 ≤ size → IsShortest (8 * distance) first → IsShortest (size - 1) second
       → SpellsOne distance size (first ++ second)
 
--- the bytes describe the intervals behind an address, as `DescribesFrom` has it, but that no interval ends too far
+-- The bytes describe the intervals behind an address, as `DescribesFrom` has it, but each may end beyond 2^48. `next`: the first interval, so
+-- many granules behind the address and so long, has its descriptor, and the rest is described from its end on.
 pub data SpellsFrom : ℕ → List Interval → List ℕ → Type 0 where
   nothing : (from : ℕ) → SpellsFrom from [] []
   next : (from distance size : ℕ) (intervals : List Interval) (first rest : List ℕ) → SpellsOne distance size first
@@ -64,9 +65,9 @@ sized objects count = record {
   zero_bytes = zero_size objects;
 }
 
--- So many bytes agree with themselves: the descriptors stand before the tagged objects, so their length decides the addresses, and those
--- that describe the objects at the addresses to which this length leads have this length.
-pub record Agrees (objects : List Object) (count : ℕ) : Type 0 where
+-- So many bytes of descriptors agree with themselves: the descriptors stand before the tagged objects, so their length decides the addresses,
+-- and those that describe the objects at the addresses to which this length leads have this length.
+pub record AgreesWithItself (objects : List Object) (count : ℕ) : Type 0 where
   pub intervals : List Interval
   pub bytes : List ℕ
   pub tagged : AreTagged objects (bases_of (sized objects count)) intervals
@@ -75,5 +76,5 @@ pub record Agrees (objects : List Object) (count : ℕ) : Type 0 where
 
 -- the fewest bytes that agree with themselves
 pub record IsFewest (objects : List Object) (count : ℕ) : Type 0 where
-  pub agrees : Agrees objects count
-  pub least : (other : ℕ) → Agrees objects other → count ≤ other
+  pub agrees : AgreesWithItself objects count
+  pub least : (other : ℕ) → AgreesWithItself objects other → count ≤ other

@@ -35,7 +35,7 @@ pub record AreSmall (t : Totals) : Type 0 where
   pub filled : t.filled < 2 ^ 100
   pub zeros : t.zeros < 2 ^ 100
 
--- how many dynamic entries an image with so many descriptor bytes has
+-- how many dynamic all_numbered an image with so many descriptor bytes has
 abbrev pub entry_count : ℕ → ℕ
 entry_count zero = 11
 entry_count (suc n) = 13

@@ -4,7 +4,7 @@ ghost use Rattle.elf_obj.specs.Object.{Object};
 ghost use Rattle.linker.specs.declared.refusal.LinkRefusal.TheVariants.{NoMemory};
 ghost use Rattle.linker.specs.Names.{target};
 ghost use Rattle.linker.specs.Sections.{each_from};
-ghost use Rattle.linker.specs.Data.{place_content, size_of, object_bytes, filled_pieces, filled_size};
+ghost use Rattle.linker.specs.Data.{place_content, target_size, object_bytes, filled_pieces, filled_size};
 ghost use Rattle.linker.specs.Known.{objects_of, number_size};
 ghost use Rattle.linker.specs.Ready.{IsReady, content_of, with_bytes};
 

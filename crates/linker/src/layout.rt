@@ -1,7 +1,7 @@
 ghost use Rattle.std.specs.Prelude.{◌≡◌, ◌<◌, ◌≤◌, ◌^◌, List, length, map, slice_index};
 ghost use Rattle.mt_base.specs.Wrapping.{wrap};
 ghost use Rattle.elf_obj.specs.Object.{Object};
-ghost use Rattle.linker.specs.Names.{Entry};
+ghost use Rattle.linker.specs.Names.{NumberedSymbol};
 ghost use Rattle.linker.specs.Sections.{starts, init_sizes};
 ghost use Rattle.linker.specs.Got.{got, got_number, got_bytes};
 ghost use Rattle.linker.specs.Addresses.{section_address};
@@ -85,7 +85,7 @@ pub(crate) fn symbol_address(layout: &Layout, objects: &[ObjectParts], numbers: 
 
 /// The number of a symbol's word in the global offset table.
 pub(crate) fn word_number(table: &Table, numbers: Numbers) -> usize
-    ensures number { (objects : List Object) (e : Entry) → table.now.keys ≡ map numbers_of (got objects) → numbers_of e ≡ numbers
+    ensures number { (objects : List Object) (e : NumberedSymbol) → table.now.keys ≡ map numbers_of (got objects) → numbers_of e ≡ numbers
         → result ≡ got_number objects e }
     ensures small { result ≤ length table.now.keys }
 {

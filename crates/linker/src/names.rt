@@ -2,7 +2,7 @@ ghost use Rattle.std.specs.Prelude.{◌≡◌, ◌≤◌, List, ◌++◌, length
 ghost use Rattle.std.specs.List.{list_any};
 ghost use Rattle.std.specs.Option.{option_copied, option_map};
 ghost use Rattle.linker.specs.declared.refusal.LinkRefusal.TheVariants.{NoMemory};
-ghost use Rattle.linker.specs.Names.{Entry, numbered_from, entries, is_defined, is_global};
+ghost use Rattle.linker.specs.Names.{NumberedSymbol, numbered_from, all_numbered, is_defined, is_global};
 ghost use Rattle.linker.specs.LinkFault.{AreBound, first_repeated, has_main, first_missing};
 ghost use Rattle.linker.specs.Known.{objects_of, Refuses, Knows, is_known, is_unknown, is_main};
 
@@ -41,7 +41,7 @@ fn is_global(symbol: &Symbol) -> bool
 
 // The first of the symbols that defines for all objects a name that is there already.
 fn first_known<'a>(names: &Names<'a>, symbols: &'a [Symbol]) -> Option<&'a Symbol>
-    ensures { (seen : List Entry) → Knows names.now seen → option_copied result ≡ find (is_known seen) symbols.now }
+    ensures { (seen : List NumberedSymbol) → Knows names.now seen → option_copied result ≡ find (is_known seen) symbols.now }
 {
     for symbol in symbols {
         if is_global(symbol) && names.contains_key(&symbol.name.as_slice()) {
@@ -57,7 +57,7 @@ fn add_names<'a>(
     object: usize,
     symbols: &'a [Symbol],
 ) -> Result<(), LinkRefusal>
-    ensures known { OnOk result ((seen : List Entry) → Knows names.old seen
+    ensures known { OnOk result ((seen : List NumberedSymbol) → Knows names.old seen
         → Knows names.new (seen ++ numbered_from object 0 symbols.now)) }
     ensures memory { IfErr result (λ r. r ≡ NoMemory) }
 {
@@ -81,7 +81,7 @@ fn name_of(alloc: Global, symbol: &Symbol) -> Result<Name, LinkRefusal>
 // The names that the objects define for all objects. It is Duplicate where an earlier object has defined one.
 fn names_of<'a>(alloc: Global, objects: &'a [ObjectParts]) -> Result<Names<'a>, LinkRefusal>
     requires few { length objects.now ≤ 16 }
-    ensures known { IfOk result (λ m. Knows m (entries (objects_of objects.now))) }
+    ensures known { IfOk result (λ m. Knows m (all_numbered (objects_of objects.now))) }
     ensures once { IfOk result (λ _. first_repeated (objects_of objects.now) ≡ None) }
     ensures refused { IfErr result (Refuses (objects_of objects.now)) }
 {
@@ -130,7 +130,7 @@ fn main_is_there(objects: &[ObjectParts]) -> bool
 
 // The first of the symbols that is not defined and whose name is not there.
 fn first_unknown<'a>(names: &Names<'a>, symbols: &'a [Symbol]) -> Option<&'a Symbol>
-    ensures { (seen : List Entry) → Knows names.now seen → option_copied result ≡ find (is_unknown seen) symbols.now }
+    ensures { (seen : List NumberedSymbol) → Knows names.now seen → option_copied result ≡ find (is_unknown seen) symbols.now }
 {
     for symbol in symbols {
         if !is_defined(symbol.home) && !names.contains_key(&symbol.name.as_slice()) {
@@ -142,7 +142,7 @@ fn first_unknown<'a>(names: &Names<'a>, symbols: &'a [Symbol]) -> Option<&'a Sym
 
 // The first symbol that no object defines.
 fn first_missing<'a>(names: &Names<'a>, objects: &'a [ObjectParts]) -> Option<&'a Symbol>
-    requires { Knows names.now (entries (objects_of objects.now)) }
+    requires { Knows names.now (all_numbered (objects_of objects.now)) }
     ensures { option_copied result ≡ option_map (λ e. e.symbol) (first_missing (objects_of objects.now)) }
 {
     for object in objects {
@@ -158,7 +158,7 @@ pub(crate) fn bound_names<'a>(
     alloc: Global,
     objects: &'a [ObjectParts],
 ) -> Result<Names<'a>, LinkRefusal>
-    ensures known { IfOk result (λ m. Knows m (entries (objects_of objects.now))) }
+    ensures known { IfOk result (λ m. Knows m (all_numbered (objects_of objects.now))) }
     ensures bound { IfOk result (λ _. AreBound (objects_of objects.now)) }
     ensures refused { IfErr result (Refuses (objects_of objects.now)) }
 {

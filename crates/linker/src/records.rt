@@ -7,7 +7,7 @@ ghost use Rattle.linker.specs.Sections.{each_from};
 ghost use Rattle.linker.specs.Got.{got};
 ghost use Rattle.linker.specs.Relocations.{relative, got_reloc, data_reloc, relocations};
 ghost use Rattle.linker.specs.Known.{objects_of};
-ghost use Rattle.linker.specs.Ready.{IsReady, blank_entry};
+ghost use Rattle.linker.specs.Ready.{IsReady, blank_symbol};
 
 use crate::layout::symbol_address;
 use crate::refusal::LinkRefusal;
@@ -32,7 +32,7 @@ impl<'a> Link<'a> {
         requires ready { IsReady self.now }
         requires within { index < length self.now.table.keys }
         ensures { result ≡ got_reloc (objects_of self.now.objects.now) self.now.layout.bases index
-            (slice_index_or (got (objects_of self.now.objects.now)) index blank_entry) }
+            (slice_index_or (got (objects_of self.now.objects.now)) index blank_symbol) }
     {
         let place = self.layout.bases.filled + 8 * index as u64;
         match self.table.get_index(index) {

@@ -3,7 +3,7 @@ ghost use Rattle.std.specs.Option.{option_map};
 ghost use Rattle.elf_obj.specs.Object.{Object};
 ghost use Rattle.elf_obj.specs.Rules.{is_got_kind};
 ghost use Rattle.linker.specs.declared.refusal.LinkRefusal.TheVariants.{NoMemory};
-ghost use Rattle.linker.specs.Names.{Entry, entries, target};
+ghost use Rattle.linker.specs.Names.{NumberedSymbol, all_numbered, target};
 ghost use Rattle.linker.specs.Got.{used_by, got};
 ghost use Rattle.linker.specs.Known.{objects_of, numbers_of, Knows, HasWords};
 
@@ -23,7 +23,7 @@ pub(crate) fn target<'a>(
     symbols: &'a [Symbol],
     number: u32,
 ) -> Option<Numbers>
-    ensures { (objects : List Object) → Knows names.now (entries objects)
+    ensures { (objects : List Object) → Knows names.now (all_numbered objects)
         → result ≡ option_map numbers_of (target objects object symbols.now number) }
 {
     match symbols.get(number as usize) {
@@ -57,7 +57,7 @@ fn used_by<'a>(
     symbols: &'a [Symbol],
     reloc: &Reloc,
 ) -> Option<Numbers>
-    ensures { (objects : List Object) → Knows names.now (entries objects)
+    ensures { (objects : List Object) → Knows names.now (all_numbered objects)
         → result ≡ option_map numbers_of (used_by objects object symbols.now reloc.now) }
 {
     if is_got_kind(reloc.kind) {
@@ -75,7 +75,8 @@ fn add_uses<'a>(
     symbols: &'a [Symbol],
     relocs: &[Reloc],
 ) -> Result<(), LinkRefusal>
-    ensures uses { OnOk result ((objects : List Object) (uses : List Entry) → Knows names.now (entries objects) → HasWords table.old uses
+    ensures uses { OnOk result ((objects : List Object) (uses : List NumberedSymbol) → Knows names.now (all_numbered objects)
+        → HasWords table.old uses
         → HasWords table.new (uses ++ filter_map (used_by objects object symbols.now) relocs.now)) }
     ensures memory { IfErr result (λ r. r ≡ NoMemory) }
 {
@@ -93,7 +94,7 @@ pub(crate) fn table_of<'a>(
     names: &Names<'a>,
     objects: &'a [ObjectParts],
 ) -> Result<Table, LinkRefusal>
-    requires { Knows names.now (entries (objects_of objects.now)) }
+    requires { Knows names.now (all_numbered (objects_of objects.now)) }
     ensures words { IfOk result (λ t. t.keys ≡ map numbers_of (got (objects_of objects.now))) }
     ensures memory { IfErr result (λ r. r ≡ NoMemory) }
 {

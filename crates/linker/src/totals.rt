@@ -72,7 +72,7 @@ pub(crate) fn totals_of(objects: &[ObjectParts], lengths: &Lengths, words: usize
     }
 }
 
-// How many dynamic entries an image with so many descriptor bytes has.
+// How many dynamic all_numbered an image with so many descriptor bytes has.
 fn entry_count(count: u128) -> u128
     ensures { result ≡ entry_count count }
 {

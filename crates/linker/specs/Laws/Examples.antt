@@ -9,7 +9,7 @@ use Rattle.elf_obj.specs.Object.{Object}
 use Rattle.elf_base.specs.Layout.{piece}
 use Rattle.elf_image.specs.Places as places
 use Rattle.linker.specs.declared.bases.Bases.{Bases}
-use Rattle.linker.specs.Names.{entry, definition, main_name}
+use Rattle.linker.specs.Names.{numbered, definition, main_name}
 use Rattle.linker.specs.Sections.{starts, word_counts}
 use Rattle.linker.specs.Got.{got}
 use Rattle.linker.specs.Addresses.{bases_of}
@@ -71,10 +71,10 @@ both = first ∷ second ∷ []
 
 -- ---- names
 
-the_main : definition both main_name ≡ Some (entry 0 0 main_symbol)
+the_main : definition both main_name ≡ Some (numbered 0 0 main_symbol)
 the_main = refl
 
-the_shared : definition both (codes "shared") ≡ Some (entry 1 2 shared_symbol)
+the_shared : definition both (codes "shared") ≡ Some (numbered 1 2 shared_symbol)
 the_shared = refl
 
 none_repeated : first_repeated both ≡ None
@@ -87,19 +87,19 @@ all_there : first_missing both ≡ None
 all_there = refl
 
 -- of two such objects the second defines the names again, and alone it has no `main`, since its own is local
-again : first_repeated (first ∷ second ∷ second ∷ []) ≡ Some (entry 2 1 twice_symbol)
+again : first_repeated (first ∷ second ∷ second ∷ []) ≡ Some (numbered 2 1 twice_symbol)
 again = refl
 
 no_main : has_main (second ∷ []) ≡ false
 no_main = refl
 
-missing : first_missing (first ∷ []) ≡ Some (entry 0 1 (undefined (codes "shared")))
+missing : first_missing (first ∷ []) ≡ Some (numbered 0 1 (undefined (codes "shared")))
 missing = refl
 
 -- ---- places
 
 -- the table has one word, for `shared`
-the_table : got both ≡ entry 1 2 shared_symbol ∷ []
+the_table : got both ≡ numbered 1 2 shared_symbol ∷ []
 unfolding got
 the_table = refl
 

@@ -16,7 +16,7 @@ use Rattle.linker.specs.declared.spans.Span.{Span}
 use Rattle.linker.specs.declared.totals.Totals.{Totals}
 use Rattle.linker.specs.Addresses.{bases_of}
 use Rattle.linker.specs.Data.{filled_size, zero_size}
-use Rattle.linker.specs.Tagged.{tagged_from, AreTagged, SpellsFrom, sized, Agrees}
+use Rattle.linker.specs.Tagged.{tagged_from, AreTagged, SpellsFrom, sized, AgreesWithItself}
 use Rattle.linker.specs.Totals.{entry_count, totals_of, rodata_by, code_by, filled_by}
 use Rattle.linker.specs.Spans.{at_place, AreSpans, HasLength}
 use Rattle.linker.specs.Laws.Places.{filled_is}
@@ -31,11 +31,11 @@ round16_grows a b le = omega arith
 round_page_grows : (a b : ℕ) → a ≤ b → round_page a ≤ round_page b
 round_page_grows a b le = omega arith
 
-entries_grow : (a b : ℕ) → a ≤ b → entry_count a ≤ entry_count b
-entries_grow zero zero le = omega arith
-entries_grow zero (suc b) le = omega arith
-entries_grow (suc a) zero le = absurd (omega arith)
-entries_grow (suc a) (suc b) le = omega arith
+all_numbered_grow : (a b : ℕ) → a ≤ b → entry_count a ≤ entry_count b
+all_numbered_grow zero zero le = omega arith
+all_numbered_grow zero (suc b) le = omega arith
+all_numbered_grow (suc a) zero le = absurd (omega arith)
+all_numbered_grow (suc a) (suc b) le = omega arith
 
 rodata_grows : (t : Totals) (a b : ℕ) → a ≤ b → rodata_by t a ≤ rodata_by t b
 unfolding rodata_by
@@ -52,7 +52,7 @@ unfolding filled_by
 filled_grows t a b le =
     let c = code_grows t a b le in
     let p = round_page_grows (code_by t a + 4 * t.words) (code_by t b + 4 * t.words) (omega arith) in
-    let e = entries_grow a b le in
+    let e = all_numbered_grow a b le in
     let before : ℕ = round_page (code_by t a + 4 * t.words) + 16 * entry_count a in
     let after : ℕ = round_page (code_by t b + 4 * t.words) + 16 * entry_count b in
     round16_grows before after (omega arith)
@@ -100,7 +100,8 @@ spans_tagged objects spans bases follow h = record {
 abbrev pub SpellsAfter : List Object → List Span → ℕ → ℕ → Type 0
 SpellsAfter objects spans n m = HasLength (SpellsFrom 0 (map (at_place (filled_by (totals_of objects) n)) spans)) m
 
-pub agrees : (objects : List Object) (spans : List Span) (n : ℕ) → AreSpans objects spans → SpellsAfter objects spans n n → Agrees objects n
+pub agrees : (objects : List Object) (spans : List Span) (n : ℕ) → AreSpans objects spans → SpellsAfter objects spans n n
+    → AgreesWithItself objects n
 agrees objects spans n h spelled =
     let bases : Bases = bases_of (sized objects n) in
     let place : filled_by (totals_of objects) n ≡ bases.filled = sym (filled_is objects n) in
@@ -112,7 +113,8 @@ agrees objects spans n h spelled =
       len = spelled.len;
     }
 
-pub agreed : (objects : List Object) (spans : List Span) (n : ℕ) → AreSpans objects spans → Agrees objects n → SpellsAfter objects spans n n
+pub agreed : (objects : List Object) (spans : List Span) (n : ℕ) → AreSpans objects spans → AgreesWithItself objects n
+    → SpellsAfter objects spans n n
 agreed objects spans n h g =
     let bases : Bases = bases_of (sized objects n) in
     let follow = zeros_follow objects n in

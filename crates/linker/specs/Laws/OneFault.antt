@@ -4,7 +4,7 @@ use Rattle.std.proofs.lemmas.Option.{same_Some}
 use Rattle.elf_obj.specs.Object.{Object}
 use Rattle.linker.specs.declared.refusal.LinkRefusal.{LinkRefusal}
 use Rattle.linker.specs.declared.refusal.LinkRefusal.TheVariants.{Duplicate, Undefined, ImageTooLarge}
-use Rattle.linker.specs.Names.{Entry}
+use Rattle.linker.specs.Names.{NumberedSymbol}
 use Rattle.linker.specs.Tagged.{sized, IsFewest}
 use Rattle.linker.specs.LinkFault.{LinkFault, too_many, repeated, no_main, missing, too_large, excess}
 
@@ -20,7 +20,7 @@ one_fault objects a b (too_many h) (missing e g i j k) = absurd (omega arith)
 one_fault objects a b (too_many h) (too_large n m g i j) = let few = g.few in absurd (omega arith)
 one_fault objects a b (repeated e h i) (too_many g) = absurd (omega arith)
 one_fault objects a b (repeated e h i) (repeated f g j) =
-    ap (λ (x : Entry). Duplicate x.symbol.name) (same_Some _ _ (sym i ∙ j))
+    ap (λ (x : NumberedSymbol). Duplicate x.symbol.name) (same_Some _ _ (sym i ∙ j))
 one_fault objects a b (repeated e h i) (no_main g j k) = absurd cc
 one_fault objects a b (repeated e h i) (missing f g j k l) = absurd cc
 one_fault objects a b (repeated e h i) (too_large n m g j k) = let once = g.once in absurd cc
@@ -33,7 +33,7 @@ one_fault objects a b (missing e h i j k) (too_many g) = absurd (omega arith)
 one_fault objects a b (missing e h i j k) (repeated f g l) = absurd cc
 one_fault objects a b (missing e h i j k) (no_main g l m) = absurd cc
 one_fault objects a b (missing e h i j k) (missing f g l m n) =
-    ap (λ (x : Entry). Undefined x.symbol.name) (same_Some _ _ (sym k ∙ n))
+    ap (λ (x : NumberedSymbol). Undefined x.symbol.name) (same_Some _ _ (sym k ∙ n))
 one_fault objects a b (missing e h i j k) (too_large n m g l o) = let defined = g.defined in absurd cc
 one_fault objects a b (too_large n m h i j) (too_many g) = let few = h.few in absurd (omega arith)
 one_fault objects a b (too_large n m h i j) (repeated f g k) = let once = h.once in absurd cc

@@ -14,7 +14,7 @@ use Rattle.linker.specs.Data.{rodata_pieces, rodata_size, filled_pieces, filled_
 use Rattle.linker.specs.Relocations.{relocations}
 use Rattle.linker.specs.Tagged.{SpellsOne, small as spells_small, large as spells_large, SpellsFrom, nothing as spells_nothing}
 use Rattle.linker.specs.Tagged.{next as spells_next}
-use Rattle.linker.specs.Tagged.{AreTagged, tagged_from, sized, Agrees}
+use Rattle.linker.specs.Tagged.{AreTagged, tagged_from, sized, AgreesWithItself}
 use Rattle.linker.specs.Linked.{Linked}
 use Rattle.linker.specs.Laws.Sizes.{linked_bases}
 use Rattle.linker.specs.Laws.OneOrder.{one_order}
@@ -35,7 +35,7 @@ described_spells from intervals bytes (next _ d n others first rest one le s) =
 -- ---- the image
 
 -- the length of its descriptors agrees with itself
-pub linked_agrees : (objects : List Object) (image : Image) → Linked objects image → Agrees objects (length image.descriptors)
+pub linked_agrees : (objects : List Object) (image : Image) → Linked objects image → AgreesWithItself objects (length image.descriptors)
 linked_agrees objects image h = record {
   intervals = h.descriptors.intervals;
   bytes = image.descriptors;

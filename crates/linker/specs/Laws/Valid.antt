@@ -8,7 +8,7 @@ use Rattle.elf_image.specs.Image.{Image}
 use Rattle.elf_image.specs.Places.{memory_end, IsValid}
 use Rattle.linker.specs.declared.refusal.LinkRefusal.{LinkRefusal}
 use Rattle.linker.specs.declared.refusal.LinkRefusal.TheVariants.{ImageTooLarge}
-use Rattle.linker.specs.Names.{Entry}
+use Rattle.linker.specs.Names.{NumberedSymbol}
 use Rattle.linker.specs.Data.{zero_size}
 use Rattle.linker.specs.Tagged.{sized, IsFewest}
 use Rattle.linker.specs.LinkFault.{LinkFault, too_many, repeated, no_main, missing, too_large, AreBound, object_limit}
@@ -33,7 +33,7 @@ bound objects h = record { few = few; once = once; main = main; defined = define
     few : length objects ≤ object_limit
     few = few_objects objects h
 
-    no_repeat : (x : Option Entry) → first_repeated objects ≡ x → first_repeated objects ≡ None
+    no_repeat : (x : Option NumberedSymbol) → first_repeated objects ≡ x → first_repeated objects ≡ None
     no_repeat None is = is
     no_repeat (Some e) is = absurd (h _ (repeated e few is))
 
@@ -47,7 +47,7 @@ bound objects h = record { few = few; once = once; main = main; defined = define
     main : has_main objects ≡ true
     main = some_main (has_main objects) refl
 
-    none_missing : (x : Option Entry) → first_missing objects ≡ x → first_missing objects ≡ None
+    none_missing : (x : Option NumberedSymbol) → first_missing objects ≡ x → first_missing objects ≡ None
     none_missing None is = is
     none_missing (Some e) is = absurd (h _ (missing e few once main is))
 

@@ -1,6 +1,6 @@
 use Rattle.std.proofs.Common.{◌≡◌, ℕ, ◌-◌, ◌*◌, ◌≤◌, List, map, length}
 use Rattle.elf_obj.specs.Object.{Object}
-use Rattle.linker.specs.Tagged.{SpellsFrom, Agrees}
+use Rattle.linker.specs.Tagged.{SpellsFrom, AgreesWithItself}
 use Rattle.linker.specs.Totals.{totals_of, filled_by}
 use Rattle.linker.specs.Spans.{at_place, AreSpans, HasLength}
 use Rattle.linker.proofs.descriptors.fewest.Given as goal
@@ -10,7 +10,7 @@ invariant-loop-next l = record {
   next_is : HasLength (SpellsFrom 0 (map (at_place (filled_by l.totals l.count)) l.spans)) l.next;
   rises : l.count ≤ l.next;
   few : l.next ≤ 40 * length l.spans;
-  least : (objects : List Object) (other : ℕ) → AreSpans objects l.spans → l.totals ≡ totals_of objects → Agrees objects other
+  least : (objects : List Object) (other : ℕ) → AreSpans objects l.spans → l.totals ≡ totals_of objects → AgreesWithItself objects other
       → l.count ≤ other;
 }
 

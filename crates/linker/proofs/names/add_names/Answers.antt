@@ -2,7 +2,7 @@ use Rattle.std.proofs.Common.{◌≡◌, ℕ, ◌+◌, List, [], ◌∷◌, ◌+
 use Rattle.std.specs.Str.{bytes_eq}
 use Rattle.indexmap.specs.IndexMap.{get_by}
 use Rattle.elf_obj.specs.declared.parts.Symbol.{Symbol}
-use Rattle.linker.specs.Names.{Entry, entry, numbered_from}
+use Rattle.linker.specs.Names.{NumberedSymbol, numbered, numbered_from}
 use Rattle.linker.specs.Known.{numbers_of}
 use Rattle.linker.proofs.Knowing.{numbered-more, knows_other, knows_again, knows_new, knows_behind}
 use Rattle.linker.proofs.names.add_names.Goals as goal
@@ -14,12 +14,12 @@ loop-number-preserved c = λ seen known.
     let ss : List Symbol = c.args.symbols.now in
     let i : ℕ = c.loop-number.number in
     let s : Symbol = c.index-symbols-number.result in
-    let e : Entry = entry c.args.object i s in
-    let xs : List Entry = numbered_from c.args.object 0 (take i ss) in
-    let ys : List Entry = numbered_from c.args.object 0 (take (i + 1) ss) in
+    let e : NumberedSymbol = numbered c.args.object i s in
+    let xs : List NumberedSymbol = numbered_from c.args.object 0 (take i ss) in
+    let ys : List NumberedSymbol = numbered_from c.args.object 0 (take (i + 1) ss) in
     let more : ys ≡ xs ++ e ∷ [] =
     numbered-more c.args.object i ss s c.loop-number-test.true
-    ∙ ap (λ (t : Symbol). xs ++ entry c.args.object i t ∷ []) (sym c.index-symbols-number.is) in
+    ∙ ap (λ (t : Symbol). xs ++ numbered c.args.object i t ∷ []) (sym c.index-symbols-number.is) in
     let so_far = c.loop-number.invariant seen known in
     elim c.if-is_global.branch [
       | then-is_global+then-not-contains_key+in_ok-insert w ↦

@@ -7,7 +7,7 @@ use Rattle.elf_obj.specs.Object.{Object, object_of}
 use Rattle.linker.specs.declared.refusal.LinkRefusal.TheVariants.{TooManyObjects, Undefined}
 use Rattle.linker.specs.LinkFault.{LinkFault, too_many, no_main, missing, first_missing}
 use Rattle.linker.specs.Known.{objects_of}
-use Rattle.linker.proofs.Binding.{FindsEntry, finds_entry}
+use Rattle.linker.proofs.Binding.{FindsSymbol, finds_symbol}
 use Rattle.linker.proofs.names.bound_names.Goals as goal
 
 pub returns-then-objects-gt16-clause-refused : goal.returns-then-objects-gt16-clause-refused
@@ -26,8 +26,8 @@ pub returns-in-Some-clause-refused : goal.returns-in-Some-clause-refused
 returns-in-Some-clause-refused c =
     let os : List Object = objects_of c.args.objects.now in
     let s : Symbol = c.in-Some.symbol.now in
-    let found : FindsEntry (first_missing os) s =
-    finds_entry (first_missing os) s (sym c.first_missing.ensures ∙ ap option_copied c.in-Some.is) in
+    let found : FindsSymbol (first_missing os) s =
+    finds_symbol (first_missing os) s (sym c.first_missing.ensures ∙ ap option_copied c.in-Some.is) in
     let fault : LinkFault os (Undefined found.entry.symbol.name) =
     missing found.entry (omega (arith, length-map c.args.objects.now object_of, c.if-objects-gt16.false)) c.in_ok-names.ensures.once
     (sym c.main_is_there.ensures ∙ c.if-not-main_is_there.false) found.is in

@@ -3,7 +3,7 @@ use Rattle.std.proofs.lemmas.List.{take_more}
 use Rattle.indexmap.specs.IndexSet.{insert_key}
 use Rattle.elf_obj.specs.declared.parts.Reloc.{Reloc}
 use Rattle.linker.specs.declared.names.Numbers.{Numbers}
-use Rattle.linker.specs.Names.{Entry}
+use Rattle.linker.specs.Names.{NumberedSymbol}
 use Rattle.linker.specs.Got.{used_by, firsts}
 use Rattle.linker.specs.Known.{numbers_of}
 use Rattle.linker.proofs.Firsts.{words_more, uses_same, uses_one, Uses}
@@ -29,11 +29,11 @@ loop-reloc-preserved c = λ objects uses knows has.
       | in-Some+in_ok-insert w ↦
           let one : Uses f uses (take i rs) (take (i + 1) rs) w.in-Some.numbers =
           uses_one f uses (take i rs) (take (i + 1) rs) r w.in-Some.numbers more (used ∙ w.in-Some.is) in
-          let old : List Entry = uses ++ filter_map f (take i rs) in
+          let old : List NumberedSymbol = uses ++ filter_map f (take i rs) in
           rw w.table-is (w.in_ok-insert.ensures.keys ∙ ap (λ (l : List Numbers). insert_key eq l w.in-Some.numbers) before
           ∙ ap (insert_key eq (map numbers_of (firsts old))) (sym one.numbers) ∙ words_more eq old one.entry (λ a b. refl)
-          ∙ ap (λ (l : List Entry). map numbers_of (firsts l)) one.is)
+          ∙ ap (λ (l : List NumberedSymbol). map numbers_of (firsts l)) one.is)
       | in_default w ↦ rw w.table-is (before
-          ∙ ap (λ (l : List Entry). map numbers_of (firsts l))
+          ∙ ap (λ (l : List NumberedSymbol). map numbers_of (firsts l))
           (uses_same f uses (take i rs) (take (i + 1) rs) r more (used ∙ w.in_default.is)))
     ]

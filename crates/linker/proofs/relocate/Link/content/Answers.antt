@@ -4,7 +4,7 @@ use Rattle.elf_obj.specs.declared.parts.ObjectParts.{ObjectParts}
 use Rattle.elf_obj.specs.declared.parts.Symbol.{Symbol}
 use Rattle.elf_obj.specs.Object.{Object}
 use Rattle.linker.specs.Names.{target}
-use Rattle.linker.specs.Data.{place_content, size_of}
+use Rattle.linker.specs.Data.{place_content, target_size}
 use Rattle.linker.specs.Known.{objects_of, numbers_of}
 use Rattle.linker.proofs.Listed.{told_none, told_size, object_is}
 use Rattle.linker.proofs.relocate.Link.content.Goals as goal
@@ -20,7 +20,7 @@ returns-in-None c = λ o there.
     ap (λ (l : List Symbol). option_map numbers_of (target os c.args.object l c.args.reloc.now.symbol)) (sym symbols)
     ∙ sym (c.target.ensures os c.requires.ready.names) ∙ c.in-None.is in
     c.place_content.ensures
-    ∙ sym (ap (λ x. place_content (size_of x) c.args.reloc.now.addend) (told_none os c.args.object c.args.reloc.now.symbol o none))
+    ∙ sym (ap (λ x. place_content (target_size x) c.args.reloc.now.addend) (told_none os c.args.object c.args.reloc.now.symbol o none))
 
 pub returns-in-Some : goal.returns-in-Some
 returns-in-Some c = λ o there.
