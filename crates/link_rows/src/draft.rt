@@ -3,6 +3,7 @@ use std::alloc::{AllocError, Global};
 use test_rows::unquoted;
 
 /// What the sections of an object file hold, from the parts of a row. Whether they are valid is not asked.
+#[derive(Drop)]
 pub(crate) struct Draft {
     pub(crate) text: Vec<u8>,
     pub(crate) rodata: Vec<u8>,
@@ -87,13 +88,15 @@ impl Draft {
         put_u64(&mut self.symbols, value)?;
         put_u64(&mut self.symbols, size)?;
         self.names.extend_from_slice(&name)?;
-        self.names.push(0)
+        self.names.push(0)?;
+        Ok(())
     }
 }
 
-/// The four low bytes of a number.
+/// The four bytes of a number.
 pub(crate) fn put_u32(out: &mut Vec<u8>, value: u64) -> Result<(), AllocError> {
-    out.extend_from_slice(&(value as u32).to_le_bytes())
+    let value = u32::try_from(value).unwrap_or(u32::MAX);
+    out.extend_from_slice(&value.to_le_bytes())
 }
 
 /// The eight bytes of a number.
@@ -110,7 +113,7 @@ fn put_words(out: &mut Vec<u8>, words: &[u64]) -> Result<(), AllocError> {
 
 fn put_bytes(out: &mut Vec<u8>, bytes: &[u64]) -> Result<(), AllocError> {
     for byte in bytes {
-        out.push(*byte as u8)?;
+        out.push(u8::try_from(*byte).unwrap_or(u8::MAX))?;
     }
     Ok(())
 }
@@ -121,8 +124,12 @@ fn put_reloc(out: &mut Vec<u8>, word: &str) -> Result<(), AllocError> {
     let offset = number(fields.next().unwrap_or(""));
     let kind = number(fields.next().unwrap_or(""));
     let symbol = number(fields.next().unwrap_or(""));
-    let addend: i64 = fields.next().unwrap_or("").parse().unwrap_or(0);
-    put_record(out, offset, kind, symbol, addend as u64)
+    let text = fields.next().unwrap_or("");
+    let addend = match text.strip_prefix('-') {
+        Some(digits) => 0u64.wrapping_sub(number(digits)),
+        None => number(text),
+    };
+    put_record(out, offset, kind, symbol, addend)
 }
 
 // Puts the record of a relocation; symbols are counted from 1 in the file.

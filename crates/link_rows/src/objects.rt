@@ -1,6 +1,7 @@
 use std::alloc::{AllocError, Global};
 
 /// The objects of the rows so far, each under its name as the text of its parts.
+#[derive(Drop)]
 pub(crate) struct Shelf {
     names: Vec<String>,
     texts: Vec<String>,

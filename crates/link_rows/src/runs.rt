@@ -36,6 +36,7 @@ pub(crate) fn bytes_listed(alloc: Global, bytes: &[u8]) -> Result<String, AllocE
 }
 
 // A list that is being written: its text up to the last item, and how often that stands.
+#[derive(Drop)]
 struct List {
     text: String,
     item: u32,
@@ -82,6 +83,7 @@ impl List {
         if self.text.is_empty() {
             self.text.push('-')?;
         }
-        Ok(self.text)
+        let List { text, .. } = self;
+        Ok(text)
     }
 }
