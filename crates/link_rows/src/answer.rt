@@ -22,15 +22,19 @@ pub(crate) fn answer(alloc: Global, shelf: &Shelf, question: &str) -> Result<Str
     }
     let mut objects = Vec::new(alloc);
     for name in words {
-        if !add(alloc, &mut objects, shelf.text_of(name))? {
-            return format!(in alloc; "no object {name}");
+        if let Some(refusal) = add(alloc, &mut objects, shelf.text_of(name))? {
+            return format!(in alloc; "{name}: {refusal} {}", refusal.place());
         }
     }
     linked(alloc, &objects)
 }
 
-// Adds the object that a text writes, where its file is one.
-fn add(alloc: Global, objects: &mut Vec<ObjectParts>, text: &str) -> Result<bool, AllocError>
+// Adds the object that a text writes, or says why its file is none.
+fn add(
+    alloc: Global,
+    objects: &mut Vec<ObjectParts>,
+    text: &str,
+) -> Result<Option<ObjectRefusal>, AllocError>
     requires { AllByRecursion IsValid (objects_of objects.now.items) }
     ensures { OnOk result (AllByRecursion IsValid (objects_of objects.new.items)) }
 {
@@ -39,10 +43,10 @@ fn add(alloc: Global, objects: &mut Vec<ObjectParts>, text: &str) -> Result<bool
     match read_object(alloc, &file) {
         Ok(parts) => {
             objects.push(parts)?;
-            Ok(true)
+            Ok(None)
         }
         Err(ObjectRefusal::NoMemory) => Err(AllocError),
-        Err(_) => Ok(false),
+        Err(refusal) => Ok(Some(refusal)),
     }
 }
 

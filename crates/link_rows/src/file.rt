@@ -58,7 +58,6 @@ fn header(alloc: Global, place: u64) -> Result<Vec<u8>, AllocError> {
     put_u64(&mut header, place)?;
     put_u32(&mut header, 0)?;
     put_u32(&mut header, 64)?;
-    put_u32(&mut header, 0)?;
     put_u32(&mut header, 64 << 16)?;
     put_u32(&mut header, 12 | 7 << 16)?;
     Ok(header)
