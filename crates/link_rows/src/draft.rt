@@ -33,27 +33,28 @@ impl Draft {
             data_relocs: Vec::new(alloc),
             tagged: Vec::new(alloc),
         };
-        let mut letter = "";
+        let mut letter = None;
         for word in text.split_whitespace() {
-            if letter.is_empty() {
-                letter = word;
-            } else {
-                draft.put(alloc, letter, word)?;
-                letter = "";
+            match letter {
+                None => letter = word.bytes().next(),
+                Some(part) => {
+                    draft.put(alloc, part, word)?;
+                    letter = None;
+                }
             }
         }
         Ok(draft)
     }
 
-    fn put(&mut self, alloc: Global, letter: &str, word: &str) -> Result<(), AllocError> {
+    fn put(&mut self, alloc: Global, letter: u8, word: &str) -> Result<(), AllocError> {
         match letter {
-            "w" => put_words(&mut self.text, &items_of(alloc, word)?),
-            "r" => put_bytes(&mut self.rodata, &items_of(alloc, word)?),
-            "i" => put_bytes(&mut self.data, &items_of(alloc, word)?),
-            "s" => self.put_symbol(alloc, word),
-            "c" => put_reloc(&mut self.text_relocs, word),
-            "d" => put_reloc(&mut self.data_relocs, word),
-            "t" => put_record(&mut self.tagged, 0, 0, number(word), 0),
+            b'w' => put_words(&mut self.text, &items_of(alloc, word)?),
+            b'r' => put_bytes(&mut self.rodata, &items_of(alloc, word)?),
+            b'i' => put_bytes(&mut self.data, &items_of(alloc, word)?),
+            b's' => self.put_symbol(alloc, word),
+            b'c' => put_reloc(&mut self.text_relocs, word),
+            b'd' => put_reloc(&mut self.data_relocs, word),
+            b't' => put_record(&mut self.tagged, 0, 0, number(word), 0),
             _ => {
                 self.zero_bytes = number(word);
                 Ok(())
