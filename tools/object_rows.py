@@ -298,4 +298,5 @@ def rows():
     return rows
 
 
-write_section(sys.argv[1], "Object files and edits of them, and the sizes of their parts, or the first fault.", rows())
+if __name__ == "__main__":
+    write_section(sys.argv[1], "Object files and edits of them, and the sizes of their parts, or the first fault.", rows())
