@@ -147,11 +147,7 @@ some_repeated os k o s h is some before =
     let rest : List NumberedSymbol = all_numbered_from (k + 1) (drop (k + 1) os) in
     let all : all_numbered os ≡ all_numbered (take k os) ++ (numbered_from k 0 o.symbols ++ rest) =
     all_numbered_cut os k (omega arith)
-<<<<<<< HEAD
     ∙ ap (λ (l : List Object). all_numbered (take k os) ++ all_numbered_from k l) (left_is os k o h is) in
-=======
-        ∙ ap (λ (l : List Object). all_numbered (take k os) ++ all_numbered_from k l) (left_is os k o h is) in
->>>>>>> LINKROWS/LINKROWS
     record {
       entry = found.entry;
       is = ap (find p) all ∙ find-append p (all_numbered (take k os)) (numbered_from k 0 o.symbols ++ rest)

@@ -63,11 +63,7 @@ found_counted : (p : NumberedSymbol → Bool) (k : ℕ) (os : List Object) (e : 
 found_counted p k [] e h = absurd (none-some e h)
 found_counted p k (o ∷ os) e h =
     by_case (find p (numbered_from k 0 o.symbols)) refl
-<<<<<<< HEAD
     (sym (find-append p (numbered_from k 0 o.symbols) (all_numbered_from (k + 1) os)) ∙ h)
-=======
-        (sym (find-append p (numbered_from k 0 o.symbols) (all_numbered_from (k + 1) os)) ∙ h)
->>>>>>> LINKROWS/LINKROWS
     (found_counted p (k + 1) os e)
   where
     here : IsNumbered k 0 o.symbols e → IsCounted k (o ∷ os) e
