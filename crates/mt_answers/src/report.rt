@@ -109,8 +109,9 @@ fn report_dump<E: Sink>(line: &mut Line<'_, E>, file: &str, refusal: &DumpRefusa
 // Puts the line of an image that does not run, which leaves out the place where the refusal names none.
 fn report_run<E: Sink>(line: &mut Line<'_, E>, file: &str, refusal: &RunRefusal) -> fmt::Result {
     match refusal {
-        RunRefusal::Image(ImageRefusal::NotElf | ImageRefusal::NotThisMachine)
-        | RunRefusal::Start(_) => write!(line, "mtcc: {file}: {refusal}\n"),
+        RunRefusal::Image(ImageRefusal::NotElf | ImageRefusal::NotThisMachine) => {
+            write!(line, "mtcc: {file}: {refusal}\n")
+        }
         _ => {
             let place = refusal.place();
             write!(line, "mtcc: {file}: {refusal} {place}\n")
