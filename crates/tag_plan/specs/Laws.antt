@@ -6,3 +6,4 @@ pub mod Frames
 pub mod Scopes
 pub mod Entering
 pub mod Pointers
+pub mod Lengths
