@@ -37,8 +37,8 @@ target_size (Some e) = e.symbol.size
 abbrev pub covers : ℕ → Reloc → Bool
 covers i r = nat_le r.offset i && nat_lt i (r.offset + 8)
 
--- The byte that the image has for byte i of an object's filled data, by the relocation whose 8 bytes have it: the object's where there is none,
--- and else the byte with its number among the 8 that this place holds in the file.
+-- The byte that the image has for byte i of an object's filled data, by the relocation whose 8 bytes have it: the object's where there is
+-- none, and else the byte with its number among the 8 that this place holds in the file.
 abbrev pub byte_with : List Object → ℕ → Object → Option Reloc → ℕ → ℕ → ℕ
 byte_with objects k o None i byte = byte
 byte_with objects k o (Some r) i byte =

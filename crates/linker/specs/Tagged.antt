@@ -43,8 +43,8 @@ pub data SpellsOne : ℕ → ℕ → List ℕ → Type 0 where
   large : (distance size : ℕ) (first second : List ℕ) → 8 ≤ size → IsShortest (8 * distance) first → IsShortest (size - 1) second
       → SpellsOne distance size (first ++ second)
 
--- The bytes describe the intervals behind an address, as `DescribesFrom` has it, but each may end beyond 2^48. `next`: the first interval, so
--- many granules behind the address and so long, has its descriptor, and the rest is described from its end on.
+-- The bytes describe the intervals behind an address, as `DescribesFrom` has it, but each may end beyond 2^48. `next`: the first
+-- interval, so many granules behind the address and so long, has its descriptor, and the rest is described from its end on.
 pub data SpellsFrom : ℕ → List Interval → List ℕ → Type 0 where
   nothing : (from : ℕ) → SpellsFrom from [] []
   next : (from distance size : ℕ) (intervals : List Interval) (first rest : List ℕ) → SpellsOne distance size first
@@ -65,8 +65,8 @@ sized objects count = record {
   zero_bytes = zero_size objects;
 }
 
--- So many bytes of descriptors agree with themselves: the descriptors stand before the tagged objects, so their length decides the addresses,
--- and those that describe the objects at the addresses to which this length leads have this length.
+-- So many bytes of descriptors agree with themselves: the descriptors stand before the tagged objects, so their length decides the
+-- addresses, and those that describe the objects at the addresses to which this length leads have this length.
 pub record AgreesWithItself (objects : List Object) (count : ℕ) : Type 0 where
   pub intervals : List Interval
   pub bytes : List ℕ

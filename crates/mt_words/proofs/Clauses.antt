@@ -1,5 +1,6 @@
 -- What the parts of `job_of` find, from what their own parts find.
-use Rattle.std.proofs.Common.{◌≡◌, ◌∙◌, ◌≤◌, ◌||◌, ℕ, suc, List, [], ◌∷◌, Bool, true, false, Option, Some, None, refl, sym, ap, subst, arith, codes, length, slice_index_or}
+use Rattle.std.proofs.Common.{◌≡◌, ◌∙◌, ◌≤◌, ◌||◌, ℕ, suc, List, [], ◌∷◌, Bool, true, false, Option, Some, None, refl, sym, ap, subst,
+    arith, codes, length, slice_index_or}
 use Rattle.std.specs.Prelude.{IfNone, IfSome, is_some, map}
 use Rattle.std.specs.Borrow.{Bor}
 use Rattle.std.proofs.lemmas.Bool.{true≢false}
@@ -29,7 +30,8 @@ any : (a b c d : Option (Bor (List ℕ))) → Bool
 any a b c d = is_some a || (is_some b || (is_some c || is_some d))
 
 none_of : (out : Option (List ℕ)) (a b c d : Option (Bor (List ℕ))) → any a b c d ≡ false →
-    ◌≡◌ {A = Options} (record { out = out; tags = text_is a; steps = text_is b; stack = text_is c; work = text_is d }) (record none_given { out = out })
+    ◌≡◌ {A = Options} (record { out = out; tags = text_is a; steps = text_is b; stack = text_is c; work = text_is d })
+        (record none_given { out = out })
 unfolding any
 none_of out None None None None e = refl
 none_of out (Some x) b c d e = absurd (true≢false e)
@@ -37,7 +39,8 @@ none_of out None (Some x) c d e = absurd (true≢false e)
 none_of out None None (Some x) d e = absurd (true≢false e)
 none_of out None None None (Some x) e = absurd (true≢false e)
 
-one_of : (a b c d : Option (Bor (List ℕ))) → any a b c d ≡ true → text_is a ≡ None → text_is b ≡ None → text_is c ≡ None → ¬ (text_is d ≡ None)
+one_of : (a b c d : Option (Bor (List ℕ))) → any a b c d ≡ true → text_is a ≡ None → text_is b ≡ None → text_is c ≡ None
+    → ¬ (text_is d ≡ None)
 unfolding any
 one_of None None None None e no_a no_b no_c no_d = true≢false (sym e)
 one_of (Some x) b c d e no_a no_b no_c no_d = true≢false (ap is_some no_a)
@@ -46,12 +49,14 @@ one_of None None (Some x) d e no_a no_b no_c no_d = true≢false (ap is_some no_
 one_of None None None (Some x) e no_a no_b no_c no_d = true≢false (ap is_some no_d)
 
 -- but for `--out` none is given
-pub no_others : (options : OptionsValue) → is_any_given options ≡ false → options_are options ≡ record none_given { out = text_is options.out }
+pub no_others : (options : OptionsValue) → is_any_given options ≡ false → options_are options
+    ≡ record none_given { out = text_is options.out }
 unfolding any
 no_others options e = none_of (text_is options.out) options.tags options.steps options.stack options.work e
 
 -- but for `--out` one is given
-pub some_other : (options : OptionsValue) (out : Option (List ℕ)) → is_any_given options ≡ true → ¬ (options_are options ≡ record none_given { out = out })
+pub some_other : (options : OptionsValue) (out : Option (List ℕ)) → is_any_given options ≡ true
+    → ¬ (options_are options ≡ record none_given { out = out })
 unfolding any
 some_other options out e none =
     one_of options.tags options.steps options.stack options.work e (ap (λ o. o.tags) none) (ap (λ o. o.steps) none) (ap (λ o. o.stack) none)
@@ -81,10 +86,12 @@ pub file_from : (files : List (List ℕ)) (options : Options) (found : Option (B
 file_from files options None bare one = record { some = tt; none = λ file is _. one.none file is }
 file_from files options (Some x) bare one = record { some = (one.some, bare); none = tt }
 
-pub out_from : (files : ℕ) (options : OptionsValue) → 1 ≤ files → is_any_given options ≡ false → FindsOut files (options_are options) options.out
+pub out_from : (files : ℕ) (options : OptionsValue) → 1 ≤ files → is_any_given options ≡ false
+    → FindsOut files (options_are options) options.out
 out_from files options least others = finds options.out (no_others options others)
   where
-    finds : (out : Option (Bor (List ℕ))) → options_are options ≡ record none_given { out = text_is out } → FindsOut files (options_are options) out
+    finds : (out : Option (Bor (List ℕ))) → options_are options ≡ record none_given { out = text_is out }
+        → FindsOut files (options_are options) out
     finds None is = record { some = tt; none = λ out _ same. true≢false (sym (ap (λ (o : Options). is_some o.out) (sym is ∙ same))) }
     finds (Some x) is = record { some = (least, is); none = tt }
 
@@ -106,15 +113,19 @@ first_text xs ys d same one = subst (λ zs. texts zs ≡ (slice_index_or ys 0 d)
     first (z ∷ w ∷ ws) e = absurd (omega arith)
 
 pub other_texts : (xs ys : List (Bor (List ℕ))) (file : List ℕ) → ys ≡ xs → ¬ (length ys ≡ 1) → ¬ (texts xs ≡ file ∷ [])
-other_texts xs ys file same other is = other (subst (λ zs. length zs ≡ 1) (sym same) (let n : length (texts xs) ≡ 1 = ap length is in omega (arith, length_texts xs)))
+other_texts xs ys file same other is = other
+    (subst (λ zs. length zs ≡ 1) (sym same)
+      (let n : length (texts xs) ≡ 1 = ap length is in omega (arith, length_texts xs)))
 
 -- what is given with the one file
 pub run_given : (files : List (Bor (List ℕ))) (file : List ℕ) (options : OptionsValue) → texts files ≡ file ∷ [] →
     given_as (codes "run") files options ≡ given_with (codes "run") file options
-run_given files file options one = ap {B = Given} (λ fs. record { command = Some (codes "run"); files = fs; options = options_are options }) one
+run_given files file options one = ap {B = Given}
+    (λ fs. record { command = Some (codes "run"); files = fs; options = options_are options }) one
 
 -- what the words have, from what is found
-pub some_job : (words : List (List ℕ)) (given : Given) (found : Option JobValue) → IsRead words → given ≡ given_by words → Finds given found →
+pub some_job : (words : List (List ℕ)) (given : Given) (found : Option JobValue) → IsRead words → given ≡ given_by words
+    → Finds given found →
     IfSome found (λ job. HasJob words (job_is job))
 some_job words given None read is finds = tt
 some_job words given (Some job) read is finds = record { read = read; asks = subst (λ g. Asks g (job_is job)) is finds.some }

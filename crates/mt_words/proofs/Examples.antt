@@ -33,7 +33,8 @@ other : (a : List ℕ) {b : List ℕ} → bytes_eq a b ≡ false → ¬ (a ≡ b
 other a {b} apart e = true≢false (sym ((bytes_eq-Decides a b).1 e) ∙ apart)
 
 -- a job of words that are read so
-has : (words : List (List ℕ)) (given : Given) (job : Job) → fault_of mtcc words ≡ [] → given_by words ≡ given → Asks given job → HasJob words job
+has : (words : List (List ℕ)) (given : Given) (job : Job) → fault_of mtcc words ≡ [] → given_by words ≡ given → Asks given job
+    → HasJob words job
 has words given job none is asks = record { read = record { no_fault = none }; asks = subst (λ g. Asks g job) (sym is) asks }
 
 -- words that are no job, since the parse has a fault, or since what they hold asks for none
@@ -60,7 +61,8 @@ go_a_given = refl
 
 go_a_job : HasJob go_a (Go (codes "a.c" ∷ []) default_run)
 unfolding default_run
-go_a_job = has _ _ _ go_a_read go_a_given (go _ refl (lit≤ tt) (record { choices = refl; steps = refl; stack = refl; no_out = refl; no_work = refl }))
+go_a_job = has _ _ _ go_a_read go_a_given
+    (go _ refl (lit≤ tt) (record { choices = refl; steps = refl; stack = refl; no_out = refl; no_work = refl }))
 
 -- clap's test of the words that it takes says so too
 go_a_taken : takes mtcc go_a ≡ true
@@ -75,7 +77,8 @@ build_ab_read : fault_of mtcc build_ab ≡ []
 unfolding clap_on_literals mtcc
 build_ab_read = refl
 
-build_ab_given : given_by build_ab ≡ record { command = Some (codes "build"); files = codes "a.c" ∷ codes "b.c" ∷ []; options = only_out (codes "x") }
+build_ab_given : given_by build_ab ≡ record { command = Some (codes "build"); files = codes "a.c" ∷ codes "b.c" ∷ []; options = only_out
+    (codes "x") }
 unfolding clap_on_literals mtcc given_by
 build_ab_given = refl
 
@@ -91,7 +94,8 @@ run_x_read : fault_of mtcc run_x ≡ []
 unfolding clap_on_literals mtcc
 run_x_read = refl
 
-run_x_given : given_by run_x ≡ record { command = Some (codes "run"); files = codes "x" ∷ []; options = record none_given { tags = Some (codes "1a7"); steps = Some (codes "0") } }
+run_x_given : given_by run_x ≡ record { command = Some (codes "run"); files = codes "x" ∷ []; options = record none_given
+    { tags = Some (codes "1a7"); steps = Some (codes "0") } }
 unfolding clap_on_literals mtcc given_by
 run_x_given = refl
 
@@ -119,7 +123,8 @@ mean_a_given = refl
 
 mean_a_job : HasJob mean_a (Mean (codes "--a" ∷ codes "--stack" ∷ []) (record { work = default_count; stack = default_stack }))
 unfolding default_run
-mean_a_job = has _ _ _ mean_a_read mean_a_given (mean _ refl (lit≤ tt) (record { work = refl; stack = refl; no_out = refl; no_tags = refl; no_steps = refl }))
+mean_a_job = has _ _ _ mean_a_read mean_a_given
+    (mean _ refl (lit≤ tt) (record { work = refl; stack = refl; no_out = refl; no_tags = refl; no_steps = refl }))
 
 -- `go`: no file
 no_files_given : given_by (codes "go" ∷ []) ≡ record { command = Some (codes "go"); files = []; options = none_given }
@@ -133,12 +138,14 @@ no_files : HasNoJob (codes "go" ∷ [])
 no_files = asks_none _ _ no_files_given (no_go _ _ (λ how some asks. no_files_none some))
 
 -- `frob a.c`: no command
-frob_given : given_by (codes "frob" ∷ codes "a.c" ∷ []) ≡ record { command = Some (codes "frob"); files = codes "a.c" ∷ []; options = none_given }
+frob_given : given_by (codes "frob" ∷ codes "a.c" ∷ [])
+    ≡ record { command = Some (codes "frob"); files = codes "a.c" ∷ []; options = none_given }
 unfolding clap_on_literals mtcc given_by
 frob_given = refl
 
 frob : HasNoJob (codes "frob" ∷ codes "a.c" ∷ [])
-frob = asks_none _ _ frob_given (no_name _ _ _ (other _ refl) (other _ refl) (other _ refl) (other _ refl) (other _ refl) (other _ refl) (other _ refl))
+frob = asks_none _ _ frob_given (no_name _ _ _ (other _ refl) (other _ refl) (other _ refl) (other _ refl) (other _ refl) (other _ refl)
+    (other _ refl))
 
 -- `go a.c --help`: a request
 help_fault : fault_of mtcc (codes "go" ∷ codes "a.c" ∷ codes "--help" ∷ []) ≡ kind.DisplayHelp ∷ []
@@ -157,7 +164,8 @@ no_words : HasNoJob []
 no_words = faulty _ _ _ no_words_fault
 
 -- an option twice
-twice_fault : fault_of mtcc (codes "go" ∷ codes "a.c" ∷ codes "--steps" ∷ codes "1" ∷ codes "--steps" ∷ codes "1" ∷ []) ≡ kind.ArgumentConflict ∷ []
+twice_fault : fault_of mtcc (codes "go" ∷ codes "a.c" ∷ codes "--steps" ∷ codes "1" ∷ codes "--steps" ∷ codes "1" ∷ [])
+    ≡ kind.ArgumentConflict ∷ []
 unfolding clap_on_literals mtcc
 twice_fault = refl
 

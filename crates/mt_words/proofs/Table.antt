@@ -48,7 +48,8 @@ no_link files options none _ (dump file name one asks) = differ (codes "link") (
 no_link files options none _ (plan file name one asks) = differ (codes "link") (codes "plan") refl name
 
 -- nothing that `run` may be given with
-pub no_run : (files : List (List ℕ)) (options : Options) → ((image : List ℕ) (run : RunOptions) → files ≡ image ∷ [] → ¬ AskRun options run) →
+pub no_run : (files : List (List ℕ)) (options : Options)
+    → ((image : List ℕ) (run : RunOptions) → files ≡ image ∷ [] → ¬ AskRun options run) →
     (job : Job) → ¬ Asks (given (codes "run") files options) job
 no_run files options none _ (go run_options name some asks) = differ (codes "run") (codes "go") refl name
 no_run files options none _ (build out name some asks) = differ (codes "run") (codes "build") refl name
@@ -92,21 +93,30 @@ no_plan files options none _ (dump file name one asks) = differ (codes "plan") (
 no_plan files options none _ (plan file name one asks) = none file one asks
 
 -- another name
-pub no_name : (name : List ℕ) (files : List (List ℕ)) (options : Options) → ¬ (name ≡ codes "go") → ¬ (name ≡ codes "build") → ¬ (name ≡ codes "link") → ¬ (name ≡ codes "run") →
+pub no_name : (name : List ℕ) (files : List (List ℕ)) (options : Options) → ¬ (name ≡ codes "go") → ¬ (name ≡ codes "build")
+    → ¬ (name ≡ codes "link") → ¬ (name ≡ codes "run") →
     ¬ (name ≡ codes "mean") → ¬ (name ≡ codes "dump") → ¬ (name ≡ codes "plan") → (job : Job) → ¬ Asks (given name files options) job
-no_name name files options not_go not_build not_link not_run not_mean not_dump not_plan _ (go run_options is some asks) = not_go (ap (λ o. unwrap_or o name) is)
-no_name name files options not_go not_build not_link not_run not_mean not_dump not_plan _ (build out is some asks) = not_build (ap (λ o. unwrap_or o name) is)
-no_name name files options not_go not_build not_link not_run not_mean not_dump not_plan _ (link out is some asks) = not_link (ap (λ o. unwrap_or o name) is)
-no_name name files options not_go not_build not_link not_run not_mean not_dump not_plan _ (run image run_options is one asks) = not_run (ap (λ o. unwrap_or o name) is)
-no_name name files options not_go not_build not_link not_run not_mean not_dump not_plan _ (mean mean_options is some asks) = not_mean (ap (λ o. unwrap_or o name) is)
-no_name name files options not_go not_build not_link not_run not_mean not_dump not_plan _ (dump file is one asks) = not_dump (ap (λ o. unwrap_or o name) is)
-no_name name files options not_go not_build not_link not_run not_mean not_dump not_plan _ (plan file is one asks) = not_plan (ap (λ o. unwrap_or o name) is)
+no_name name files options not_go not_build not_link not_run not_mean not_dump not_plan _ (go run_options is some asks) = not_go
+    (ap (λ o. unwrap_or o name) is)
+no_name name files options not_go not_build not_link not_run not_mean not_dump not_plan _ (build out is some asks) = not_build
+    (ap (λ o. unwrap_or o name) is)
+no_name name files options not_go not_build not_link not_run not_mean not_dump not_plan _ (link out is some asks) = not_link
+    (ap (λ o. unwrap_or o name) is)
+no_name name files options not_go not_build not_link not_run not_mean not_dump not_plan _ (run image run_options is one asks) = not_run
+    (ap (λ o. unwrap_or o name) is)
+no_name name files options not_go not_build not_link not_run not_mean not_dump not_plan _ (mean mean_options is some asks) = not_mean
+    (ap (λ o. unwrap_or o name) is)
+no_name name files options not_go not_build not_link not_run not_mean not_dump not_plan _ (dump file is one asks) = not_dump
+    (ap (λ o. unwrap_or o name) is)
+no_name name files options not_go not_build not_link not_run not_mean not_dump not_plan _ (plan file is one asks) = not_plan
+    (ap (λ o. unwrap_or o name) is)
 
 -- no name
 none≢some : (name : List ℕ) → None ≡ Some name → ⊥
 none≢some name e = true≢false (sym (ap is_some e))
 
-pub no_command : (files : List (List ℕ)) (options : Options) (job : Job) → ¬ Asks (record { command = None; files = files; options = options }) job
+pub no_command : (files : List (List ℕ)) (options : Options) (job : Job)
+    → ¬ Asks (record { command = None; files = files; options = options }) job
 no_command files options _ (go run_options is some asks) = none≢some _ is
 no_command files options _ (build out is some asks) = none≢some _ is
 no_command files options _ (link out is some asks) = none≢some _ is

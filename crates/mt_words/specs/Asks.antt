@@ -1,4 +1,5 @@
--- The table of the commands: how many files each has, which options it lists, and the job that it asks for. An option that a command does not list is not given.
+-- The table of the commands: how many files each has, which options it lists, and the job that it asks for. An option that a command does
+-- not list is not given.
 use Rattle.std.specs.Prelude.{◌≡◌, ◌≤◌, List, ℕ, [], ◌∷◌, Option, Some, None, codes, length}
 use Rattle.mt_words.specs.Jobs.{RunOptions, MeanOptions, Job, Go, Build, Link, Run, Mean, Dump, Plan}
 use Rattle.mt_words.specs.Numbers.{AreChoices, IsCount, IsStack, OrDefault, default_choices, default_count, default_stack}

@@ -1,6 +1,6 @@
--- The simple command as which `clap` reads the words after the program's name, and what it finds in them. The words `App`, `Rule`, `Row`, `first_of`,
--- `all_of`, `matches_of` and `fault_of` are clap's own: the command, an argument, the entry of an argument, its first value (`get_str`), its values
--- (`get_raw`), the entries of a parse, and the kinds of error that it may give.
+-- The simple command as which `clap` reads the words after the program's name, and what it finds in them. The words `App`, `Rule`, `Row`,
+-- `first_of`, `all_of`, `matches_of` and `fault_of` are clap's own: the command, an argument, the entry of an argument, its first value
+-- (`get_str`), its values (`get_raw`), the entries of a parse, and the kinds of error that it may give.
 use Rattle.std.specs.Prelude.{◌≡◌, ℕ, List, [], Option, Some, true, codes, unwrap_or}
 use Rattle.clap.specs.Lexer.{usize_max}
 use Rattle.clap.specs.Walk.{Row, Rule, all_of, first_of}

@@ -33,7 +33,8 @@ use Rattle.c_types.specs.Functions.{result_type, head_rules, main_form, main_nam
 use Rattle.c_types.specs.Structs.{member, member_type, members}
 use Rattle.c_types.specs.Units.{Judgement, start, with_outcome, with_names, object_declared, function_declared}
 use Rattle.c_types.specs.Units.{with_tag, with_body, with_members, struct_judged, misfits, extern_rules, object_judged}
-use Rattle.c_types.specs.Units.{objects_judged, parameters_in, head_judged, with_function, function_judged, part_judged, parts_judged, judged}
+use Rattle.c_types.specs.Units.{objects_judged, parameters_in, head_judged, with_function, function_judged, part_judged, parts_judged,
+    judged}
 use Rattle.c_types.specs.WellTyped.{FirstBroken}
 use Rattle.c_types.specs.Laws.QuietRows.{of_rule, Quiet, broken_rules, rules_joined, on_quiet, whole_quiet}
 use Rattle.c_types.specs.Laws.QuietLaws.{written_quiet}
@@ -117,7 +118,8 @@ object_rules_are names c j d so_far =
     rules_joined (before ++ i.faults) (extern_rules c (init_of d) ++ own) begun
     (rules_joined (extern_rules c (init_of d)) own apart (file_object d.span agrees other j.env.structs t.known))
 
-objects_rules : (names : FileNames) (c : Storage) (j : Judgement) (ds : List Decl) → BreaksRules j → BreaksRules (objects_judged names c j ds)
+objects_rules : (names : FileNames) (c : Storage) (j : Judgement) (ds : List Decl) → BreaksRules j
+    → BreaksRules (objects_judged names c j ds)
 objects_rules names c j [] so_far = so_far
 objects_rules names c j (d ∷ ds) so_far = objects_rules names c (object_judged names c j d) ds (object_rules_are names c j d so_far)
 

@@ -32,7 +32,8 @@ first_in : List (List ℕ) → List ℕ
 first_in [] = []
 first_in (file ∷ files) = file
 
-choices_same : (given : Option (List ℕ)) (choices : List ℕ) → OrDefault AreChoices default_choices given choices → choices_in given ≡ choices
+choices_same : (given : Option (List ℕ)) (choices : List ℕ) → OrDefault AreChoices default_choices given choices → choices_in given
+    ≡ choices
 unfolding choices_in
 choices_same None choices is = sym is
 choices_same (Some digits) choices is = sym is.values

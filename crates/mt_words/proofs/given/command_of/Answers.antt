@@ -7,7 +7,8 @@ use Rattle.mt_words.proofs.given.command_of.Goals as goal
 with_option : List ℕ → App → App
 with_option name a = with_rule a (option_argument name)
 
-whole : (run out all : App) → run ≡ with_run_options → out ≡ with_option (codes "out") run → all ≡ with_option (codes "work") out → all ≡ mtcc
+whole : (run out all : App) → run ≡ with_run_options → out ≡ with_option (codes "out") run → all ≡ with_option (codes "work") out → all
+    ≡ mtcc
 unfolding mtcc with_option
 whole run out all first second third = third ∙ ap (with_option (codes "work")) (second ∙ ap (with_option (codes "out")) first)
 

@@ -7,13 +7,15 @@ pub returns-in-go : goal.returns-in-go
 returns-in-go c = subst (λ name. IfOk c.go.result (Finds (given_as name c.args.files.items c.args.options))) (sym c.in-go.is) c.go.ensures
 
 pub returns-in-build : goal.returns-in-build
-returns-in-build c = subst (λ name. Finds (given_as name c.args.files.items c.args.options) c.build.result) (sym c.in-build.is) c.build.ensures
+returns-in-build c = subst (λ name. Finds (given_as name c.args.files.items c.args.options) c.build.result) (sym c.in-build.is)
+    c.build.ensures
 
 pub returns-in-link : goal.returns-in-link
 returns-in-link c = subst (λ name. Finds (given_as name c.args.files.items c.args.options) c.link.result) (sym c.in-link.is) c.link.ensures
 
 pub returns-in-run : goal.returns-in-run
-returns-in-run c = subst (λ name. IfOk c.run.result (Finds (given_as name c.args.files.items c.args.options))) (sym c.in-run.is) c.run.ensures
+returns-in-run c = subst (λ name. IfOk c.run.result (Finds (given_as name c.args.files.items c.args.options))) (sym c.in-run.is)
+    c.run.ensures
 
 pub returns-in-mean : goal.returns-in-mean
 returns-in-mean c = subst (λ name. Finds (given_as name c.args.files.items c.args.options) c.mean.result) (sym c.in-mean.is) c.mean.ensures
@@ -28,5 +30,6 @@ pub returns : goal.returns
 returns c =
     record {
       some = tt;
-      none = no_name c.args.command.now _ _ c.in_default.not-go c.in_default.not-build c.in_default.not-link c.in_default.not-run c.in_default.not-mean c.in_default.not-dump c.in_default.not-plan;
+      none = no_name c.args.command.now _ _ c.in_default.not-go c.in_default.not-build c.in_default.not-link c.in_default.not-run
+          c.in_default.not-mean c.in_default.not-dump c.in_default.not-plan;
     }

@@ -39,7 +39,8 @@ loop-done-preserved c =
       mapped =
           every_byte-add (is_mapped (extents c.args.regions.now)) c.args.at c.loop-done.done n
           ∙ ap₂ (λ x y. x && y) c.loop-done.invariant.mapped
-          (run_mapped (extents c.args.regions.now) c.args.numbers.now (c.args.at + c.loop-done.done) n part found c.room-done.ensures.within);
+          (run_mapped (extents c.args.regions.now) c.args.numbers.now (c.args.at + c.loop-done.done) n part found
+              c.room-done.ensures.within);
       writable =
           not-and c.loop-done.writable part.writable
           ∙ ap₂ (λ x y. x || y) c.loop-done.invariant.writable
