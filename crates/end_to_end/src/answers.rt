@@ -1,8 +1,8 @@
 // How a call ends with each answer. No program that can be built today ends in some of these ways.
 use crate::calls::shown;
-use c_ast::Name;
 use c_lex::LexRefusal;
 use c_parse::ParseRefusal;
+use elf_base::Name;
 use mt_base::Tag;
 use mt_outside::MemSink;
 use mt_pipeline::{Answer, CompileRefusal, LinkRefusal, NoWords, end_without_words, finish};

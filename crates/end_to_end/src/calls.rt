@@ -111,3 +111,17 @@ pub fn held(alloc: Global, files: &mut MemFiles, row: &str) -> Result<String, Al
         _ => String::from_str(alloc, "not read"),
     }
 }
+
+/// Whether the files of these two names hold the same bytes.
+pub fn are_same(alloc: Global, files: &mut MemFiles, row: &str) -> Result<String, AllocError> {
+    let words = words_of(alloc, row)?;
+    let [first, second] = words.as_slice() else {
+        return String::from_str(alloc, "no names");
+    };
+    let answer = match (files.read(alloc, first), files.read(alloc, second)) {
+        (ReadAnswer::Got(bytes), ReadAnswer::Got(others)) if bytes == others => "yes",
+        (ReadAnswer::Got(_), ReadAnswer::Got(_)) => "no",
+        _ => "not read",
+    };
+    String::from_str(alloc, answer)
+}

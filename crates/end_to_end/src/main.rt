@@ -5,6 +5,7 @@
 //!     call "WORD" .. => ENDED               a call of the program with these words
 //!     mute "WORD" .. => ENDED               the same, and the error sink fails at once
 //!     holds "NAME" => "TEXT"                what a file holds
+//!     same "NAME" "NAME" => yes             whether two files hold the same bytes
 //!     build "TEXT" .. => ANSWER             the call `build` of these texts
 //!     cuts N+M "TEXT" => I-J: END, ..       runs of a text's image, cut or filled up to M lengths from N on
 //!     flips BITS N+M "TEXT" => I-J: END, .. runs with these bits of M bytes, from N on, changed in turn
@@ -13,7 +14,7 @@
 //! A call ends with a status, the reason for it, and what it put on the output and on the error sink. Of images that are
 //! cut or changed, those from I to J that end the same are told together: END is `cut` where the image is
 //! Truncated, the number and the place of another refusal, or the status and the reason. What is expected of these comes
-//! from `tools/run_rows.py`, and all else was found by hand.
+//! from `tools/run_rows.py`, the section of `link` from `tools/link_calls.py`, and all else was found by hand.
 #![tactic(auto)]
 
 mod answers;
@@ -51,6 +52,7 @@ fn answer(alloc: Global, files: &mut MemFiles, question: &str) -> Result<String,
         "call" => calls::call_of(alloc, files, rest, false),
         "mute" => calls::call_of(alloc, files, rest, true),
         "holds" => calls::held(alloc, files, rest),
+        "same" => calls::are_same(alloc, files, rest),
         "build" => texts::built(alloc, rest),
         "cuts" => images::cuts(alloc, rest),
         "flips" => images::flips(alloc, rest),

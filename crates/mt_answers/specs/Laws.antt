@@ -3,3 +3,4 @@ pub mod SameBytes
 pub mod Written
 pub mod Counts
 pub mod StatusLaws
+pub mod Answering

@@ -4,13 +4,15 @@ use Rattle.mt_compile.specs.Causes.{without_place}
 use Rattle.mt_compile.specs.declared.refused.Refused.{Refused}
 use Rattle.mt_compile.specs.declared.refusal.CompileRefusal.{CompileRefusal}
 use Rattle.mt_compile.specs.declared.refusal.CompileRefusal.TheVariants as compile
+use Rattle.elf_obj.specs.declared.refusal.ObjectRefusal.{ObjectRefusal}
+use Rattle.elf_obj.specs.declared.refusal.ObjectRefusal.TheVariants as object
 use Rattle.mt_answers.specs.Each.{file_number}
 use Rattle.mt_answers.specs.declared.answer.Answer.{Answer}
 use Rattle.mt_answers.specs.declared.answer.Answer.TheVariants as answer
 use Rattle.mt_answers.specs.declared.refusal.BuildRefusal.{BuildRefusal}
 use Rattle.mt_answers.specs.declared.refusal.BuildRefusal.TheVariants as build
-use Rattle.mt_answers.specs.declared.refusal.LinkRefusal.{LinkRefusal}
-use Rattle.mt_answers.specs.declared.refusal.LinkRefusal.TheVariants as link
+use Rattle.linker.specs.declared.refusal.LinkRefusal.{LinkRefusal}
+use Rattle.linker.specs.declared.refusal.LinkRefusal.TheVariants as link
 
 -- the text of this number is refused so, at this byte
 abbrev pub of_source : ℕ → CompileRefusal → ℕ → Refused BuildRefusal
@@ -32,10 +34,16 @@ abbrev pub answer_to_link : LinkRefusal → Answer
 answer_to_link link.NoMemory = answer.NoMemory
 answer_to_link refusal = answer.Link refusal
 
+-- the answer where the file with this number is no object's
+abbrev pub answer_to_object : ℕ → ObjectRefusal → Answer
+answer_to_object number object.NoMemory = answer.NoMemory
+answer_to_object number refusal = answer.BadObject number refusal
+
 -- the number of the file that an answer names, 0 where it names none
 abbrev pub file_in : Answer → ℕ
 file_in (answer.Refused file place refusal) = file
 file_in (answer.NoFile file) = file
+file_in (answer.BadObject file refusal) = file
 file_in (answer.BadImage file refusal) = file
 file_in (answer.BadDump file refusal) = file
 file_in (answer.WriteFault file) = file

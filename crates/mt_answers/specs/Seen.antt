@@ -2,7 +2,7 @@
 use Rattle.std.specs.Prelude.{◌≡◌, ℕ, List, Option, Some, IfSome}
 use Rattle.std.specs.Option.{option_and_then}
 use Rattle.mt_outside.specs.Told.{Rose, WhereTold}
-use Rattle.mt_outside.specs.Files.{Contents}
+use Rattle.mt_outside.specs.Files.{Contents, OthersStay}
 use Rattle.mt_outside.specs.declared.files.Files.{Ghosts as FilesGhosts}
 use Rattle.mte_machine.specs.Objects.{Objects}
 
@@ -45,6 +45,10 @@ WriteFailed before after = Rose before.write_faults after.write_faults
 -- every file holds what it held
 abbrev pub SameFiles : FilesSeen → FilesSeen → Type 0
 SameFiles before after = WhereTold before.told after.told (λ old new. (file : List ℕ) → new file ≡ old file)
+
+-- the file `out` holds these bytes, and all others what they held
+abbrev pub Writes : List ℕ → List ℕ → FilesSeen → FilesSeen → Type 0
+Writes out bytes before after = WhereTold before.told after.told (λ old new. (new out ≡ Some bytes) × OthersStay out old new)
 
 -- ---- all of it
 

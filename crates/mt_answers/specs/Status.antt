@@ -3,6 +3,7 @@
 use Rattle.std.specs.Prelude.{ℕ}
 use Rattle.a64_code.specs.declared.end.MachineEnd.{MachineEnd}
 use Rattle.a64_code.specs.declared.end.MachineEnd.TheVariants as end
+use Rattle.linker.specs.Refusal.{number_of as link_number}
 use Rattle.elf_image.specs.Refusal.{number_of as image_number, place_of as image_place}
 use Rattle.tag_startup.specs.Refusal.{number_of as start_number, place_of as start_place}
 use Rattle.mt_answers.specs.declared.ended.Ended.{Ended}
@@ -13,8 +14,6 @@ use Rattle.mt_answers.specs.declared.ended.Why.TheVariants.{TagFault, MemoryFaul
 use Rattle.mt_compile.specs.Refused.{number_of as compile_number}
 use Rattle.mt_answers.specs.declared.refusal.BuildRefusal.{BuildRefusal}
 use Rattle.mt_answers.specs.declared.refusal.BuildRefusal.TheVariants as build
-use Rattle.mt_answers.specs.declared.refusal.LinkRefusal.{LinkRefusal}
-use Rattle.mt_answers.specs.declared.refusal.LinkRefusal.TheVariants as link
 use Rattle.mt_answers.specs.declared.refusal.RunRefusal.{RunRefusal}
 use Rattle.mt_answers.specs.declared.refusal.RunRefusal.TheVariants as run
 
@@ -87,12 +86,6 @@ ComesBeforeRun (ReadFault file) = Unit {0}
 ComesBeforeRun _ = ⊥
 
 -- ---- the refusals of a link, of a build and of a run; want of memory, which is no refusal, has the number and the place 0
-
-abbrev pub link_number : LinkRefusal → ℕ
-link_number (link.TooManyObjects count) = 41
-link_number (link.Duplicate name) = 39
-link_number link.NoMain = 40
-link_number link.NoMemory = 0
 
 abbrev pub build_number : BuildRefusal → ℕ
 build_number (build.Compile file refusal) = compile_number refusal

@@ -1,10 +1,12 @@
 // What a command answers.
 ghost use Rattle.std.specs.Prelude.{◌≡◌};
 ghost use Rattle.mt_answers.specs.Answer.{ended_of};
-ghost use Rattle.mt_answers.specs.Refusals.{answer_to_link, answer_to_source, file_in};
+ghost use Rattle.mt_answers.specs.Refusals.{answer_to_link, answer_to_object, answer_to_source, file_in};
 
 use crate::ended::{Ended, Why};
-use crate::refusal::{LinkRefusal, RunRefusal};
+use crate::refusal::RunRefusal;
+use elf_obj::ObjectRefusal;
+use linker::LinkRefusal;
 use memtag_dump::DumpRefusal;
 use mt_compile::{CompileRefusal, Refused};
 use mte_machine::MachineEnd;
@@ -29,8 +31,13 @@ pub enum Answer {
     NoFile {
         file: u32,
     },
-    /// The code of the sources is not linked.
+    /// The code of the sources, or the objects, are not linked.
     Link(LinkRefusal),
+    /// The refusal of an object.
+    BadObject {
+        file: u32,
+        refusal: ObjectRefusal,
+    },
     /// The refusal of an image.
     BadImage {
         file: u32,
@@ -81,6 +88,19 @@ impl Answer {
         }
     }
 
+    /// What is answered where the file with this number is no object's.
+    pub fn of_object(number: u32, refusal: ObjectRefusal) -> Answer
+        ensures { result ≡ answer_to_object number refusal }
+    {
+        match refusal {
+            ObjectRefusal::NoMemory => Answer::NoMemory,
+            refusal => Answer::BadObject {
+                file: number,
+                refusal,
+            },
+        }
+    }
+
     /// The number of the file that this answer names, 0 where it names none.
     pub fn file(&self) -> u32
         ensures { result ≡ file_in self.now }
@@ -88,6 +108,7 @@ impl Answer {
         match self {
             Answer::Refused { file, .. }
             | Answer::NoFile { file }
+            | Answer::BadObject { file, .. }
             | Answer::BadImage { file, .. }
             | Answer::BadDump { file, .. }
             | Answer::WriteFault { file }
@@ -121,6 +142,11 @@ impl Answer {
             Answer::NoFile { file } => Why::NoFile { file: *file },
             Answer::Link(refusal) => Why::Link {
                 number: refusal.number(),
+            },
+            Answer::BadObject { file, refusal } => Why::BadImage {
+                file: *file,
+                number: refusal.number(),
+                place: refusal.place(),
             },
             Answer::BadImage { file, refusal } => Why::BadImage {
                 file: *file,

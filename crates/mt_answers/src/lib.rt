@@ -14,5 +14,5 @@ pub use each::{Stage, make_each};
 pub use ended::{Ended, Why};
 pub use put::put_bytes;
 pub use read::read_file;
-pub use refusal::{BuildRefusal, LinkRefusal, RunRefusal};
+pub use refusal::{BuildRefusal, RunRefusal};
 pub use report::finish;

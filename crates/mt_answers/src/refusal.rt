@@ -1,56 +1,14 @@
 // Why texts are not built, and why an image does not run.
 ghost use Rattle.std.specs.Prelude.{◌≡◌};
 ghost use Rattle.mt_answers.specs.declared.refusal.BuildRefusal.TheVariants.{NoMemory as BuildNoMemory};
-ghost use Rattle.mt_answers.specs.declared.refusal.LinkRefusal.TheVariants.{NoMemory as LinkNoMemory};
 
 use crate::answer::Answer;
-use c_ast::Name;
 use elf_image::ImageRefusal;
+use linker::LinkRefusal;
 use mt_compile::{CompileRefusal, Refused};
 use std::alloc::AllocError;
 use tag_startup::StartRefusal;
 use thiserror::Error;
-
-/// Why code is not linked.
-#[derive(Debug, Drop, Error)]
-pub enum LinkRefusal {
-    /// There is code of more than 16 texts, of so many.
-    #[error("TooManyObjects")]
-    TooManyObjects { count: u64 },
-    /// Two texts define this name.
-    #[error("Duplicate")]
-    Duplicate { name: Name },
-    /// No text defines a function `main`.
-    #[error("NoMain")]
-    NoMain,
-    /// Want of memory.
-    #[error("NoMemory")]
-    NoMemory,
-}
-
-impl LinkRefusal {
-    ghost use Rattle.mt_answers.specs.Status.{link_number};
-
-    /// The refusal's number, and 0 for want of memory.
-    pub fn number(&self) -> u8
-        ensures { result ≡ link_number self.now }
-    {
-        match self {
-            LinkRefusal::TooManyObjects { .. } => 41,
-            LinkRefusal::Duplicate { .. } => 39,
-            LinkRefusal::NoMain => 40,
-            LinkRefusal::NoMemory => 0,
-        }
-    }
-}
-
-impl From<AllocError> for LinkRefusal {
-    ghost from_gives = { λ _ refusal. refusal ≡ LinkNoMemory };
-
-    fn from(_: AllocError) -> LinkRefusal {
-        LinkRefusal::NoMemory
-    }
-}
 
 /// Why texts are not built. A refusal inside is never the want of memory.
 #[derive(Debug, Drop, Error)]

@@ -5,10 +5,12 @@ ghost use Rattle.mt_answers.specs.Status.{HasNoLine, ended_by, status_of};
 
 use crate::answer::Answer;
 use crate::ended::Ended;
-use crate::refusal::{LinkRefusal, RunRefusal};
+use crate::refusal::RunRefusal;
 use c_lex::LexRefusal;
 use elf_image::ImageRefusal;
+use elf_obj::ObjectRefusal;
 use frame_plan::PlanRefusal;
+use linker::LinkRefusal;
 use memtag_dump::DumpRefusal;
 use mt_compile::CompileRefusal;
 use mt_outside::{PutAnswer, Sink};
@@ -81,15 +83,32 @@ fn report_refusal<E: Sink>(
     }
 }
 
-// Puts the line of code that is not linked, with the name that is defined twice.
+// Puts the line of code that is not linked, with the name that is defined twice or not at all.
 fn report_link<E: Sink>(line: &mut Line<'_, E>, refusal: &LinkRefusal) -> fmt::Result {
     match refusal {
-        LinkRefusal::Duplicate { name } => {
+        LinkRefusal::Duplicate { name } | LinkRefusal::Undefined { name } => {
             write!(line, "mtcc: {refusal} ")?;
             line.put(name.as_slice())?;
             write!(line, "\n")
         }
         _ => write!(line, "mtcc: {refusal}\n"),
+    }
+}
+
+// Puts the line of a file that is no object's, which leaves out the place where the refusal names none.
+fn report_object<E: Sink>(
+    line: &mut Line<'_, E>,
+    file: &str,
+    refusal: &ObjectRefusal,
+) -> fmt::Result {
+    match refusal {
+        ObjectRefusal::NotElf | ObjectRefusal::NotThisMachine => {
+            write!(line, "mtcc: {file}: {refusal}\n")
+        }
+        _ => {
+            let place = refusal.place();
+            write!(line, "mtcc: {file}: {refusal} {place}\n")
+        }
     }
 }
 
@@ -150,6 +169,7 @@ fn report<E: Sink>(err: &mut E, file: &str, answer: &Answer)
         Answer::Refused { place, refusal, .. } => report_refusal(&mut line, file, *place, refusal),
         Answer::NoFile { .. } => write!(line, "mtcc: {file}: no such file\n"),
         Answer::Link(refusal) => report_link(&mut line, refusal),
+        Answer::BadObject { refusal, .. } => report_object(&mut line, file, refusal),
         Answer::BadImage { refusal, .. } => report_run(&mut line, file, refusal),
         Answer::BadDump { refusal, .. } => report_dump(&mut line, file, refusal),
         Answer::NoMemory => write!(line, "mtcc: out of memory\n"),

@@ -9,8 +9,8 @@ use Rattle.mt_pipeline.specs.Built.{AreCompiled, RefusesLink, too_many, twice, n
 use Rattle.mt_answers.specs.Refusals.{of_source, of_link}
 use Rattle.mt_pipeline.specs.Unbuilt.{IsCause}
 use Rattle.mt_answers.specs.declared.refusal.BuildRefusal.TheVariants as build
-use Rattle.mt_answers.specs.declared.refusal.LinkRefusal.{LinkRefusal}
-use Rattle.mt_answers.specs.declared.refusal.LinkRefusal.TheVariants as linking
+use Rattle.linker.specs.declared.refusal.LinkRefusal.{LinkRefusal}
+use Rattle.linker.specs.declared.refusal.LinkRefusal.TheVariants as linking
 
 -- ---- of the build
 

@@ -18,8 +18,7 @@ use Rattle.mt_answers.specs.Status.{ends}
 use Rattle.mt_answers.specs.declared.ended.Ended.{Ended}
 use Rattle.mt_answers.specs.declared.ended.Why.TheVariants.{Done, BadImage, NoMemory, Usage}
 use Rattle.mt_answers.specs.Laws.SameBytes.{same_bytes, not_unread}
-use Rattle.mt_pipeline.proofs.SourceCauses.{answered}
-use Rattle.mt_pipeline.proofs.Statuses.{unread_not_usage}
+use Rattle.mt_answers.specs.Laws.Answering.{answered, unread_not_usage}
 
 module _ {K : Type 0} (file : List ℕ) (before after : FilesSeen) (out now : Output K) where
   dump_prints : {ended : Ended} → CauseOfDump file (with_output before out) (with_output after now) ended → (bytes text : List ℕ) →

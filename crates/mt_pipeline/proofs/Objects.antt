@@ -8,7 +8,7 @@ use Rattle.mt_compile.specs.declared.refusal.CompileRefusal.{CompileRefusal}
 use Rattle.mt_compile.specs.declared.refused.Refused.{Refused}
 use Rattle.mt_compile.specs.declared.source.SourceText.{SourceText}
 use Rattle.mt_pipeline.specs.Built.{AreCompiled, RefusesLink, too_many, twice, no_main, texts_of}
-use Rattle.mt_answers.specs.declared.refusal.LinkRefusal.TheVariants.{TooManyObjects, Duplicate, NoMain}
+use Rattle.linker.specs.declared.refusal.LinkRefusal.TheVariants.{TooManyObjects, Duplicate, NoMain}
 use Rattle.mt_answers.specs.Refusals.{of_source}
 use Rattle.mt_pipeline.specs.Unbuilt.{IsCause}
 use Rattle.mt_pipeline.specs.Laws.BuiltLaws.{compiled_more}

@@ -18,8 +18,7 @@ use Rattle.mt_answers.specs.Status.{ends}
 use Rattle.mt_answers.specs.declared.ended.Ended.{Ended}
 use Rattle.mt_answers.specs.declared.ended.Why.TheVariants.{Done, Refused, NoMemory, Usage}
 use Rattle.mt_answers.specs.Laws.SameBytes.{same_bytes, not_unread}
-use Rattle.mt_pipeline.proofs.SourceCauses.{answered}
-use Rattle.mt_pipeline.proofs.Statuses.{unread_not_usage}
+use Rattle.mt_answers.specs.Laws.Answering.{answered, unread_not_usage}
 
 -- a text that is refused is refused so
 plan_same : (bytes : List ℕ) (number at byte : ℕ) (refusal : CompileRefusal) → IsPlanRefused bytes number at →

@@ -24,8 +24,8 @@ use Rattle.mt_answers.specs.declared.answer.Answer.{Answer}
 use Rattle.mt_answers.specs.declared.refusal.RunRefusal.{RunRefusal}
 use Rattle.mt_answers.specs.declared.refusal.RunRefusal.TheVariants as run
 use Rattle.mt_answers.specs.Laws.SameBytes.{same_bytes, not_unread}
-use Rattle.mt_pipeline.proofs.SourceCauses.{answered}
-use Rattle.mt_pipeline.proofs.Statuses.{exits_late, ran_after, ran_not_usage, unread_not_usage}
+use Rattle.mt_answers.specs.Laws.Answering.{answered, unread_not_usage}
+use Rattle.mt_pipeline.proofs.Statuses.{exits_late, ran_after, ran_not_usage}
 
 module _ {S K : Type 0} (file : List ℕ) (options : RunOptions) (before after : Seen S K) where
   -- it runs, or memory is wanting

@@ -11,16 +11,15 @@ use Rattle.mt_compile.specs.declared.refusal.CompileRefusal.TheVariants as compi
 use Rattle.mt_answers.specs.Answer.{IsAnswerTo, ended_of}
 use Rattle.mt_answers.specs.Counted.{IsReadFault}
 use Rattle.mt_answers.specs.Each.{Hold, AreMadeOf}
+use Rattle.mt_answers.specs.Laws.Answering.{stop_not_usage}
 use Rattle.mt_answers.specs.Laws.EachLaws.{GoesOneWay, one_each, never_stops, one_stop, one_hold}
 use Rattle.mt_answers.specs.Refusals.{answer_to_link, answer_to_source}
 use Rattle.mt_answers.specs.Seen.{FilesSeen, IsTold, ReadFailed}
-use Rattle.mt_answers.specs.Status.{ends, link_number}
-use Rattle.mt_answers.specs.declared.answer.Answer.{Answer}
-use Rattle.mt_answers.specs.declared.ended.Ended.{Ended}
 use Rattle.mt_answers.specs.declared.ended.Why.{Why}
-use Rattle.mt_answers.specs.declared.ended.Why.TheVariants.{Link, Refused, Usage, NoMemory}
-use Rattle.mt_answers.specs.declared.refusal.LinkRefusal.{LinkRefusal}
-use Rattle.mt_answers.specs.declared.refusal.LinkRefusal.TheVariants as link
+use Rattle.mt_answers.specs.declared.ended.Why.TheVariants.{Link, Refused, Usage}
+use Rattle.linker.specs.Refusal.{number_of as link_number}
+use Rattle.linker.specs.declared.refusal.LinkRefusal.{LinkRefusal}
+use Rattle.linker.specs.declared.refusal.LinkRefusal.TheVariants as link
 use Rattle.mt_pipeline.specs.Agrees.{Return}
 use Rattle.mt_pipeline.specs.Built.{AreCompiled, Builds, Linked, RefusesLink, too_many, twice, no_main}
 use Rattle.mt_pipeline.specs.Laws.BuiltLaws.{of_constant, only_constant}
@@ -28,7 +27,6 @@ use Rattle.mt_pipeline.specs.Laws.OneBuild.{compiling}
 use Rattle.mt_pipeline.specs.Laws.OneLink.{linking, link_gives, link_stops}
 use Rattle.mt_pipeline.specs.Sources.{RefusesSource, source, compiled, IsBuiltOf, NotBuilt, no_code, no_link}
 use Rattle.mt_pipeline.proofs.BuiltRuns.{linked_builds}
-use Rattle.mt_pipeline.proofs.Statuses.{stop_not_usage}
 
 -- ---- one source
 
@@ -140,18 +138,6 @@ return_image seen files texts n image told held r is =
     of.is ∙ ap constant_image (sym (only_constant is.texts image n of (subst (λ ts. Return ts n) same r)))
 
 -- ---- answers
-
--- an answer to one cause is an answer to what it leads to
-pub because : {Cause Other : Why → Type 0} {answer : Answer} → ((why : Why) → Cause why → Other why) → IsAnswerTo Cause answer →
-    IsAnswerTo Other answer
-because leads (inl wanting) = inl wanting
-because leads (inr (why, is, cause)) = inr (why, is, leads why cause)
-
--- what is said of the want of memory and of each cause is said of the answer
-pub answered : (P : Ended → Type 0) (Cause : Why → Type 0) (answer : Answer) → IsAnswerTo Cause answer → P (ends NoMemory) →
-    ((why : Why) → Cause why → P (ends why)) → P (ended_of answer)
-answered P Cause answer (inl wanting) memory each = subst (λ a. P (ended_of a)) (sym wanting) memory
-answered P Cause answer (inr (why, is, cause)) memory each = subst P (sym is) (each why cause)
 
 -- a refusal of a source
 pub source_answer : (number : ℕ) (text : List ℕ) (refusal : CompileRefusal) (place : ℕ) →

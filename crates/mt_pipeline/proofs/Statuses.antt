@@ -1,5 +1,5 @@
 -- The answers to the end of a run, and their reasons.
-use Rattle.std.proofs.Common.{◌≡◌, ◌≤◌, ℕ, suc, List, sym, subst, ap, ◌∙◌}
+use Rattle.std.proofs.Common.{◌≡◌, ◌≤◌, ℕ, sym, subst, ap, ◌∙◌}
 use Rattle.a64_code.specs.declared.end.MachineEnd.{MachineEnd}
 use Rattle.a64_code.specs.declared.end.MachineEnd.TheVariants as end
 use Rattle.elf_image.specs.Image.{Image}
@@ -8,12 +8,8 @@ use Rattle.tag_startup.specs.Machine.{ending}
 use Rattle.mt_pipeline.specs.Agrees.{ExitsAlways}
 use Rattle.mt_words.specs.Jobs.{RunOptions}
 use Rattle.mt_pipeline.specs.Ran.{RunsTo}
-use Rattle.mt_answers.specs.Each.{Step, StopsAt, Stops, unread, refused, here, later, file_number}
-use Rattle.mt_answers.specs.Read.{CauseOfNoBytes, absent, failed}
-use Rattle.mt_answers.specs.Seen.{FilesSeen}
 use Rattle.mt_answers.specs.Status.{ended_by, ended_so, why_of, ComesBeforeRun}
 use Rattle.mt_answers.specs.declared.ended.Ended.{Ended}
-use Rattle.mt_answers.specs.declared.ended.Why.{Why}
 use Rattle.mt_answers.specs.declared.ended.Why.TheVariants.{Exited, Usage}
 
 -- no run ends as a call does that runs nothing
@@ -31,27 +27,6 @@ ran_after end.OutputFault before = before
 
 pub ran_not_usage : (e : MachineEnd) → why_of e ≡ Usage → ⊥
 ran_not_usage e is = ran_after e (subst ComesBeforeRun (sym is) tt)
-
--- a file that was not read is no usage
-pub unread_not_usage : (number : ℕ) (file : List ℕ) (before after : FilesSeen) {why : Why} → CauseOfNoBytes number file before after why →
-    why ≡ Usage → ⊥
-unread_not_usage number file before after (absent none) is = cc
-unread_not_usage number file before after (failed rose) is = cc
-
--- nor is one of which nothing was made, where no refusal is one
-stop_at_not_usage : {B : Type 0} (step : Step B) (before after : FilesSeen) →
-    ((number : ℕ) (bytes : List ℕ) (why : Why) → step.Refuses number bytes why → why ≡ Usage → ⊥) →
-    (number : ℕ) (file : List ℕ) (why : Why) → StopsAt step number file before after why → why ≡ Usage → ⊥
-stop_at_not_usage step before after never number file why (unread cause) is = unread_not_usage number file before after cause is
-stop_at_not_usage step before after never number file why (refused bytes holds refuses) is = never number bytes why refuses is
-
-pub stop_not_usage : {B : Type 0} (step : Step B) (before after : FilesSeen) →
-    ((number : ℕ) (bytes : List ℕ) (why : Why) → step.Refuses number bytes why → why ≡ Usage → ⊥) →
-    (n : ℕ) (files : List (List ℕ)) (why : Why) → Stops step before after n files why → why ≡ Usage → ⊥
-stop_not_usage step before after never n _ why (here {file} stops) is =
-    stop_at_not_usage step before after never (file_number n) file why stops is
-stop_not_usage step before after never n _ why (later {files} made one stops) is =
-    stop_not_usage step before after never (suc n) files why stops is
 
 -- an image that exits always is answered so where three steps may run
 pub exits_late : {S K : Type 0} (image : Image) (status : ℕ) (options : RunOptions) (before after : Objects S K) (ended : Ended) →

@@ -8,6 +8,8 @@ use Rattle.mt_answers.specs.Seen.{FilesSeen, Seen, SameFiles}
 use Rattle.mt_answers.specs.Status.{ends}
 use Rattle.mt_answers.specs.declared.ended.Ended.{Ended}
 use Rattle.mt_answers.specs.declared.ended.Why.TheVariants.{NoMemory, Usage}
+use Rattle.mt_link.specs.Link.{no_memory as link_no_memory}
+use Rattle.mt_link.specs.Laws.LinkLaws.{link_answers}
 use Rattle.mt_words.specs.Jobs.{Job, Go, Build, Link, Run, Mean, Dump, Plan}
 use Rattle.mt_pipeline.specs.Answers.{Answers}
 use Rattle.mt_pipeline.specs.Build.{no_memory as build_no_memory}
@@ -37,7 +39,11 @@ wanting (Build files out) before = record {
       (unwritten before.files before.files (counts before.files));
   silent = refl;
 }
-wanting (Link files out) before = record { usage = inr refl; untouched = refl }
+wanting (Link files out) before = record {
+  writes = link_answers files out before.files before.files _ (link_no_memory (same before.files))
+      (unwritten before.files before.files (counts before.files));
+  silent = refl;
+}
 wanting (Run image options) before =
     run_answers image options before before _ (run_no_memory refl) (λ bytes n holds within is. refl) (same before.files)
     (counts before.files)
@@ -65,7 +71,7 @@ pub not_yet_answers : {S K : Type 0} (job : Job) (before after : Seen S K) (ende
     Answers job before after ended → UsageAnswers before after ended
 not_yet_answers (Go files options) before after ended not answers = absurd not
 not_yet_answers (Build files out) before after ended not answers = absurd not
-not_yet_answers (Link files out) before after ended not answers = answers
+not_yet_answers (Link files out) before after ended not answers = absurd not
 not_yet_answers (Run image options) before after ended not answers = absurd not
 not_yet_answers (Mean files options) before after ended not answers = answers
 not_yet_answers (Dump file) before after ended not answers = absurd not
@@ -75,7 +81,7 @@ pub not_yet_usage : {S K : Type 0} (job : Job) (before : Seen S K) (ended : Ende
     Answers job before before ended
 not_yet_usage (Go files options) before ended not is = absurd not
 not_yet_usage (Build files out) before ended not is = absurd not
-not_yet_usage (Link files out) before ended not is = record { usage = inl is; untouched = refl }
+not_yet_usage (Link files out) before ended not is = absurd not
 not_yet_usage (Run image options) before ended not is = absurd not
 not_yet_usage (Mean files options) before ended not is = record { usage = inl is; untouched = refl }
 not_yet_usage (Dump file) before ended not is = absurd not

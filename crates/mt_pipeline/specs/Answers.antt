@@ -1,6 +1,7 @@
 -- What the driver answers to each job, and what it leaves outside (this project's own).
 use Rattle.mt_answers.specs.Seen.{Seen}
 use Rattle.mt_answers.specs.declared.ended.Ended.{Ended}
+use Rattle.mt_link.specs.Link.{LinkAnswers}
 use Rattle.mt_words.specs.Jobs.{Job, Go, Build, Link, Run, Mean, Dump, Plan}
 use Rattle.mt_pipeline.specs.Build.{BuildAnswers}
 use Rattle.mt_pipeline.specs.Dump.{DumpAnswers}
@@ -12,7 +13,7 @@ use Rattle.mt_pipeline.specs.Usage.{UsageAnswers}
 abbrev pub Answers : {S K : Type 0} → Job → Seen S K → Seen S K → Ended → Type 0
 Answers (Go files options) = GoAnswers files options
 Answers (Build files out) = BuildAnswers files out
-Answers (Link files out) = UsageAnswers
+Answers (Link files out) = LinkAnswers files out
 Answers (Run image options) = RunAnswers image options
 Answers (Mean files options) = UsageAnswers
 Answers (Dump file) = DumpAnswers file

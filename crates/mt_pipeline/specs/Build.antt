@@ -1,22 +1,18 @@
 -- What the command `build` answers, and which file it writes (this project's own).
-use Rattle.std.specs.Prelude.{◌≡◌, ◌⊎◌, ℕ, List, Some}
+use Rattle.std.specs.Prelude.{◌≡◌, ◌⊎◌, ℕ, List}
 use Rattle.mt_outside.specs.Told.{WhereTold}
 use Rattle.mt_outside.specs.Files.{OthersStay}
 use Rattle.elf_image.specs.Image.{Image}
 use Rattle.elf_image.specs.ImageFile.{ImageFile}
 use Rattle.mt_answers.specs.Counted.{Uncounted}
 use Rattle.mt_answers.specs.Each.{Hold}
-use Rattle.mt_answers.specs.Seen.{FilesSeen, Seen, IsTold, ReadFailed, WriteFailed, SameFiles, IsSilent}
+use Rattle.mt_answers.specs.Seen.{FilesSeen, Seen, IsTold, ReadFailed, WriteFailed, SameFiles, IsSilent, Writes}
 use Rattle.mt_answers.specs.Status.{ends}
 use Rattle.mt_answers.specs.declared.ended.Ended.{Ended}
 use Rattle.mt_answers.specs.declared.ended.Why.{Why}
 use Rattle.mt_answers.specs.declared.ended.Why.TheVariants.{Done, NoMemory, WriteFault}
 use Rattle.mt_pipeline.specs.Agrees.{Return}
 use Rattle.mt_pipeline.specs.Sources.{IsBuiltOf, NotBuilt}
-
--- the file `out` holds these bytes, and all others what they held
-abbrev pub Writes : List ℕ → List ℕ → FilesSeen → FilesSeen → Type 0
-Writes out bytes before after = WhereTold before.told after.told (λ old new. (new out ≡ Some bytes) × OthersStay out old new)
 
 -- The answers, each by its cause and what it leaves in the files: they change where the image is written, and at a failed write
 -- the one file that was written is left open.

@@ -10,8 +10,8 @@ use Rattle.mt_answers.specs.Each.{file_number}
 use Rattle.mt_pipeline.specs.Agrees.{Agrees}
 use Rattle.mt_answers.specs.declared.refusal.BuildRefusal.{BuildRefusal}
 use Rattle.mt_answers.specs.declared.refusal.BuildRefusal.TheVariants.{Compile, Link}
-use Rattle.mt_answers.specs.declared.refusal.LinkRefusal.{LinkRefusal}
-use Rattle.mt_answers.specs.declared.refusal.LinkRefusal.TheVariants.{TooManyObjects, Duplicate, NoMain}
+use Rattle.linker.specs.declared.refusal.LinkRefusal.{LinkRefusal}
+use Rattle.linker.specs.declared.refusal.LinkRefusal.TheVariants.{TooManyObjects, Duplicate, NoMain}
 
 -- the bytes of each text
 abbrev pub texts_of : List SourceText → List (List ℕ)

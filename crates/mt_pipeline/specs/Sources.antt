@@ -6,10 +6,10 @@ use Rattle.mt_compile.specs.Refused.{Refuses, number_of}
 use Rattle.mt_compile.specs.declared.refusal.CompileRefusal.{CompileRefusal}
 use Rattle.mt_answers.specs.Each.{Step, AreMadeOf, Stops, Hold}
 use Rattle.mt_answers.specs.Seen.{FilesSeen}
-use Rattle.mt_answers.specs.Status.{link_number}
+use Rattle.linker.specs.Refusal.{number_of as link_number}
 use Rattle.mt_answers.specs.declared.ended.Why.{Why}
 use Rattle.mt_answers.specs.declared.ended.Why.TheVariants.{Refused, Link}
-use Rattle.mt_answers.specs.declared.refusal.LinkRefusal.{LinkRefusal}
+use Rattle.linker.specs.declared.refusal.LinkRefusal.{LinkRefusal}
 use Rattle.mt_pipeline.specs.Built.{Builds, RefusesLink}
 
 -- the source with this number is refused, and its byte is told

@@ -5,11 +5,10 @@ use Rattle.mt_answers.specs.Status.{ends}
 use Rattle.mt_answers.specs.declared.ended.Ended.{Ended}
 use Rattle.mt_answers.specs.declared.ended.Why.TheVariants.{NoMemory, Usage}
 use Rattle.mt_words.specs.HasJob.{HasJob}
-use Rattle.mt_words.specs.Jobs.{Job, Link, Mean}
+use Rattle.mt_words.specs.Jobs.{Job, Mean}
 
 -- a job that no command does yet
 abbrev pub IsNotYet : Job → Type 0
-IsNotYet (Link files out) = Unit {0}
 IsNotYet (Mean files options) = Unit {0}
 IsNotYet _ = ⊥
 

@@ -5,10 +5,10 @@ ghost use Rattle.mt_pipeline.specs.Agrees.{Return};
 ghost use Rattle.mt_pipeline.specs.Built.{AreCompiled, Builds, IsBuilt, Linked, RefusesLink, RefusesTexts, texts_of};
 ghost use Rattle.mt_pipeline.specs.Unbuilt.{IsCause};
 
-use c_ast::Name;
-use elf_base::Bytes;
+use elf_base::{Bytes, Name};
 use elf_image::{ImageParts, write_image};
-use mt_answers::{BuildRefusal, LinkRefusal};
+use linker::LinkRefusal;
+use mt_answers::BuildRefusal;
 use mt_compile::{Refused, SourceText, compile};
 use std::alloc::Global;
 

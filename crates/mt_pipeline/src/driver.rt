@@ -19,6 +19,7 @@ use crate::plan::plan_file;
 use crate::run::run_file;
 use crate::write::write_built;
 use mt_answers::{Answer, Ended, Why, finish};
+use mt_link::write_linked;
 use mt_outside::{Files, Sink, Source};
 use mt_words::{Job, job_of};
 use std::alloc::Global;
@@ -78,7 +79,11 @@ fn finish_job<F: Files, S: Source, K: Sink, E: Sink>(
         Job::Build {
             files: names,
             out: image,
-        } => finish_build(err, names, image, write_built(alloc, names, image, files)),
+        } => finish_image(err, names, image, write_built(alloc, names, image, files)),
+        Job::Link {
+            files: names,
+            out: image,
+        } => finish_image(err, names, image, write_linked(alloc, names, image, files)),
         Job::Run { image, options } => {
             finish(
                 err,
@@ -88,12 +93,12 @@ fn finish_job<F: Files, S: Source, K: Sink, E: Sink>(
         }
         Job::Dump { file } => finish(err, &[*file], dump_file(alloc, file, files, out)),
         Job::Plan { file } => finish(err, &[*file], plan_file(alloc, file, files, out)),
-        Job::Link { .. } | Job::Mean { .. } => finish(err, &[], Answer::Usage),
+        Job::Mean { .. } => finish(err, &[], Answer::Usage),
     }
 }
 
-// The same of an answer of `build`, whose line names the image where it could not be written.
-fn finish_build<E: Sink>(err: &mut E, names: &[&str], image: &str, answer: Answer) -> Ended
+// The same of an answer of `build` or `link`, whose line names the image where it could not be written.
+fn finish_image<E: Sink>(err: &mut E, names: &[&str], image: &str, answer: Answer) -> Ended
     ensures ended { result ≡ ended_of answer }
     ensures status { result.status ≡ status_of result.status result.why }
     ensures quiet { HasNoLine result.why → err.new ≡ err.old }

@@ -13,6 +13,7 @@ mod write;
 
 pub use builder::build;
 pub use driver::{NoWords, drive, end_without_words};
-pub use mt_answers::{Answer, BuildRefusal, Ended, LinkRefusal, RunRefusal, Why, finish};
+pub use linker::LinkRefusal;
+pub use mt_answers::{Answer, BuildRefusal, Ended, RunRefusal, Why, finish};
 pub use mt_compile::{CompileRefusal, Refused, SourceText};
 pub use runner::run_image;

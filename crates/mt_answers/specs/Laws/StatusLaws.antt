@@ -30,6 +30,7 @@ answer_status answer.Usage = refl
 answer_status (answer.Refused file place refusal) = refl
 answer_status (answer.NoFile file) = refl
 answer_status (answer.Link refusal) = refl
+answer_status (answer.BadObject file refusal) = refl
 answer_status (answer.BadImage file refusal) = refl
 answer_status (answer.BadDump file refusal) = refl
 answer_status answer.NoMemory = refl

@@ -4,8 +4,8 @@ use Rattle.std.specs.Prelude.{codes}
 use Rattle.elf_image.specs.Image.{Image}
 use Rattle.mt_compile.specs.Laws.OneWay.{OneWay, GoesOn, Stops, at_first, behind, in_turn, Fails, check}
 use Rattle.mt_pipeline.specs.Built.{Linked, RefusesLink, too_many, twice, no_main, image_with, most_objects}
-use Rattle.mt_answers.specs.declared.refusal.LinkRefusal.{LinkRefusal}
-use Rattle.mt_answers.specs.declared.refusal.LinkRefusal.TheVariants.{TooManyObjects, Duplicate, NoMain}
+use Rattle.linker.specs.declared.refusal.LinkRefusal.{LinkRefusal}
+use Rattle.linker.specs.declared.refusal.LinkRefusal.TheVariants.{TooManyObjects, Duplicate, NoMain}
 
 module _ (objects : List (List ℕ)) where
   -- they are not too many, then not several, and then there is one

@@ -5,6 +5,8 @@ use Rattle.mt_answers.specs.Each.{names_of}
 use Rattle.mt_answers.specs.Seen.{seen, files_seen}
 use Rattle.mt_answers.specs.declared.ended.Ended.{Ended}
 use Rattle.mt_answers.specs.declared.ended.Why.TheVariants.{Usage}
+use Rattle.mt_link.specs.Link.{LinkAnswers, WritesLinked}
+use Rattle.mt_link.specs.Laws.LinkLaws.{link_not_usage}
 use Rattle.mt_words.specs.Jobs.{Dump, Plan}
 use Rattle.mt_words.specs.Laws.Formed.{IsFormed}
 use Rattle.mt_words.specs.Model.{job_is, run_options}
@@ -46,8 +48,20 @@ returns-in-Build-clause-answers g c =
     let done = subst
     (λ (xs : List (Bor (List ℕ))). WritesBuilt (names_of xs) image before.files after.files (ended_of c.write_built.result))
     c.deref-in-Build-2.ensures.value c.write_built.ensures in
-    subst (λ (j : JobValue). Answers (job_is j) before after c.finish_build.result) (sym c.in-Build.is)
-    (subst (λ (e : Ended). BuildAnswers (names_of c.in-Build.names.items) image before after e) (sym c.finish_build.ensures.ended)
+    subst (λ (j : JobValue). Answers (job_is j) before after c.finish_image.result) (sym c.in-Build.is)
+    (subst (λ (e : Ended). BuildAnswers (names_of c.in-Build.names.items) image before after e) (sym c.finish_image.ensures.ended)
+    (record { writes = done; silent = refl }))
+
+pub returns-in-Link-clause-answers : goal.returns-in-Link-clause-answers
+returns-in-Link-clause-answers g c =
+    let before = seen (files_seen g.F.Files c.args.files.now) (objects g.S.Source g.K.Sink c.args.input.now c.args.out.now) in
+    let after = seen (files_seen g.F.Files c.write_linked.new.files) (objects g.S.Source g.K.Sink c.args.input.now c.args.out.now) in
+    let image = c.in-Link.image.now in
+    let done = subst
+    (λ (xs : List (Bor (List ℕ))). WritesLinked (names_of xs) image before.files after.files (ended_of c.write_linked.result))
+    c.deref-in-Link-2.ensures.value c.write_linked.ensures in
+    subst (λ (j : JobValue). Answers (job_is j) before after c.finish_image.result) (sym c.in-Link.is)
+    (subst (λ (e : Ended). LinkAnswers (names_of c.in-Link.names.items) image before after e) (sym c.finish_image.ensures.ended)
     (record { writes = done; silent = refl }))
 
 pub returns-in-Run-clause-answers : goal.returns-in-Run-clause-answers
@@ -75,11 +89,11 @@ returns-in-Plan-clause-answers g c =
     (record { plans = c.plan_file.ensures; source = refl; input = refl; input_faults = refl }))
 
 -- a job that no command does yet
-pub returns-in-Link-clause-answers : goal.returns-in-Link-clause-answers
-returns-in-Link-clause-answers g c =
+pub returns-in-Mean-clause-answers : goal.returns-in-Mean-clause-answers
+returns-in-Mean-clause-answers g c =
     let before = seen (files_seen g.F.Files c.args.files.now) (objects g.S.Source g.K.Sink c.args.input.now c.args.out.now) in
     let not_yet : IsNotYet (job_is c.args.job.now) = search rules in
-    not_yet_usage (job_is c.args.job.now) before c.finish-in-Link.result not_yet c.finish-in-Link.ensures.ended
+    not_yet_usage (job_is c.args.job.now) before c.finish-in-Mean.result not_yet c.finish-in-Mean.ensures.ended
 
 -- a job that is done is answered by no usage
 pub returns-in-Go-clause-usage : goal.returns-in-Go-clause-usage
@@ -89,7 +103,12 @@ returns-in-Go-clause-usage g c =
 pub returns-in-Build-clause-usage : goal.returns-in-Build-clause-usage
 returns-in-Build-clause-usage g c =
     λ is. absurd (build_not_usage _ _ _ _ c.write_built.ensures.cause
-    (subst (λ (e : Ended). e.why ≡ Usage) c.finish_build.ensures.ended is))
+    (subst (λ (e : Ended). e.why ≡ Usage) c.finish_image.ensures.ended is))
+
+pub returns-in-Link-clause-usage : goal.returns-in-Link-clause-usage
+returns-in-Link-clause-usage g c =
+    λ is. absurd (link_not_usage _ _ _ _ c.write_linked.ensures.cause
+    (subst (λ (e : Ended). e.why ≡ Usage) c.finish_image.ensures.ended is))
 
 pub returns-in-Run-clause-usage : goal.returns-in-Run-clause-usage
 returns-in-Run-clause-usage g c =

@@ -15,7 +15,7 @@ use Rattle.mt_pipeline.proofs.BuiltRuns.{whole}
 use Rattle.mt_pipeline.proofs.GoCauses.{go_answers}
 use Rattle.mt_pipeline.proofs.Options.{not_empty, stack_of}
 use Rattle.mt_pipeline.proofs.Quiet.{exits_quiet, same_objects}
-use Rattle.mt_pipeline.proofs.SourceCauses.{answered}
+use Rattle.mt_answers.specs.Laws.Answering.{answered}
 use Rattle.mt_pipeline.proofs.go.go.Goals as goal
 
 pub run_parts-requires-clause-valid : goal.run_parts-requires-clause-valid

@@ -6,7 +6,8 @@ use Rattle.mt_answers.specs.Laws.EachLaws.{seen_made, seen_stop}
 use Rattle.mt_answers.specs.Seen.{files_seen}
 use Rattle.mt_answers.specs.declared.answer.Answer.{Answer}
 use Rattle.mt_pipeline.specs.Sources.{NotBuilt, compiled, no_code}
-use Rattle.mt_pipeline.proofs.SourceCauses.{because, linked_of, link_answer}
+use Rattle.mt_answers.specs.Laws.Answering.{because}
+use Rattle.mt_pipeline.proofs.SourceCauses.{linked_of, link_answer}
 use Rattle.mt_pipeline.proofs.sources.build_files.Goals as goal
 
 -- one of them has no code

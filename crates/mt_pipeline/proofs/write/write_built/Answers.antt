@@ -10,7 +10,7 @@ use Rattle.mt_pipeline.specs.Build.{CauseOfBuild, written, write_failed, unbuilt
 use Rattle.mt_pipeline.specs.Sources.{NotBuilt}
 use Rattle.mt_pipeline.proofs.BuildCauses.{build_answers}
 use Rattle.mt_pipeline.proofs.BuiltRuns.{whole}
-use Rattle.mt_pipeline.proofs.SourceCauses.{answered}
+use Rattle.mt_answers.specs.Laws.Answering.{answered}
 use Rattle.mt_pipeline.proofs.write.write_built.Goals as goal
 
 pub write_image-requires : goal.write_image-requires

@@ -1,0 +1,2 @@
+pub mod OneLinked
+pub mod LinkLaws
