@@ -31,8 +31,8 @@ returns-in-Ok-frame_sizes-clause-file c =
     record { spelled = c.in-Ok.ensures.spelled; well = c.in-Ok-check.ensures.typed; sizes_are = c.in-Ok-frame_sizes.ensures.found }
 
 -- or are too many, or one is too large
-pub returns-clause-refused : goal.returns-clause-refused
-returns-clause-refused c =
+pub returns-in-Err-frame_sizes-clause-refused : goal.returns-in-Err-frame_sizes-clause-refused
+returns-in-Err-frame_sizes-clause-refused c =
     let is : IsTyped c.args.text.now c.in-Ok-check.typed =
     record { program = c.in-Ok.program; spelled = c.in-Ok.ensures.spelled; well = c.in-Ok-check.ensures.typed } in
     subst (λ r. IsPlanCause c.args.text.now r) (sym c.of_plan.ensures)
