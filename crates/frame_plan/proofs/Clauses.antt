@@ -1,5 +1,5 @@
 -- The clauses of `plan`, from what its text or its refusal is.
-use Rattle.std.proofs.Common.{◌≡◌, ◌⊎◌, ◌<◌, ◌≤◌, ℕ, List, length, flat_map, Result, Ok, Err}
+use Rattle.std.proofs.Common.{◌≡◌, ◌⊎◌, ◌<◌, ◌≤◌, ℕ, List, length, map, flat_map, Result, Ok, Err}
 use Rattle.std.proofs.Common.{sym, ap, ◌∙◌, subst, inl, inr}
 use Rattle.std.specs.Global.{Global, Vec}
 use Rattle.std.specs.String.{string_bytes}
@@ -10,11 +10,14 @@ use Rattle.c_type_base.specs.declared.typed.Typed.{Typed}
 use Rattle.frame_plan.specs.declared.refusal.PlanRefusal.{PlanRefusal}
 use Rattle.frame_plan.specs.declared.refusal.PlanRefusal.TheVariants.{TooManyFunctions, NoMemory}
 use Rattle.frame_plan.specs.Lines.{lines_of}
-use Rattle.frame_plan.specs.Refusal.{Fits, HasText, HasNoText, IsFirstLarge, too_large, many, large, most_functions}
-use Rattle.frame_plan.specs.Laws.OneText.{one_text, one_fault, no_fault, ArePlanned, AreRefused}
+use Rattle.frame_plan.specs.Refusal.{Fits, frame_bytes, HasSizes, HasText, HasNoText, IsFirstLarge, too_large, many, large, most_functions}
+use Rattle.frame_plan.specs.Laws.OneText.{one_text, one_fault, no_fault, ArePlanned, AreMeasured, AreRefused}
 
 abbrev pub IsFound : Typed → Result (Vec ℕ) PlanRefusal → Type 0
 IsFound typed result = IfOk result (λ t. HasText typed t.items)
+
+abbrev pub IsSized : Typed → Result (Vec ℕ) PlanRefusal → Type 0
+IsSized typed result = IfOk result (λ t. HasSizes typed t.items)
 
 abbrev pub IsRefused : Typed → Result (Vec ℕ) PlanRefusal → Type 0
 IsRefused typed result = IfErr result (λ e. (e ≡ NoMemory) ⊎ HasNoText typed e)
@@ -57,6 +60,14 @@ module _ (typed : Typed) (ss : List StructInfo) (fs : List TFunction) (structs :
     is = found.is ∙ ap (λ s. flat_map (lines_of s) fs) structs ∙ ap (flat_map (lines_of typed.structs)) functions;
   }
   planned (Err e) found = found
+
+  pub measured : (result : Result (Vec ℕ) PlanRefusal) → IfOk result (λ t. AreMeasured ss fs t.items) → IsSized typed result
+  measured (Ok t) found = record {
+    few = few_are;
+    fit = subst (λ gs. All (Fits typed.structs) gs) functions (subst (λ s. All (Fits s) fs) structs found.fit);
+    is = found.is ∙ ap (λ s. map (frame_bytes s) fs) structs ∙ ap (map (frame_bytes typed.structs)) functions;
+  }
+  measured (Err e) found = found
 
   first_there : (f : TFunction) → IsFirstLarge ss fs f → IsFirstLarge typed.structs typed.functions f
   first_there f first =

@@ -1,8 +1,8 @@
 -- One more turn of the loops over slots and functions.
-use Rattle.std.proofs.Common.{◌≡◌, ◌⊎◌, ℕ, suc, ◌+◌, ◌<◌, List, [], ◌∷◌, ◌++◌, length, drop, take, get_or, flat_map, Some}
+use Rattle.std.proofs.Common.{◌≡◌, ◌⊎◌, ℕ, suc, ◌+◌, ◌<◌, List, [], ◌∷◌, ◌++◌, length, drop, take, get_or, map, flat_map, Some}
 use Rattle.std.proofs.Common.{ap, sym, ◌∙◌, subst, inl, inr, arith, append_assoc, drop-cons}
 use Rattle.std.proofs.Math.Seq.{take-suc}
-use Rattle.std.proofs.lemmas.List.{flat_map_more}
+use Rattle.std.proofs.lemmas.List.{flat_map_more, map-append}
 use Rattle.std.proofs.lemmas.List.Elements.{All-more}
 use Rattle.std.proofs.lemmas.Option.{slice_get-get_or}
 use Rattle.std.specs.Prelude.{codes, All}
@@ -16,7 +16,7 @@ use Rattle.frame_layout.specs.Layouts.{IsLaid}
 use Rattle.frame_plan.specs.declared.refusal.PlanRefusal.{PlanRefusal}
 use Rattle.frame_plan.specs.declared.refusal.PlanRefusal.TheVariants.{NoMemory}
 use Rattle.frame_plan.specs.Lines.{slot_lines, slot_line, slot_words, function_lines, lines_of}
-use Rattle.frame_plan.specs.Refusal.{Fits}
+use Rattle.frame_plan.specs.Refusal.{Fits, frame_bytes}
 use Rattle.frame_plan.specs.Laws.OneText.{slots-of_all, IsLargeRefusal, AreRefused}
 
 drop-here : {A : Type 0} (xs : List A) (i : ℕ) (x : A) → i < length xs → x ≡ get_or xs i x → drop i xs ≡ x ∷ drop (i + 1) xs
@@ -65,6 +65,15 @@ module _ (structs : List StructInfo) (functions : List TFunction) (i : ℕ) (f :
   text_turn given before after laid passed turn =
       lines_turn (lines_of structs) functions i f before after within is passed
       (turn ∙ ap (λ x. before ++ function_lines f x) laid.same)
+
+  pub size_turn : (given : Frame) (before after : List ℕ) → IsLaid given (frame structs f) →
+      before ≡ map (frame_bytes structs) (take i functions) → after ≡ before ++ given.bytes ∷ [] →
+      after ≡ map (frame_bytes structs) (take (i + 1) functions)
+  size_turn given before after laid passed turn =
+      turn ∙ ap (λ (x : Frame). before ++ x.bytes ∷ []) laid.same
+      ∙ ap (λ sizes. sizes ++ frame_bytes structs f ∷ []) passed
+      ∙ sym (map-append (frame_bytes structs) (take i functions) (f ∷ []))
+      ∙ ap (map (frame_bytes structs)) (sym (take-here functions i f within is))
 
   -- the first whose frame is too large
   pub first_refused : (fault : PlanRefusal) → All (Fits structs) (take i functions) →

@@ -1,5 +1,5 @@
 -- Which programs have a text, and why others have none, with the number and the place that are told of it (this project's own).
-use Rattle.std.specs.Prelude.{◌≡◌, ℕ, ◌<◌, ◌≤◌, min, List, length, take, slice_get, Some, All}
+use Rattle.std.specs.Prelude.{◌≡◌, ℕ, ◌<◌, ◌≤◌, min, List, length, map, take, slice_get, Some, All}
 use Rattle.c_type_base.specs.declared.typed.StructInfo.{StructInfo}
 use Rattle.c_type_base.specs.declared.typed.TFunction.{TFunction}
 use Rattle.c_type_base.specs.declared.typed.Typed.{Typed}
@@ -23,6 +23,16 @@ pub record HasText (typed : Typed) (text : List ℕ) : Type 0 where
   pub fit : All (Fits typed.structs) typed.functions
   pub is : text ≡ lines typed
 
+-- the bytes of the frame of a function
+abbrev pub frame_bytes : List StructInfo → TFunction → ℕ
+frame_bytes structs f = (frame structs f).bytes
+
+-- the bytes of the frames of a program's functions, in order, where there are not too many and each fits
+pub record HasSizes (typed : Typed) (sizes : List ℕ) : Type 0 where
+  pub few : length typed.functions ≤ most_functions
+  pub fit : All (Fits typed.structs) typed.functions
+  pub is : sizes ≡ map (frame_bytes typed.structs) typed.functions
+
 -- this is the first of some functions whose frame does not fit
 pub record IsFirstLarge (structs : List StructInfo) (functions : List TFunction) (f : TFunction) : Type 0 where
   pub number : ℕ
@@ -34,7 +44,7 @@ pub record IsFirstLarge (structs : List StructInfo) (functions : List TFunction)
 abbrev pub too_large : List StructInfo → TFunction → PlanRefusal
 too_large structs f = FrameTooLarge (min (frame structs f).bytes greatest) f.span
 
--- why a program has no text: first of all it defines too many functions
+-- why a program has neither text nor sizes: first of all it defines too many functions
 pub data HasNoText (typed : Typed) : PlanRefusal → Type 0 where
   many : most_functions < length typed.functions → HasNoText typed (TooManyFunctions (length typed.functions))
   large : (f : TFunction) → length typed.functions ≤ most_functions → IsFirstLarge typed.structs typed.functions f →

@@ -17,7 +17,7 @@ use std::alloc::{AllocError, Global};
 use std::fmt::Write;
 
 /// The greatest number of functions that a program may define.
-const MOST_FUNCTIONS: usize = 512;
+pub(crate) const MOST_FUNCTIONS: usize = 512;
 
 /// The lines that tell the frames of a program's functions. For each function in order there is `function NAME BYTES`, and
 /// behind it for each parameter and local, in order of declaration, `safe START BYTES NAME` or `tagged START BYTES INDEX NAME`.
@@ -76,7 +76,7 @@ fn lines_of(
 }
 
 // The frame of a function.
-fn frame_of(
+pub(crate) fn frame_of(
     alloc: Global,
     function: &TFunction,
     structs: &[StructInfo],

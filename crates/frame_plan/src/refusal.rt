@@ -2,7 +2,7 @@ ghost use Rattle.std.specs.Prelude.{◌≡◌};
 ghost use Rattle.frame_plan.specs.declared.refusal.PlanRefusal.TheVariants.{NoMemory};
 
 use c_ast::Span;
-use std::alloc::AllocError;
+use std::alloc::{AllocError, AllocFailed};
 use thiserror::Error;
 
 /// Why a program has no lines.
@@ -55,6 +55,14 @@ impl From<AllocError> for PlanRefusal {
     ghost from_gives = { λ _ e. e ≡ NoMemory };
 
     fn from(_e: AllocError) -> PlanRefusal {
+        PlanRefusal::NoMemory
+    }
+}
+
+impl<T: Drop> From<AllocFailed<T>> for PlanRefusal {
+    ghost from_gives = { λ _ e. e ≡ NoMemory };
+
+    fn from(_e: AllocFailed<T>) -> PlanRefusal {
         PlanRefusal::NoMemory
     }
 }

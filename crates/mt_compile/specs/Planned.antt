@@ -1,9 +1,12 @@
--- The frames of the functions of a text's program, and why another text has none (this project's own).
+-- The frames of the functions of a text's program, as lines and as numbers of bytes, and why another text has none (this project's own).
 use Rattle.std.specs.Prelude.{◌≡◌, ◌⊎◌, ℕ, List}
+use Rattle.c_ast.specs.declared.program.Program.{Program}
 use Rattle.c_type_base.specs.declared.typed.Typed.{Typed}
-use Rattle.frame_plan.specs.Refusal.{HasText, HasNoText, place_of}
+use Rattle.c_types.specs.WellTyped.{WellTyped}
+use Rattle.frame_plan.specs.Refusal.{HasText, HasSizes, HasNoText, place_of}
 use Rattle.frame_plan.specs.declared.refusal.PlanRefusal.{PlanRefusal}
 use Rattle.mt_compile.specs.Refused.{number_of}
+use Rattle.mt_compile.specs.Source.{SpelledBy}
 use Rattle.mt_compile.specs.Typed.{IsTyped, TypeRefuses}
 use Rattle.mt_compile.specs.declared.refused.Refused.{Refused}
 use Rattle.mt_compile.specs.declared.refusal.CompileRefusal.{CompileRefusal}
@@ -15,7 +18,13 @@ pub record HasPlan (text lines : List ℕ) : Type 0 where
   pub is : IsTyped text typed
   pub lines_are : HasText typed lines
 
--- The text has no such lines: it has no typed program, or one with too many functions or a frame that is too large.
+-- The text spells a program that keeps the rules on types, with these types, and with functions whose frames have so many bytes.
+pub record HasFile (text : List ℕ) (program : Program) (typed : Typed) (sizes : List ℕ) : Type 0 where
+  pub spelled : SpelledBy text program
+  pub well : WellTyped program typed
+  pub sizes_are : HasSizes typed sizes
+
+-- The text has neither such lines nor such sizes: it has no typed program, or one with too many functions or a frame that is too large.
 pub data PlanRefuses (text : List ℕ) : CompileRefusal → ℕ → Type 0 where
   not_typed : {refusal : CompileRefusal} {byte : ℕ} → TypeRefuses text refusal byte → PlanRefuses text refusal byte
   unplanned : (typed : Typed) (fault : PlanRefusal) → IsTyped text typed → HasNoText typed fault →

@@ -4,6 +4,7 @@
 mod code;
 mod compiler;
 mod constant;
+mod file;
 mod planned;
 mod program;
 mod refusal;
@@ -12,6 +13,7 @@ mod source;
 mod typed;
 
 pub use compiler::compile;
+pub use file::{TypedFile, typed_file};
 pub use planned::plan_of;
 pub use refusal::CompileRefusal;
 pub use refused::Refused;

@@ -1,6 +1,6 @@
 -- A program has one text, or one refusal, and not both. Each parameter and local has its line.
 use Rattle.std.proofs.Common.{◌≡◌, ◌⊎◌, ℕ, suc, ◌<◌, ◌≤◌, List, [], ◌∷◌, length, take, get_or, slice_get, Some, arith}
-use Rattle.std.proofs.Common.{refl, sym, ap, ◌∙◌, subst, flat_map, min, inl, inr}
+use Rattle.std.proofs.Common.{refl, sym, ap, ◌∙◌, subst, map, flat_map, min, inl, inr}
 use Rattle.std.proofs.lemmas.Bool.{cases_lt, cases_order}
 use Rattle.std.proofs.lemmas.List.Elements.{All-nil, All-cons, All-get_or}
 use Rattle.std.proofs.lemmas.List.{get_or-take, length-take}
@@ -18,7 +18,7 @@ use Rattle.frame_layout.specs.StatementNeeds.{stmt_need}
 use Rattle.frame_plan.specs.declared.refusal.PlanRefusal.{PlanRefusal}
 use Rattle.frame_plan.specs.declared.refusal.PlanRefusal.TheVariants.{TooManyFunctions}
 use Rattle.frame_plan.specs.Lines.{lines, lines_of}
-use Rattle.frame_plan.specs.Refusal.{Fits, HasText, IsFirstLarge, too_large, HasNoText, many, large, most_functions}
+use Rattle.frame_plan.specs.Refusal.{Fits, frame_bytes, HasText, HasSizes, IsFirstLarge, too_large, HasNoText, many, large, most_functions}
 
 -- ---- each parameter and local has a slot
 
@@ -63,6 +63,14 @@ fits_before structs functions k n f fit before there =
     let same : get_or (take n functions) k f ≡ f =
     get_or-take n functions k f before ∙ get_or_from_slice_get functions k f f there in
     subst (Fits structs) same (All-get_or (Fits structs) (take n functions) k f inside fit)
+
+-- a program has one list of sizes
+pub one_sizes : (typed : Typed) (sizes other : List ℕ) → HasSizes typed sizes → HasSizes typed other → sizes ≡ other
+one_sizes typed sizes other a b = a.is ∙ sym b.is
+
+-- where it has one it has a text too
+pub sized_text : (typed : Typed) (sizes : List ℕ) → HasSizes typed sizes → HasText typed (lines typed)
+sized_text typed sizes has = record { few = has.few; fit = has.fit; is = refl }
 
 -- a program that has a text has no refusal
 pub no_fault : (typed : Typed) (text : List ℕ) (fault : PlanRefusal) → HasText typed text → HasNoText typed fault → ⊥
@@ -145,6 +153,11 @@ pub record IsLargeRefusal (structs : List StructInfo) (f : TFunction) (fault : P
 pub record ArePlanned (structs : List StructInfo) (functions : List TFunction) (text : List ℕ) : Type 0 where
   pub fit : All (Fits structs) functions
   pub is : text ≡ flat_map (lines_of structs) functions
+
+-- they all fit, and these are their bytes
+pub record AreMeasured (structs : List StructInfo) (functions : List TFunction) (sizes : List ℕ) : Type 0 where
+  pub fit : All (Fits structs) functions
+  pub is : sizes ≡ map (frame_bytes structs) functions
 
 -- the first whose frame does not fit is refused so
 pub record AreRefused (structs : List StructInfo) (functions : List TFunction) (fault : PlanRefusal) : Type 0 where

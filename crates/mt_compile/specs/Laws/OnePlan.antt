@@ -8,13 +8,14 @@ use Rattle.c_types.specs.Refusal.{refusal_of}
 use Rattle.c_types.specs.WellTyped.{WellTyped, FirstBroken}
 use Rattle.c_types.specs.Laws.WellTypedLaws.{one_typed, one_first_broken, not_both}
 use Rattle.frame_plan.specs.Refusal.{HasText, HasNoText, place_of}
-use Rattle.frame_plan.specs.Laws.OneText.{one_text, one_fault, no_fault}
+use Rattle.frame_plan.specs.Laws.OneText.{one_text, one_fault, no_fault, sized_text}
+use Rattle.frame_plan.specs.Lines.{lines}
 use Rattle.frame_plan.specs.declared.refusal.PlanRefusal.{PlanRefusal}
 use Rattle.mt_compile.specs.declared.refusal.CompileRefusal.{CompileRefusal}
 use Rattle.mt_compile.specs.declared.refusal.CompileRefusal.TheVariants.{Types, Plan}
 use Rattle.mt_compile.specs.Refused.{ReadRefuses}
 use Rattle.mt_compile.specs.Typed.{IsTyped, TypeRefuses, not_read, broken}
-use Rattle.mt_compile.specs.Planned.{HasPlan, PlanRefuses, not_typed, unplanned}
+use Rattle.mt_compile.specs.Planned.{HasFile, HasPlan, PlanRefuses, not_typed, unplanned}
 use Rattle.mt_compile.specs.Source.{SpelledBy}
 use Rattle.mt_compile.specs.Laws.OneRefusal.{AreOne, reading}
 use Rattle.mt_compile.specs.Laws.OneWay.{OneWay, GoesOn, Stops, at_first, behind, in_turn, led_by}
@@ -105,3 +106,23 @@ one_plan_refusal {text} {refusal} {other} {byte} {place} first second =
 -- and no text has both
 pub no_plan : {text lines : List ℕ} {refusal : CompileRefusal} {byte : ℕ} → HasPlan text lines → PlanRefuses text refusal byte → ⊥
 no_plan {text} {lines} {refusal} {byte} has refuses = (plan_way text).never_both lines refusal byte has refuses
+
+-- ---- the laws of typed files
+
+-- a text that has a typed file has a plan
+pub file_plan : {text : List ℕ} {program : Program} {typed : Typed} {sizes : List ℕ} → HasFile text program typed sizes →
+    HasPlan text (lines typed)
+file_plan {program = program} {typed = typed} {sizes = sizes} has = record {
+  typed = typed;
+  is = record { program = program; spelled = has.spelled; well = has.well };
+  lines_are = sized_text typed sizes has.sizes_are;
+}
+
+-- so it has no refusal
+pub no_file : {text : List ℕ} {program : Program} {typed : Typed} {sizes : List ℕ} {refusal : CompileRefusal} {byte : ℕ} →
+    HasFile text program typed sizes → PlanRefuses text refusal byte → ⊥
+no_file has refuses = no_plan (file_plan has) refuses
+
+-- a text has one program
+pub one_program : {text : List ℕ} {program other : Program} → SpelledBy text program → SpelledBy text other → program ≡ other
+one_program {text} {program} {other} first second = (reading text).gives_one program other first second
