@@ -10,12 +10,13 @@ use Rattle.mt_answers.specs.declared.answer.Answer.TheVariants as answer
 use Rattle.mt_answers.specs.declared.ended.Ended.{Ended}
 use Rattle.mt_answers.specs.declared.ended.Why.{Why}
 use Rattle.mt_answers.specs.declared.ended.Why.TheVariants.{Done, Usage, Refused, NoFile, Link, BadImage, NoMemory, WriteFault}
-use Rattle.mt_answers.specs.declared.ended.Why.TheVariants.{OutputFault, ReadFault}
+use Rattle.mt_answers.specs.declared.ended.Why.TheVariants.{OutputFault, ReadFault, UndefinedStep}
 
 -- the status and the reason of an answer
 abbrev pub ended_of : Answer → Ended
 ended_of answer.Done = ends Done
 ended_of (answer.Ran end) = ended_by end
+ended_of (answer.Undefined file place why) = ends (UndefinedStep why file place)
 ended_of answer.Usage = ends Usage
 ended_of (answer.Refused file place refusal) = ends (Refused file (number_of refusal) place)
 ended_of (answer.NoFile file) = ends (NoFile file)

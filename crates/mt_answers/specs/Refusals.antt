@@ -41,6 +41,7 @@ answer_to_object number refusal = answer.BadObject number refusal
 
 -- the number of the file that an answer names, 0 where it names none
 abbrev pub file_in : Answer → ℕ
+file_in (answer.Undefined file place why) = file
 file_in (answer.Refused file place refusal) = file
 file_in (answer.NoFile file) = file
 file_in (answer.BadObject file refusal) = file

@@ -9,7 +9,7 @@ use Rattle.tag_startup.specs.Refusal.{number_of as start_number, place_of as sta
 use Rattle.mt_answers.specs.declared.ended.Ended.{Ended}
 use Rattle.mt_answers.specs.declared.ended.Why.{Why}
 use Rattle.mt_answers.specs.declared.ended.Why.TheVariants.{Done, Exited, Usage, Refused, NoFile, Link, BadImage, NoMemory}
-use Rattle.mt_answers.specs.declared.ended.Why.TheVariants.{WriteFault, OutputFault, ReadFault, InputFault, OutOfSteps}
+use Rattle.mt_answers.specs.declared.ended.Why.TheVariants.{WriteFault, OutputFault, ReadFault, InputFault, OutOfSteps, UndefinedStep}
 use Rattle.mt_answers.specs.declared.ended.Why.TheVariants.{TagFault, MemoryFault, AlignFault, StackFault, BadCode, Divide}
 use Rattle.mt_compile.specs.Refused.{number_of as compile_number}
 use Rattle.mt_answers.specs.declared.refusal.BuildRefusal.{BuildRefusal}
@@ -38,6 +38,7 @@ status_of own StackFault = 83
 status_of own (BadCode at) = 84
 status_of own Divide = 85
 status_of own OutOfSteps = 86
+status_of own (UndefinedStep why file place) = 87
 
 -- what is answered for a reason, where the program that was run has this status of its own
 abbrev pub ended_so : ℕ → Why → Ended

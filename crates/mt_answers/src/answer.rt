@@ -5,6 +5,7 @@ ghost use Rattle.mt_answers.specs.Refusals.{answer_to_link, answer_to_object, an
 
 use crate::ended::{Ended, Why};
 use crate::refusal::RunRefusal;
+use crate::undefined::Undefined;
 use elf_obj::ObjectRefusal;
 use linker::LinkRefusal;
 use memtag_dump::DumpRefusal;
@@ -19,6 +20,12 @@ pub enum Answer {
     Done,
     /// The program ran.
     Ran(MachineEnd),
+    /// A step of the program is undefined, at this byte of a source.
+    Undefined {
+        file: u32,
+        place: u32,
+        why: Undefined,
+    },
     /// The words ask for nothing that there is.
     Usage,
     /// The refusal of a source, and the byte that is told of it.
@@ -106,7 +113,8 @@ impl Answer {
         ensures { result ≡ file_in self.now }
     {
         match self {
-            Answer::Refused { file, .. }
+            Answer::Undefined { file, .. }
+            | Answer::Refused { file, .. }
             | Answer::NoFile { file }
             | Answer::BadObject { file, .. }
             | Answer::BadImage { file, .. }
@@ -129,6 +137,11 @@ impl Answer {
         let why = match self {
             Answer::Done => Why::Done,
             Answer::Ran(end) => return Ended::from(*end),
+            Answer::Undefined { file, place, why } => Why::UndefinedStep {
+                why: *why,
+                file: *file,
+                place: *place,
+            },
             Answer::Usage => Why::Usage,
             Answer::Refused {
                 file,

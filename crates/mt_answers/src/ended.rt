@@ -1,11 +1,12 @@
 // How a call of the program ends.
 
+use crate::undefined::Undefined;
 use mt_base::Tag;
 use mte_machine::MachineEnd;
 
 /// Why a call of the program ended. A file is named by its place, from 0, among those that the job reads, and at
 /// `WriteFault` among those that it writes.
-#[derive(Clone, Copy, Debug, PartialEq, Eq)]
+#[derive(Clone, Copy, Debug)]
 pub enum Why {
     /// What was asked for is done: the image is written, or the lines are put.
     Done,
@@ -69,12 +70,18 @@ pub enum Why {
     },
     /// The program reported a division by zero.
     Divide,
-    /// The steps that were allowed are over.
+    /// The steps, or the units of work, that were allowed are over.
     OutOfSteps,
+    /// A step of the program is undefined, in the source of this number and at this byte.
+    UndefinedStep {
+        why: Undefined,
+        file: u32,
+        place: u32,
+    },
 }
 
 /// How a call of the program ends: with a status from 0 to 255, and why.
-#[derive(Clone, Copy, Debug, PartialEq, Eq)]
+#[derive(Clone, Copy, Debug)]
 pub struct Ended {
     pub status: u8,
     pub why: Why,
@@ -106,6 +113,7 @@ impl Why {
             Why::BadCode { .. } => 84,
             Why::Divide => 85,
             Why::OutOfSteps => 86,
+            Why::UndefinedStep { .. } => 87,
         }
     }
 

@@ -8,6 +8,7 @@ mod put;
 mod read;
 mod refusal;
 mod report;
+mod undefined;
 
 pub use answer::Answer;
 pub use each::{Stage, make_each};
@@ -16,3 +17,4 @@ pub use put::put_bytes;
 pub use read::read_file;
 pub use refusal::{BuildRefusal, RunRefusal};
 pub use report::finish;
+pub use undefined::Undefined;

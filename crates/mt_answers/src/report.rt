@@ -165,6 +165,9 @@ fn report<E: Sink>(err: &mut E, file: &str, answer: &Answer)
     let _ = match answer {
         Answer::Done => Ok(()),
         Answer::Ran(end) => report_end(&mut line, *end),
+        Answer::Undefined { place, why, .. } => {
+            write!(line, "mtcc: {file}:{place}: undefined {why}\n")
+        }
         Answer::Usage => write!(line, "mtcc: usage\n"),
         Answer::Refused { place, refusal, .. } => report_refusal(&mut line, file, *place, refusal),
         Answer::NoFile { .. } => write!(line, "mtcc: {file}: no such file\n"),

@@ -26,6 +26,7 @@ run_status end.OutputFault = refl
 answer_status : (a : Answer) → HasStatus (ended_of a)
 answer_status answer.Done = refl
 answer_status (answer.Ran end) = run_status end
+answer_status (answer.Undefined file place why) = refl
 answer_status answer.Usage = refl
 answer_status (answer.Refused file place refusal) = refl
 answer_status (answer.NoFile file) = refl
