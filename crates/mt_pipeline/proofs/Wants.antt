@@ -1,4 +1,4 @@
--- Words that found no memory, and jobs that no command does yet.
+-- Words that found no memory.
 use Rattle.std.proofs.Common.{◌≡◌, refl, sym, ap, ◌∙◌, subst, inl, inr}
 use Rattle.mt_answers.specs.Counted.{UncountedReads}
 use Rattle.mt_answers.specs.Laws.Counts.{both_stay, unwritten}
@@ -11,13 +11,14 @@ use Rattle.mt_answers.specs.declared.ended.Why.TheVariants.{NoMemory, Usage}
 use Rattle.mt_link.specs.Link.{no_memory as link_no_memory}
 use Rattle.mt_link.specs.Laws.LinkLaws.{link_answers}
 use Rattle.mt_words.specs.Jobs.{Job, Go, Build, Link, Run, Mean, Dump, Plan}
+use Rattle.mt_mean.specs.Mean.{no_memory as mean_no_memory}
+use Rattle.mt_mean.specs.Laws.Causes.{mean_answers}
 use Rattle.mt_pipeline.specs.Answers.{Answers}
 use Rattle.mt_pipeline.specs.Build.{no_memory as build_no_memory}
 use Rattle.mt_pipeline.specs.Dump.{no_memory as dump_no_memory}
 use Rattle.mt_pipeline.specs.Go.{no_memory as go_no_memory}
 use Rattle.mt_pipeline.specs.Plan.{no_memory as plan_no_memory}
 use Rattle.mt_pipeline.specs.RunFile.{no_memory as run_no_memory}
-use Rattle.mt_pipeline.specs.Usage.{IsNotYet, UsageAnswers}
 use Rattle.mt_pipeline.proofs.BuildCauses.{build_answers}
 use Rattle.mt_pipeline.proofs.DumpCauses.{dump_answers}
 use Rattle.mt_pipeline.proofs.GoCauses.{go_answers}
@@ -47,7 +48,8 @@ wanting (Link files out) before = record {
 wanting (Run image options) before =
     run_answers image options before before _ (run_no_memory refl) (λ bytes n holds within is. refl) (same before.files)
     (counts before.files)
-wanting (Mean files options) before = record { usage = inr refl; untouched = refl }
+wanting (Mean files options) before =
+    mean_answers files options before before _ (mean_no_memory refl) (same before.files) (counts before.files)
 wanting (Dump file) before = record {
   dumps = dump_answers file before.files before.files (output_of before.streams) (output_of before.streams) _ (dump_no_memory refl)
       (same before.files) (counts before.files);
@@ -65,27 +67,6 @@ wanting (Plan file) before = record {
 
 pub wants_memory : {S K : Type 0} (job : Job) (before : Seen S K) (ended : Ended) → ended ≡ ends NoMemory → Answers job before before ended
 wants_memory job before ended is = subst (λ e. Answers job before before e) (sym is) (wanting job before)
-
--- a job that no command does yet is usage
-pub not_yet_answers : {S K : Type 0} (job : Job) (before after : Seen S K) (ended : Ended) → IsNotYet job →
-    Answers job before after ended → UsageAnswers before after ended
-not_yet_answers (Go files options) before after ended not answers = absurd not
-not_yet_answers (Build files out) before after ended not answers = absurd not
-not_yet_answers (Link files out) before after ended not answers = absurd not
-not_yet_answers (Run image options) before after ended not answers = absurd not
-not_yet_answers (Mean files options) before after ended not answers = answers
-not_yet_answers (Dump file) before after ended not answers = absurd not
-not_yet_answers (Plan file) before after ended not answers = absurd not
-
-pub not_yet_usage : {S K : Type 0} (job : Job) (before : Seen S K) (ended : Ended) → IsNotYet job → ended ≡ ends Usage →
-    Answers job before before ended
-not_yet_usage (Go files options) before ended not is = absurd not
-not_yet_usage (Build files out) before ended not is = absurd not
-not_yet_usage (Link files out) before ended not is = absurd not
-not_yet_usage (Run image options) before ended not is = absurd not
-not_yet_usage (Mean files options) before ended not is = record { usage = inl is; untouched = refl }
-not_yet_usage (Dump file) before ended not is = absurd not
-not_yet_usage (Plan file) before ended not is = absurd not
 
 -- want of memory is no usage
 pub memory_not_usage : (ended : Ended) → ended ≡ ends NoMemory → ended.why ≡ Usage → ⊥

@@ -1,17 +1,17 @@
 // The top call.
-ghost use Rattle.std.specs.Prelude.{◌≡◌, map};
+ghost use Rattle.std.specs.Prelude.{◌≡◌, ◌≢◌, map};
 ghost use Rattle.std.specs.String.{string_bytes};
 ghost use Rattle.mte_machine.specs.Objects.{objects};
 ghost use Rattle.mt_answers.specs.Answer.{ended_of};
 ghost use Rattle.mt_answers.specs.Seen.{seen, files_seen};
 ghost use Rattle.mt_answers.specs.Status.{HasNoLine, ends, status_of};
-ghost use Rattle.mt_words.specs.HasJob.{HasJob};
+ghost use Rattle.mt_words.specs.HasJob.{HasJob, HasNoJob};
 ghost use Rattle.mt_words.specs.Jobs.{Job as Asked};
 ghost use Rattle.mt_words.specs.Laws.Formed.{IsFormed};
 ghost use Rattle.mt_words.specs.Model.{job_is};
 ghost use Rattle.mt_pipeline.specs.Answers.{Answers};
 ghost use Rattle.mt_pipeline.specs.NoWords.{why_without_words};
-ghost use Rattle.mt_pipeline.specs.Usage.{AskNothing, IsNotYet, UsageAnswers};
+ghost use Rattle.mt_pipeline.specs.Usage.{UsageAnswers};
 
 use crate::dump::dump_file;
 use crate::go::go;
@@ -20,6 +20,7 @@ use crate::run::run_file;
 use crate::write::write_built;
 use mt_answers::{Answer, Ended, Why, finish};
 use mt_link::write_linked;
+use mt_mean::mean_sources;
 use mt_outside::{Files, Sink, Source};
 use mt_words::{Job, job_of};
 use std::alloc::Global;
@@ -37,8 +38,8 @@ pub fn drive<F: Files, S: Source, K: Sink, E: Sink>(
     ensures answers { (job : Asked) → HasJob (map string_bytes words.now) job →
         Answers job (seen (files_seen F.Files files.old) (objects S.Source K.Sink input.old out.old))
         (seen (files_seen F.Files files.new) (objects S.Source K.Sink input.new out.new)) result }
-    ensures usage { result.why ≡ Why.Usage → AskNothing (map string_bytes words.now) }
-    ensures no_job { AskNothing (map string_bytes words.now) →
+    ensures usage { result.why ≡ Why.Usage → HasNoJob (map string_bytes words.now) }
+    ensures no_job { HasNoJob (map string_bytes words.now) →
         UsageAnswers (seen (files_seen F.Files files.old) (objects S.Source K.Sink input.old out.old))
         (seen (files_seen F.Files files.new) (objects S.Source K.Sink input.new out.new)) result }
 
@@ -67,7 +68,7 @@ fn finish_job<F: Files, S: Source, K: Sink, E: Sink>(
     requires { IsFormed (job_is job.now) }
     ensures answers { Answers (job_is job.now) (seen (files_seen F.Files files.old) (objects S.Source K.Sink input.old out.old))
         (seen (files_seen F.Files files.new) (objects S.Source K.Sink input.new out.new)) result }
-    ensures usage { result.why ≡ Why.Usage → IsNotYet (job_is job.now) }
+    ensures usage { result.why ≢ Why.Usage }
     ensures status { result.status ≡ status_of result.status result.why }
     ensures quiet { HasNoLine result.why → err.new ≡ err.old }
 {
@@ -93,7 +94,10 @@ fn finish_job<F: Files, S: Source, K: Sink, E: Sink>(
         }
         Job::Dump { file } => finish(err, &[*file], dump_file(alloc, file, files, out)),
         Job::Plan { file } => finish(err, &[*file], plan_file(alloc, file, files, out)),
-        Job::Mean { .. } => finish(err, &[], Answer::Usage),
+        Job::Mean {
+            files: names,
+            options,
+        } => finish(err, names, mean_sources(alloc, names, options, files, input, out)),
     }
 }
 

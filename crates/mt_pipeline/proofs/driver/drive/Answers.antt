@@ -9,8 +9,7 @@ use Rattle.mt_words.specs.Laws.OneJob.{one_job}
 use Rattle.mt_words.specs.Model.{job_is}
 use Rattle.mt_words.specs.declared.job.Job.{Job as JobValue}
 use Rattle.mt_pipeline.specs.Answers.{Answers}
-use Rattle.mt_pipeline.specs.Usage.{IsNotYet}
-use Rattle.mt_pipeline.proofs.Wants.{memory_not_usage, not_yet_answers, wants_memory}
+use Rattle.mt_pipeline.proofs.Wants.{memory_not_usage, wants_memory}
 use Rattle.mt_pipeline.proofs.driver.drive.Goals as goal
 
 -- memory was wanting for the words
@@ -40,19 +39,13 @@ returns-in-Some-clause-answers g c = λ job has.
     c.finish_job.ensures.answers
 
 pub returns-in-Some-clause-usage : goal.returns-in-Some-clause-usage
-returns-in-Some-clause-usage g c = λ is job has.
-    let words = map string_bytes c.args.words.now in
-    let found = subst (λ (f : Option JobValue). IfSome f (λ j. HasJob words (job_is j))) c.in-Some.is c.in-Ok.ensures.some in
-    subst (λ (j : Job). IsNotYet j) (one_job words (job_is c.in-Some.job) job found has) (c.finish_job.ensures.usage is)
+returns-in-Some-clause-usage g c = λ is. absurd (c.finish_job.ensures.usage is)
 
 pub returns-in-Some-clause-no_job : goal.returns-in-Some-clause-no_job
 returns-in-Some-clause-no_job g c = λ none.
-    let before = seen (files_seen g.F.Files c.args.files.now) (objects g.S.Source g.K.Sink c.args.input.now c.args.out.now) in
-    let after = seen (files_seen g.F.Files c.finish_job.new.files)
-    (objects g.S.Source g.K.Sink c.finish_job.new.input c.finish_job.new.out) in
     let words = map string_bytes c.args.words.now in
     let found = subst (λ (f : Option JobValue). IfSome f (λ j. HasJob words (job_is j))) c.in-Some.is c.in-Ok.ensures.some in
-    not_yet_answers (job_is c.in-Some.job) before after c.finish_job.result (none (job_is c.in-Some.job) found) c.finish_job.ensures.answers
+    absurd (none (job_is c.in-Some.job) found)
 
 -- or they have none
 pub returns-in-None-clause-answers : goal.returns-in-None-clause-answers
@@ -61,9 +54,8 @@ returns-in-None-clause-answers g c = λ job has.
     job has)
 
 pub returns-in-None-clause-usage : goal.returns-in-None-clause-usage
-returns-in-None-clause-usage g c = λ is job has.
-    absurd (subst (λ (f : Option JobValue). IfNone f (HasNoJob (map string_bytes c.args.words.now))) c.in-None.is c.in-Ok.ensures.none
-    job has)
+returns-in-None-clause-usage g c = λ is.
+    subst (λ (f : Option JobValue). IfNone f (HasNoJob (map string_bytes c.args.words.now))) c.in-None.is c.in-Ok.ensures.none
 
 pub returns-in-None-clause-no_job : goal.returns-in-None-clause-no_job
 returns-in-None-clause-no_job g c = λ none. record { usage = inl c.finish-in-None.ensures.ended; untouched = refl }

@@ -1,4 +1,4 @@
-use Rattle.std.proofs.Common.{◌≡◌, ℕ, List, Bor, refl, rules, sym, subst}
+use Rattle.std.proofs.Common.{◌≡◌, ℕ, List, Bor, refl, sym, subst}
 use Rattle.mte_machine.specs.Objects.{objects}
 use Rattle.mt_answers.specs.Answer.{ended_of}
 use Rattle.mt_answers.specs.Each.{names_of}
@@ -7,21 +7,21 @@ use Rattle.mt_answers.specs.declared.ended.Ended.{Ended}
 use Rattle.mt_answers.specs.declared.ended.Why.TheVariants.{Usage}
 use Rattle.mt_link.specs.Link.{LinkAnswers, WritesLinked}
 use Rattle.mt_link.specs.Laws.LinkLaws.{link_not_usage}
+use Rattle.mt_mean.specs.Mean.{MeanAnswers}
+use Rattle.mt_mean.specs.Laws.Causes.{mean_not_usage}
 use Rattle.mt_words.specs.Jobs.{Dump, Plan}
 use Rattle.mt_words.specs.Laws.Formed.{IsFormed}
-use Rattle.mt_words.specs.Model.{job_is, run_options}
+use Rattle.mt_words.specs.Model.{job_is, mean_options, run_options}
 use Rattle.mt_words.specs.declared.job.Job.{Job as JobValue}
 use Rattle.mt_pipeline.specs.Answers.{Answers}
 use Rattle.mt_pipeline.specs.Build.{BuildAnswers, WritesBuilt}
 use Rattle.mt_pipeline.specs.Go.{GoAnswers}
 use Rattle.mt_pipeline.specs.RunFile.{RunAnswers}
-use Rattle.mt_pipeline.specs.Usage.{IsNotYet}
 use Rattle.mt_pipeline.proofs.BuildCauses.{build_not_usage}
 use Rattle.mt_pipeline.proofs.DumpCauses.{dump_not_usage}
 use Rattle.mt_pipeline.proofs.GoCauses.{go_not_usage}
 use Rattle.mt_pipeline.proofs.PlanCauses.{plan_not_usage}
 use Rattle.mt_pipeline.proofs.RunCauses.{run_not_usage}
-use Rattle.mt_pipeline.proofs.Wants.{not_yet_usage}
 use Rattle.mt_pipeline.proofs.driver.finish_job.Goals as goal
 
 pub go-requires : goal.go-requires
@@ -88,39 +88,48 @@ returns-in-Plan-clause-answers g c =
     (subst (λ (e : Ended). Answers (Plan c.in-Plan.file.now) before after e) (sym c.finish-in-Plan.ensures.ended)
     (record { plans = c.plan_file.ensures; source = refl; input = refl; input_faults = refl }))
 
--- a job that no command does yet
 pub returns-in-Mean-clause-answers : goal.returns-in-Mean-clause-answers
 returns-in-Mean-clause-answers g c =
     let before = seen (files_seen g.F.Files c.args.files.now) (objects g.S.Source g.K.Sink c.args.input.now c.args.out.now) in
-    let not_yet : IsNotYet (job_is c.args.job.now) = search rules in
-    not_yet_usage (job_is c.args.job.now) before c.finish-in-Mean.result not_yet c.finish-in-Mean.ensures.ended
+    let after = seen (files_seen g.F.Files c.mean_sources.new.files)
+    (objects g.S.Source g.K.Sink c.mean_sources.new.input c.mean_sources.new.out) in
+    let options = mean_options c.in-Mean.options in
+    let done = subst (λ (xs : List (Bor (List ℕ))). MeanAnswers (names_of xs) options before after (ended_of c.mean_sources.result))
+    c.deref-in-Mean.ensures.value c.mean_sources.ensures in
+    subst (λ (j : JobValue). Answers (job_is j) before after c.finish-in-Mean.result) (sym c.in-Mean.is)
+    (subst (λ (e : Ended). MeanAnswers (names_of c.in-Mean.names.items) options before after e) (sym c.finish-in-Mean.ensures.ended) done)
 
 -- a job that is done is answered by no usage
 pub returns-in-Go-clause-usage : goal.returns-in-Go-clause-usage
 returns-in-Go-clause-usage g c =
-    λ is. absurd (go_not_usage _ _ _ _ c.go.ensures.cause (subst (λ (e : Ended). e.why ≡ Usage) c.finish.ensures.ended is))
+    λ is. go_not_usage _ _ _ _ c.go.ensures.cause (subst (λ (e : Ended). e.why ≡ Usage) c.finish.ensures.ended is)
 
 pub returns-in-Build-clause-usage : goal.returns-in-Build-clause-usage
 returns-in-Build-clause-usage g c =
-    λ is. absurd (build_not_usage _ _ _ _ c.write_built.ensures.cause
-    (subst (λ (e : Ended). e.why ≡ Usage) c.finish_image.ensures.ended is))
+    λ is. build_not_usage _ _ _ _ c.write_built.ensures.cause
+    (subst (λ (e : Ended). e.why ≡ Usage) c.finish_image.ensures.ended is)
 
 pub returns-in-Link-clause-usage : goal.returns-in-Link-clause-usage
 returns-in-Link-clause-usage g c =
-    λ is. absurd (link_not_usage _ _ _ _ c.write_linked.ensures.cause
-    (subst (λ (e : Ended). e.why ≡ Usage) c.finish_image.ensures.ended is))
+    λ is. link_not_usage _ _ _ _ c.write_linked.ensures.cause
+    (subst (λ (e : Ended). e.why ≡ Usage) c.finish_image.ensures.ended is)
 
 pub returns-in-Run-clause-usage : goal.returns-in-Run-clause-usage
 returns-in-Run-clause-usage g c =
-    λ is. absurd (run_not_usage _ _ _ _ c.run_file.ensures.cause
-    (subst (λ (e : Ended). e.why ≡ Usage) c.finish-in-Run.ensures.ended is))
+    λ is. run_not_usage _ _ _ _ c.run_file.ensures.cause
+    (subst (λ (e : Ended). e.why ≡ Usage) c.finish-in-Run.ensures.ended is)
 
 pub returns-in-Dump-clause-usage : goal.returns-in-Dump-clause-usage
 returns-in-Dump-clause-usage g c =
-    λ is. absurd (dump_not_usage _ _ _ _ _ c.dump_file.ensures.cause
-    (subst (λ (e : Ended). e.why ≡ Usage) c.finish-in-Dump.ensures.ended is))
+    λ is. dump_not_usage _ _ _ _ _ c.dump_file.ensures.cause
+    (subst (λ (e : Ended). e.why ≡ Usage) c.finish-in-Dump.ensures.ended is)
 
 pub returns-in-Plan-clause-usage : goal.returns-in-Plan-clause-usage
 returns-in-Plan-clause-usage g c =
-    λ is. absurd (plan_not_usage _ _ _ _ _ c.plan_file.ensures.cause
-    (subst (λ (e : Ended). e.why ≡ Usage) c.finish-in-Plan.ensures.ended is))
+    λ is. plan_not_usage _ _ _ _ _ c.plan_file.ensures.cause
+    (subst (λ (e : Ended). e.why ≡ Usage) c.finish-in-Plan.ensures.ended is)
+
+pub returns-in-Mean-clause-usage : goal.returns-in-Mean-clause-usage
+returns-in-Mean-clause-usage g c =
+    λ is. mean_not_usage _ _ _ _ c.mean_sources.ensures.cause
+    (subst (λ (e : Ended). e.why ≡ Usage) c.finish-in-Mean.ensures.ended is)
