@@ -1,5 +1,11 @@
-use Rattle.std.proofs.Common.{map, sym, subst}
+use Rattle.std.proofs.Common.{List, map, sym, subst}
+use Rattle.std.specs.List.{AllByRecursion}
+use Rattle.elf_image.specs.Image.{image_of}
 use Rattle.elf_obj.specs.Object.{object_of}
+use Rattle.elf_obj.specs.ObjectFile.{IsValid}
+use Rattle.elf_obj.specs.declared.parts.ObjectParts.{ObjectParts}
+use Rattle.linker.specs.Known.{objects_of, Refuses}
+use Rattle.linker.specs.Linked.{Linked}
 use Rattle.mt_answers.specs.Answer.{IsAnswerTo}
 use Rattle.mt_answers.specs.Each.{names_of}
 use Rattle.mt_answers.specs.Laws.Answering.{because}
@@ -24,8 +30,9 @@ pub link-requires : goal.link-requires
 link-requires g c =
     let before = files_seen g.F.Files c.args.files.now in
     let after = files_seen g.F.Files c.make_each.new.files in
-    all_valid before (names_of c.args.names.now) _
-    (seen_made object_of object_step before after (names_of c.args.names.now) c.in-Ok.objects.items c.in-Ok.ensures.made)
+    subst (λ (parts : List ObjectParts). AllByRecursion IsValid (objects_of parts)) (sym c.deref.ensures.value)
+    (all_valid before (names_of c.args.names.now) (map object_of c.in-Ok.objects.items)
+    (seen_made object_of object_step before after (names_of c.args.names.now) c.in-Ok.objects.items c.in-Ok.ensures.made))
 
 -- they are linked
 pub returns-in-Ok-link-clause-linked : goal.returns-in-Ok-link-clause-linked
@@ -35,15 +42,17 @@ returns-in-Ok-link-clause-linked g c =
     record {
       objects = map object_of c.in-Ok.objects.items;
       are = seen_made object_of object_step before after (names_of c.args.names.now) c.in-Ok.objects.items c.in-Ok.ensures.made;
-      linked = c.in-Ok-link.ensures.image;
+      linked = subst (λ (parts : List ObjectParts). Linked (objects_of parts) (image_of c.in-Ok-link.parts)) c.deref.ensures.value
+          c.in-Ok-link.ensures.image;
     }
 
 -- or not
-pub returns-in-Err-link-clause-unlinked : goal.returns-in-Err-link-clause-unlinked
-returns-in-Err-link-clause-unlinked g c =
+pub returns-clause-unlinked : goal.returns-clause-unlinked
+returns-clause-unlinked g c =
     let before = files_seen g.F.Files c.args.files.now in
     let after = files_seen g.F.Files c.make_each.new.files in
     subst (λ (a : Answer). IsAnswerTo (NotLinked (names_of c.args.names.now) before after) a) (sym c.of_link.ensures)
     (link_answer (names_of c.args.names.now) (map object_of c.in-Ok.objects.items) before after c.in-Err-link.refusal
     (seen_made object_of object_step before after (names_of c.args.names.now) c.in-Ok.objects.items c.in-Ok.ensures.made)
-    c.in-Err-link.ensures.refused)
+    (subst (λ (parts : List ObjectParts). Refuses (objects_of parts) c.in-Err-link.refusal) c.deref.ensures.value
+    c.in-Err-link.ensures.refused))
