@@ -16,6 +16,13 @@ use Rattle.mean_texts.specs.Refusal.{of_link, of_fault}
 use Rattle.mean_texts.specs.declared.refusal.MeanRefusal.{MeanRefusal}
 use Rattle.mean_texts.specs.declared.refusal.MeanRefusal.TheVariants.{Compile, Link, Fault, NoMemory}
 
+-- answers that refuse
+abbrev pub Refuses : MeanRefusal → Result MeanEnd MeanRefusal
+Refuses r = Err r
+
+abbrev pub Fails : MeanFault → Result MeanEnd MeanFault
+Fails f = Err f
+
 -- nothing was put
 pub put_nothing : (before : List ℕ) (o : Outcome) (output : Option (List ℕ)) → output ≡ Some before → PutPart before o output
 put_nothing before o output same = record {
@@ -39,7 +46,7 @@ link_gives files r before o input output (inl wanting) linked same =
     subst (λ r. TextsGive before o (Err (of_link r)) input output) (sym wanting) (put_nothing before o output same)
 link_gives files r before o input output (inr fault) linked same = absurd (no_fault files r linked fault)
 
-pub no_link_fault : (r : LinkRefusal) (f : MeanFault) → Err (of_link r) ≡ Err {A = MeanEnd} (Fault f) → ⊥
+pub no_link_fault : (r : LinkRefusal) (f : MeanFault) → Refuses (of_link r) ≡ Refuses (Fault f) → ⊥
 no_link_fault link.NoMemory f is = cc
 no_link_fault (link.TooManyObjects n) f is = cc
 no_link_fault (link.Duplicate n) f is = cc
@@ -60,14 +67,14 @@ fault_gives before o fault.NoMemory input output gives = gives
 fault_gives before o fault.InputFault input output gives = gives
 fault_gives before o fault.OutputFault input output gives = gives
 
-pub is_input_fault : (f : MeanFault) → Err (of_fault f) ≡ Err {A = MeanEnd} (Fault fault.InputFault) →
-    Err {A = MeanEnd} f ≡ Err fault.InputFault
+pub is_input_fault : (f : MeanFault) → Refuses (of_fault f) ≡ Refuses (Fault fault.InputFault) →
+    Fails f ≡ Fails fault.InputFault
 is_input_fault fault.NoMemory is = absurd cc
 is_input_fault fault.InputFault is = refl
 is_input_fault fault.OutputFault is = absurd cc
 
-pub is_output_fault : (f : MeanFault) → Err (of_fault f) ≡ Err {A = MeanEnd} (Fault fault.OutputFault) →
-    Err {A = MeanEnd} f ≡ Err fault.OutputFault
+pub is_output_fault : (f : MeanFault) → Refuses (of_fault f) ≡ Refuses (Fault fault.OutputFault) →
+    Fails f ≡ Fails fault.OutputFault
 is_output_fault fault.NoMemory is = absurd cc
 is_output_fault fault.InputFault is = absurd cc
 is_output_fault fault.OutputFault is = refl

@@ -16,7 +16,7 @@ use Rattle.mean_texts.specs.Texts.{AreFiles, AreFilesOf, AreTogether, TextsMean,
 use Rattle.mean_texts.specs.declared.files.Files.{Files}
 use Rattle.mean_texts.specs.declared.refusal.MeanRefusal.{MeanRefusal}
 use Rattle.mean_texts.specs.declared.refusal.MeanRefusal.TheVariants.{Compile, Link, Fault, NoMemory}
-use Rattle.mean_texts.proofs.Runs.{put_nothing}
+use Rattle.mean_texts.proofs.Runs.{put_nothing, Refuses}
 
 abbrev Answer : Type 0
 Answer = Result MeanEnd MeanRefusal
@@ -48,7 +48,7 @@ pub early_refuses : (texts : List (List ℕ)) (r other : MeanRefusal) → IsEarl
 early_refuses texts r other (inl wanting) refused = inr wanting
 early_refuses texts r other (inr first) refused = inl (one_refusal texts r other first refused)
 
-pub no_early_fault : (texts : List (List ℕ)) (r : MeanRefusal) (f : MeanFault) → IsEarly texts r → Err r ≡ Err {A = MeanEnd} (Fault f) → ⊥
+pub no_early_fault : (texts : List (List ℕ)) (r : MeanRefusal) (f : MeanFault) → IsEarly texts r → Refuses r ≡ Refuses (Fault f) → ⊥
 no_early_fault texts r f (inl wanting) is = let both : NoMemory ≡ Fault f = cc in cc
 no_early_fault texts _ f (inr (byte, source front back trees units frames parts files refuses)) is = cc
 no_early_fault texts _ f (inr (byte, unlinked trees units frames files fault)) is = cc

@@ -1,6 +1,6 @@
 -- Texts together have a meaning: their files are well typed, and the names that they use are linked.
-use Rattle.std.proofs.Common.{◌≡◌, ◌⊎◌, refl, sym, ap, subst, ◌∙◌, ℕ, zero, suc, ◌+◌, Bool, true, ◌||◌, List, [], ◌∷◌, ◌++◌}
-use Rattle.std.proofs.Common.{map, length, slice_get, Option, Some, None}
+use Rattle.std.proofs.Common.{◌≡◌, ◌⊎◌, refl, sym, ap, subst, ◌∙◌, ℕ, zero, suc, ◌+◌, Bool, true, false, ◌||◌, List, [], ◌∷◌, ◌++◌}
+use Rattle.std.proofs.Common.{map, length, slice_get, arith, Option, Some, None}
 use Rattle.std.proofs.lemmas.List.{length-map}
 use Rattle.std.proofs.lemmas.Option.{same_Some}
 use Rattle.c_ast.specs.declared.program.Program.{Program as Tree}
@@ -101,8 +101,10 @@ module _ (texts : List (List ℕ)) (trees : List Tree) (units : List Typed) (fra
   used_linked unit u is number k f e there used its =
       let file = at unit u is in
       let mine : slice_get u.externs k ≡ Some e = ap (λ o. extern_in o k) (sym is) ∙ its in
+      let plus : 0 + k ≡ k = omega arith in
       let all : among (0 + k) (file_uses u) ≡ true =
-      among_second k (joined (map object_uses u.globals)) (joined (map function_uses u.functions))
+      ap (λ n. among n (file_uses u)) plus
+      ∙ among_second k (joined (map object_uses u.globals)) (joined (map function_uses u.functions))
       (function_among u.functions number f k there (used-among f.body k used)) in
       used-defined trees units unit file.tree u e.name linked.defined file.tree_is is
       (used_in (file_uses u) 0 u.externs k e mine all)

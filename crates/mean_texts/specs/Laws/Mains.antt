@@ -39,6 +39,9 @@ use Rattle.well_typed_order.specs.Laws.Walk.{in-split}
 abbrev NoneMain : List GlobalInfo → Type 0
 NoneMain gs = (g : GlobalInfo) → In gs g → bytes_eq g.name main_name ≡ false
 
+no_object : NoneMain []
+no_object g (k, is) = absurd cc
+
 not_true : (b : Bool) → not b ≡ true → b ≡ false
 not_true false is = refl
 not_true true is = absurd cc
@@ -60,12 +63,12 @@ only_one x other g (suc k, is) = absurd cc
 
 none_in : (d : Decl) (c : Storage) (o : Option Ty) (pieces : List InitPiece) → bytes_eq d.name main_name ≡ false →
     NoneMain (global_of c d o pieces)
-none_in d c None pieces other g has = absurd cc
+none_in d c None pieces other = no_object
 none_in d c (Some t) pieces other = by_storage (is_extern c)
   where
     by_storage : (b : Bool) →
         NoneMain (if b then [] else record { name = d.name; ty = t; local = is_static c; init = pieces; span = d.span } ∷ [])
-    by_storage true g has = absurd cc
+    by_storage true = no_object
     by_storage false = only_one _ other
 
 -- ---- an object
@@ -138,7 +141,4 @@ pub no-main-object : (p : Program) (u : Typed) → WellTyped p u → (g : Global
 no-main-object p u well g has =
     let there = by-names-in (λ (g : GlobalInfo). g.name) (file_names p).globals (judged p).globals g
     (subst (λ (u : Typed). In u.globals g) well.typed_is has) in
-    parts_none (file_names p) start p.items well.kept (λ g has. absurd (nothing g has)) g there
-  where
-    nothing : (g : GlobalInfo) → In [] g → ⊥
-    nothing g (k, is) = cc
+    parts_none (file_names p) start p.items well.kept no_object g there

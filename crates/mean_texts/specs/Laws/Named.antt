@@ -195,7 +195,7 @@ find_none p (y ∷ xs) k x none is = by_test (p y) refl k is (λ j later. find_n
     by_test false here zero is next = ap p (sym (same_Some y x is)) ∙ here
     by_test false here (suc k) is next = next k (sym (ap (λ b. cond b (Some y) (find p xs)) here) ∙ none) is
 
-used_in : (numbers : List ℕ) (from : ℕ) (es : List ExternInfo) (k : ℕ) (e : ExternInfo) → slice_get es k ≡ Some e →
+pub used_in : (numbers : List ℕ) (from : ℕ) (es : List ExternInfo) (k : ℕ) (e : ExternInfo) → slice_get es k ≡ Some e →
     among (from + k) numbers ≡ true → In (used_from numbers from es) e.name
 used_in numbers from [] k e is used = absurd cc
 used_in numbers from (x ∷ es) zero e is used =

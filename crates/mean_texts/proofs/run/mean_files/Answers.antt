@@ -43,26 +43,26 @@ returns-in-Ok-mean-clause-linked g c = rw (c.as_slice.ensures, c.as_slice-2.ensu
 
 -- or failed
 
-pub returns-clause-means : goal.returns-clause-means
-returns-clause-means g c = λ linked input taken left put o m.
+pub returns-in-Err-mean-clause-means : goal.returns-in-Err-mean-clause-means
+returns-in-Err-mean-clause-means g c = λ linked input taken left put o m.
     subst (λ r. TextsGive taken o (Err r) (g.S.Source.told c.mean.new.source) (g.K.Sink.told c.mean.new.sink)) (sym c.of_fault.ensures)
     (fault_gives taken o c.in-Err-mean.fault (g.S.Source.told c.mean.new.source) (g.K.Sink.told c.mean.new.sink)
     (c.in-Err-mean.ensures.means input taken left put o
     (subst (λ units. Meaning (program_of units (frames_in c.args.files.now.frames) c.args.stack) input c.args.work o)
     (sym c.as_slice-in-Ok.ensures) m)))
 
-pub returns-clause-refused : goal.returns-clause-refused
-returns-clause-refused g c =
+pub returns-in-Err-mean-clause-refused : goal.returns-in-Err-mean-clause-refused
+returns-in-Err-mean-clause-refused g c =
     subst (IsFilesCause (names_of c.args.files.now)) (sym c.of_fault.ensures)
     (fault_cause (names_of c.args.files.now) c.in-Err-mean.fault
     (rw (c.as_slice.ensures, c.as_slice-2.ensures) at c.in-Ok.ensures.linked))
 
-pub returns-clause-input_fault : goal.returns-clause-input_fault
-returns-clause-input_fault g c = λ is.
+pub returns-in-Err-mean-clause-input_fault : goal.returns-in-Err-mean-clause-input_fault
+returns-in-Err-mean-clause-input_fault g c = λ is.
     c.in-Err-mean.ensures.input_fault (is_input_fault c.in-Err-mean.fault (ap Err (sym c.of_fault.ensures) ∙ is))
 
-pub returns-clause-output_fault : goal.returns-clause-output_fault
-returns-clause-output_fault g c = λ is.
+pub returns-in-Err-mean-clause-output_fault : goal.returns-in-Err-mean-clause-output_fault
+returns-in-Err-mean-clause-output_fault g c = λ is.
     c.in-Err-mean.ensures.output_fault (is_output_fault c.in-Err-mean.fault (ap Err (sym c.of_fault.ensures) ∙ is))
 
 -- nothing is taken or put where the names are not linked
@@ -75,10 +75,10 @@ pub returns-in-Ok-mean-clause-sink_kept : goal.returns-in-Ok-mean-clause-sink_ke
 returns-in-Ok-mean-clause-sink_kept g c = λ never.
     absurd (never (rw (c.as_slice.ensures, c.as_slice-2.ensures) at c.in-Ok.ensures.linked))
 
-pub returns-clause-source_kept : goal.returns-clause-source_kept
-returns-clause-source_kept g c = λ never.
+pub returns-in-Err-mean-clause-source_kept : goal.returns-in-Err-mean-clause-source_kept
+returns-in-Err-mean-clause-source_kept g c = λ never.
     absurd (never (rw (c.as_slice.ensures, c.as_slice-2.ensures) at c.in-Ok.ensures.linked))
 
-pub returns-clause-sink_kept : goal.returns-clause-sink_kept
-returns-clause-sink_kept g c = λ never.
+pub returns-in-Err-mean-clause-sink_kept : goal.returns-in-Err-mean-clause-sink_kept
+returns-in-Err-mean-clause-sink_kept g c = λ never.
     absurd (never (rw (c.as_slice.ensures, c.as_slice-2.ensures) at c.in-Ok.ensures.linked))

@@ -10,26 +10,26 @@ use Rattle.mean_texts.proofs.texts.mean_texts.Goals as goal
 
 -- a text is refused, or memory was wanting
 
-pub returns-clause-means : goal.returns-clause-means
-returns-clause-means g c = λ input taken left put o means.
+pub returns-in-Err-clause-means : goal.returns-in-Err-clause-means
+returns-in-Err-clause-means g c = λ input taken left put o means.
     early_gives (texts_of c.args.texts.now) c.in-Err.refusal taken o _ _ c.in-Err.ensures.refused means.together put
 
-pub returns-clause-refused : goal.returns-clause-refused
-returns-clause-refused g c = early_cause (texts_of c.args.texts.now) c.in-Err.refusal c.in-Err.ensures.refused
+pub returns-in-Err-clause-refused : goal.returns-in-Err-clause-refused
+returns-in-Err-clause-refused g c = early_cause (texts_of c.args.texts.now) c.in-Err.refusal c.in-Err.ensures.refused
 
-pub returns-clause-input_fault : goal.returns-clause-input_fault
-returns-clause-input_fault g c = λ is.
+pub returns-in-Err-clause-input_fault : goal.returns-in-Err-clause-input_fault
+returns-in-Err-clause-input_fault g c = λ is.
     absurd (no_early_fault (texts_of c.args.texts.now) c.in-Err.refusal InputFault c.in-Err.ensures.refused is)
 
-pub returns-clause-output_fault : goal.returns-clause-output_fault
-returns-clause-output_fault g c = λ is.
+pub returns-in-Err-clause-output_fault : goal.returns-in-Err-clause-output_fault
+returns-in-Err-clause-output_fault g c = λ is.
     absurd (no_early_fault (texts_of c.args.texts.now) c.in-Err.refusal OutputFault c.in-Err.ensures.refused is)
 
-pub returns-clause-complete : goal.returns-clause-complete
-returns-clause-complete g c = λ together. early_late (texts_of c.args.texts.now) c.in-Err.refusal c.in-Err.ensures.refused together
+pub returns-in-Err-clause-complete : goal.returns-in-Err-clause-complete
+returns-in-Err-clause-complete g c = λ together. early_late (texts_of c.args.texts.now) c.in-Err.refusal c.in-Err.ensures.refused together
 
-pub returns-clause-refuses : goal.returns-clause-refuses
-returns-clause-refuses g c = λ other refused.
+pub returns-in-Err-clause-refuses : goal.returns-in-Err-clause-refuses
+returns-in-Err-clause-refuses g c = λ other refused.
     early_refuses (texts_of c.args.texts.now) c.in-Err.refusal other c.in-Err.ensures.refused refused
 
 -- their files are run
