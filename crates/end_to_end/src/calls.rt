@@ -44,6 +44,26 @@ pub fn call_of(
     call(alloc, files, &words, mute)
 }
 
+/// A call over streams of a row: the most bytes that the output takes, the number of the read of the input that fails, the text of the
+/// input, and the words.
+pub fn streamed(alloc: Global, files: &mut MemFiles, row: &str) -> Result<String, AllocError> {
+    let (room, rest) = row.split_once(' ').unwrap_or((row, ""));
+    let (number, rest) = rest.split_once(' ').unwrap_or((rest, ""));
+    let (Some(room), Some(number)) = (room.parse::<u64>().ok(), number.parse::<u64>().ok()) else {
+        return String::from_str(alloc, "no number");
+    };
+    let words = words_of(alloc, rest)?;
+    let Some((text, words)) = words.split_first() else {
+        return String::from_str(alloc, "no input");
+    };
+    let owned = owned(alloc, words)?;
+    let mut input = MemSource::new(unquoted(alloc, text)?, vec![in alloc; number]?);
+    let mut out = MemSink::new(alloc, room, Vec::new(alloc))?;
+    let mut err = MemSink::new(alloc, 100, Vec::new(alloc))?;
+    let ended = drive(alloc, &owned, files, &mut input, &mut out, &mut err);
+    shown(alloc, ended, out.taken(), err.taken())
+}
+
 /// A call with these words: how it ends, and what it puts.
 pub fn call(
     alloc: Global,

@@ -4,6 +4,8 @@
 //!     failing N "NAME" "TEXT" .. => N       the same, and the read or write of this number, from 0 on, fails
 //!     call "WORD" .. => ENDED               a call of the program with these words
 //!     mute "WORD" .. => ENDED               the same, and the error sink fails at once
+//!     over ROOM N "INPUT" "WORD" .. => ENDED a call over an input whose read of this number, from 0 on, fails, and an
+//!                                           output that takes no more than ROOM bytes
 //!     holds "NAME" => "TEXT"                what a file holds
 //!     same "NAME" "NAME" => yes             whether two files hold the same bytes
 //!     build "TEXT" .. => ANSWER             the call `build` of these texts
@@ -51,6 +53,7 @@ fn answer(alloc: Global, files: &mut MemFiles, question: &str) -> Result<String,
         "failing" => calls::begin_failing(alloc, files, rest),
         "call" => calls::call_of(alloc, files, rest, false),
         "mute" => calls::call_of(alloc, files, rest, true),
+        "over" => calls::streamed(alloc, files, rest),
         "holds" => calls::held(alloc, files, rest),
         "same" => calls::are_same(alloc, files, rest),
         "build" => texts::built(alloc, rest),

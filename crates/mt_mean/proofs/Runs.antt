@@ -1,6 +1,7 @@
 -- The run of typed files, as a cause of what is answered.
-use Rattle.std.proofs.Common.{◌≡◌, ◌⊎◌, ◌≤◌, ◌<◌, ℕ, List, Bool, true, false, Option, Some, None, Result, Ok, Err, length}
-use Rattle.std.proofs.Common.{refl, sym, subst, inl, inr, arith}
+use Rattle.std.proofs.Common.{◌≡◌, ◌⊎◌, ◌≤◌, ◌<◌, ℕ, List, Bool, true, false, Option, Some, None, Result, Ok, Err, length, map}
+use Rattle.std.proofs.Common.{refl, sym, ◌∙◌, subst, inl, inr, arith}
+use Rattle.std.proofs.lemmas.List.{length-map}
 use Rattle.std.proofs.lemmas.Bool.{cases_lt}
 use Rattle.block_meaning.specs.Meaning.{Meaning, Outcome}
 use Rattle.c_ast.specs.declared.program.Program.{Program as Tree}
@@ -18,18 +19,25 @@ use Rattle.mean_program.specs.declared.end.MeanFault.TheVariants as fault
 use Rattle.mean_texts.specs.Answers.{TextsGive}
 use Rattle.mean_texts.specs.Laws.Causes.{IsFilesCause}
 use Rattle.mean_texts.specs.Laws.OneMeaning.{one_files}
-use Rattle.mean_texts.specs.Texts.{AreFiles, AreTogether, TextsMean, program_of}
+use Rattle.mean_start.specs.Files.{frames_in}
+use Rattle.mean_texts.specs.Texts.{AreFiles, AreFilesOf, AreTogether, TextsMean, program_of}
+use Rattle.mean_texts.specs.declared.files.Files.{Files}
 use Rattle.mean_texts.specs.declared.refusal.MeanRefusal.{MeanRefusal}
 use Rattle.mean_texts.specs.declared.refusal.MeanRefusal.TheVariants.{Compile, Link, Fault, NoMemory}
 use Rattle.mt_answers.specs.Answer.{ended_of}
-use Rattle.mt_answers.specs.Each.{Hold}
+use Rattle.mt_answers.specs.Each.{AreMadeOf, Hold, viewed}
+use Rattle.mt_answers.specs.Laws.EachLaws.{seen_made}
 use Rattle.mt_answers.specs.Refusals.{answer_to_link}
-use Rattle.mt_answers.specs.Seen.{Seen, IsSilent}
-use Rattle.mt_mean.specs.Laws.Sides.{sides}
+use Rattle.mt_answers.specs.Seen.{FilesSeen, Seen, IsSilent}
+use Rattle.mt_compile.specs.declared.file.TypedFile.{TypedFile}
+use Rattle.mt_mean.specs.Laws.Sides.{sides, held_texts, same_count}
 use Rattle.mt_mean.specs.Mean.{ended_as, IsCounted, CauseOfMean, ran, nothing, no_memory}
-use Rattle.mt_mean.specs.Sources.{no_link}
+use Rattle.mt_mean.specs.Sources.{no_link, filed, held_as, AreTyped}
 use Rattle.mt_mean.specs.Told.{answer_to_end, answer_to_refusal}
 use Rattle.mt_outside.specs.Told.{Rose}
+use Rattle.mt_outside.specs.declared.sink.Sink.{Ghosts as SinkGhosts}
+use Rattle.mt_outside.specs.declared.source.Source.{Ghosts as SourceGhosts}
+use Rattle.mte_machine.specs.Objects.{objects}
 use Rattle.mt_words.specs.Jobs.{MeanOptions}
 
 -- what texts mean, the files that they have mean
@@ -138,3 +146,34 @@ module _ {S K : Type 0} (files : List (List ℕ)) (options : MeanOptions) (befor
   refused (Fault fault.OutputFault) cause gives silent reads writes = failed fault.OutputFault cause gives (writes refl)
   refused (Fault fault.NoMemory) cause gives silent reads writes = failed fault.NoMemory cause gives tt
   refused (Compile file refusal) cause gives silent reads writes = absurd cause
+
+-- ---- the typed files of the sources, as the call takes them
+
+-- the texts that the files hold have these typed files
+pub record Placed (seen : FilesSeen) (names : List (List ℕ)) (files : Files) : Type 0 where
+  pub texts : List (List ℕ)
+  pub held : Hold seen names texts
+  pub are : AreFilesOf texts files
+
+pub placed : (before after : FilesSeen) (names : List (List ℕ)) (typed : List TypedFile) (files : Files) →
+    AreMadeOf (viewed held_as filed) before names typed →
+    ((texts : List (List ℕ)) → AreTyped texts (map held_as typed) → AreFilesOf texts files) → Placed before names files
+placed before after names typed files made sides =
+    let found = held_texts before names (map held_as typed) (seen_made held_as filed before after names typed made) in
+    record { texts = found.texts; held = found.held; are = sides found.texts found.typed }
+
+-- they are as many of each kind
+pub record Counted (files : Files) : Type 0 where
+  pub trees : length files.trees ≡ length files.units
+  pub frames : length files.frames.bytes.items ≡ length files.units
+
+pub counted_files : (texts : List (List ℕ)) (files : Files) → AreFilesOf texts files → Counted files
+counted_files texts files are =
+    let count = same_count texts files.trees files.units (frames_in files.frames) are in
+    record { trees = count.trees_are; frames = sym (length-map files.frames.bytes.items (λ file. file.items)) ∙ count.frames_are }
+
+-- objects that are as they were
+pub same_objects : {S K : Type 0} (source_shows : SourceGhosts S) (sink_shows : SinkGhosts K) (source other : S) (sink last : K) →
+    other ≡ source → last ≡ sink → objects source_shows sink_shows other last ≡ objects source_shows sink_shows source sink
+same_objects source_shows sink_shows source other sink last first second =
+    λ i. objects source_shows sink_shows (first i) (second i)
