@@ -60,8 +60,8 @@ returns-in-Link-clause-answers g c =
     let done = subst
     (λ (xs : List (Bor (List ℕ))). WritesLinked (names_of xs) image before.files after.files (ended_of c.write_linked.result))
     c.deref-in-Link-2.ensures.value c.write_linked.ensures in
-    subst (λ (j : JobValue). Answers (job_is j) before after c.finish_image.result) (sym c.in-Link.is)
-    (subst (λ (e : Ended). LinkAnswers (names_of c.in-Link.names.items) image before after e) (sym c.finish_image.ensures.ended)
+    subst (λ (j : JobValue). Answers (job_is j) before after c.finish_image-in-Link.result) (sym c.in-Link.is)
+    (subst (λ (e : Ended). LinkAnswers (names_of c.in-Link.names.items) image before after e) (sym c.finish_image-in-Link.ensures.ended)
     (record { writes = done; silent = refl }))
 
 pub returns-in-Run-clause-answers : goal.returns-in-Run-clause-answers
@@ -112,7 +112,7 @@ returns-in-Build-clause-usage g c =
 pub returns-in-Link-clause-usage : goal.returns-in-Link-clause-usage
 returns-in-Link-clause-usage g c =
     λ is. link_not_usage _ _ _ _ c.write_linked.ensures.cause
-    (subst (λ (e : Ended). e.why ≡ Usage) c.finish_image.ensures.ended is)
+    (subst (λ (e : Ended). e.why ≡ Usage) c.finish_image-in-Link.ensures.ended is)
 
 pub returns-in-Run-clause-usage : goal.returns-in-Run-clause-usage
 returns-in-Run-clause-usage g c =
