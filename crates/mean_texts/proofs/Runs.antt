@@ -1,9 +1,9 @@
 -- The clauses of `mean_files`, from what the link and the run answer.
-use Rattle.std.proofs.Common.{◌≡◌, ◌⊎◌, refl, sym, ap, subst, ◌∙◌, inl, inr, ℕ, List, [], ◌++◌, append-nil, Option, Some, Result, Ok, Err}
+use Rattle.std.proofs.Common.{◌≡◌, refl, sym, ap, subst, ◌∙◌, inl, inr, ℕ, List, [], append-nil, Option, Some, Result, Err}
 use Rattle.block_meaning.specs.Meaning.{Outcome}
 use Rattle.linker.specs.declared.refusal.LinkRefusal.{LinkRefusal}
 use Rattle.linker.specs.declared.refusal.LinkRefusal.TheVariants as link
-use Rattle.mean_link.specs.LinkFault.{AreLinked, LinkFault, IsLinkCause, too_many, repeated, no_main, missing}
+use Rattle.mean_link.specs.LinkFault.{AreLinked, IsLinkCause, too_many, repeated, no_main, missing}
 use Rattle.mean_link.specs.Laws.OneAnswer.{no_fault}
 use Rattle.mean_link.specs.declared.names.FileNames.{FileNames}
 use Rattle.mean_program.specs.Answers.{MeanGives, PutPart}
@@ -14,7 +14,7 @@ use Rattle.mean_texts.specs.Answers.{TextsGive}
 use Rattle.mean_texts.specs.Laws.Causes.{IsFilesCause}
 use Rattle.mean_texts.specs.Refusal.{of_link, of_fault}
 use Rattle.mean_texts.specs.declared.refusal.MeanRefusal.{MeanRefusal}
-use Rattle.mean_texts.specs.declared.refusal.MeanRefusal.TheVariants.{Compile, Link, Fault, NoMemory}
+use Rattle.mean_texts.specs.declared.refusal.MeanRefusal.TheVariants.{Fault}
 
 -- answers that refuse
 abbrev pub Refuses : MeanRefusal → Result MeanEnd MeanRefusal

@@ -6,10 +6,9 @@ use Rattle.std.proofs.lemmas.List.{map-append, take-append-drop, length-map, tak
 use Rattle.std.specs.Global.{Vec}
 use Rattle.c_ast.specs.declared.program.Program.{Program as Tree}
 use Rattle.c_type_base.specs.declared.typed.Typed.{Typed}
-use Rattle.mean_texts.specs.Refusal.{RefusesTexts, AreRefused, source, of_source, file_number}
+use Rattle.mean_texts.specs.Refusal.{AreRefused, source, of_source, file_number}
 use Rattle.mean_texts.specs.Texts.{AreFiles, AreFilesOf, texts_of}
 use Rattle.mean_texts.specs.declared.files.Files.{Files}
-use Rattle.mean_texts.specs.declared.refusal.MeanRefusal.{MeanRefusal}
 use Rattle.mean_texts.specs.declared.refusal.MeanRefusal.TheVariants.{Compile, NoMemory}
 use Rattle.mean_start.specs.Files.{frames_in}
 use Rattle.mt_compile.specs.Planned.{HasFile, PlanRefuses, IsPlanCause, not_typed, unplanned}
@@ -17,7 +16,6 @@ use Rattle.mt_compile.specs.Refused.{faulty, too_long, unexpected, too_deep}
 use Rattle.mt_compile.specs.Typed.{not_read, broken}
 use Rattle.mt_compile.specs.declared.refused.Refused.{Refused}
 use Rattle.mt_compile.specs.declared.refusal.CompileRefusal.{CompileRefusal}
-use Rattle.mt_compile.specs.declared.refusal.CompileRefusal.TheVariants as compile
 use Rattle.mt_compile.specs.declared.source.SourceText.{SourceText}
 
 -- ---- files

@@ -1,5 +1,5 @@
 -- The clauses of `mean_texts`, from what its parts answer.
-use Rattle.std.proofs.Common.{◌≡◌, ◌⊎◌, refl, sym, ap, subst, ◌∙◌, inl, inr, ℕ, List, Option, Some, Result, Ok, Err}
+use Rattle.std.proofs.Common.{◌≡◌, ◌⊎◌, refl, sym, subst, inl, inr, ℕ, List, Option, Some, Result, Ok, Err}
 use Rattle.std.specs.Prelude.{IfOk, IfErr, MatchResult}
 use Rattle.block_meaning.specs.Meaning.{Meaning, Outcome}
 use Rattle.mean_link.specs.LinkFault.{AreLinked}
@@ -11,8 +11,8 @@ use Rattle.mean_texts.specs.Answers.{TextsGive, IsCause, IsLate}
 use Rattle.mean_texts.specs.Laws.Causes.{IsFilesCause}
 use Rattle.mean_texts.specs.Laws.Linked.{together-mean}
 use Rattle.mean_texts.specs.Laws.OneMeaning.{never_refused, one_refusal, one_files}
-use Rattle.mean_texts.specs.Refusal.{RefusesTexts, AreRefused, source, unlinked}
-use Rattle.mean_texts.specs.Texts.{AreFiles, AreFilesOf, AreTogether, TextsMean, HaveMeaning, names_of, program_of}
+use Rattle.mean_texts.specs.Refusal.{AreRefused, source, unlinked}
+use Rattle.mean_texts.specs.Texts.{AreFilesOf, AreTogether, TextsMean, HaveMeaning, names_of, program_of}
 use Rattle.mean_texts.specs.declared.files.Files.{Files}
 use Rattle.mean_texts.specs.declared.refusal.MeanRefusal.{MeanRefusal}
 use Rattle.mean_texts.specs.declared.refusal.MeanRefusal.TheVariants.{Compile, Link, Fault, NoMemory}

@@ -1,5 +1,5 @@
 -- What `mean_texts` answers, by what the texts mean.
-use Rattle.std.specs.Prelude.{◌≡◌, ℕ, List, Option, Result, Ok, Err}
+use Rattle.std.specs.Prelude.{ℕ, List, Option, Result, Ok, Err}
 use Rattle.block_meaning.specs.Meaning.{Outcome}
 use Rattle.mean_program.specs.Answers.{EndIs, Leaves, PutPart}
 use Rattle.mean_program.specs.declared.end.MeanEnd.{MeanEnd}

@@ -1,8 +1,7 @@
 -- Why texts mean nothing (this project's own): a text that is refused comes before the link.
-use Rattle.std.specs.Prelude.{◌≡◌, ◌≢◌, ◌⊎◌, ℕ, min, List, ◌∷◌, ◌++◌, length}
+use Rattle.std.specs.Prelude.{◌≡◌, ℕ, min, List, ◌∷◌, ◌++◌, length}
 use Rattle.c_ast.specs.declared.program.Program.{Program as Tree}
 use Rattle.c_type_base.specs.declared.typed.Typed.{Typed}
-use Rattle.linker.specs.Refusal.{number_of as link_number}
 use Rattle.linker.specs.declared.refusal.LinkRefusal.{LinkRefusal}
 use Rattle.linker.specs.declared.refusal.LinkRefusal.TheVariants as link
 use Rattle.mean_link.specs.LinkFault.{LinkFault}
@@ -13,7 +12,6 @@ use Rattle.mean_texts.specs.Texts.{AreFiles}
 use Rattle.mean_texts.specs.declared.refusal.MeanRefusal.{MeanRefusal}
 use Rattle.mean_texts.specs.declared.refusal.MeanRefusal.TheVariants.{Compile, Link, Fault, NoMemory}
 use Rattle.mt_compile.specs.Planned.{PlanRefuses}
-use Rattle.mt_compile.specs.Refused.{number_of as compile_number}
 use Rattle.mt_compile.specs.declared.refusal.CompileRefusal.{CompileRefusal}
 use Rattle.mt_compile.specs.declared.refusal.CompileRefusal.TheVariants as compile
 

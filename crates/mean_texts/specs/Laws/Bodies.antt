@@ -1,5 +1,5 @@
 -- The bodies of functions that tokens spell are blocks.
-use Rattle.std.proofs.Common.{◌≡◌, refl, ℕ, List, [], ◌∷◌, ◌++◌}
+use Rattle.std.proofs.Common.{refl, ℕ, List, [], ◌∷◌, ◌++◌}
 use Rattle.std.specs.List.{AllByRecursion}
 use Rattle.c_ast.specs.Seen.{Seen}
 use Rattle.c_ast.specs.declared.expr.CType.{CType}

@@ -1,32 +1,25 @@
 -- Texts together have a meaning: their files are well typed, and the names that they use are linked.
-use Rattle.std.proofs.Common.{◌≡◌, ◌⊎◌, refl, sym, ap, subst, ◌∙◌, ℕ, zero, suc, ◌+◌, Bool, true, false, ◌||◌, List, [], ◌∷◌, ◌++◌}
-use Rattle.std.proofs.Common.{map, length, slice_get, arith, Option, Some, None}
+use Rattle.std.proofs.Common.{◌≡◌, refl, sym, ap, subst, ◌∙◌, ℕ, zero, suc, ◌+◌, Bool, true, false, ◌||◌, List, [], ◌∷◌, ◌++◌}
+use Rattle.std.proofs.Common.{map, length, slice_get, arith, Some}
 use Rattle.std.proofs.lemmas.List.{length-map}
 use Rattle.std.proofs.lemmas.Option.{same_Some}
 use Rattle.c_ast.specs.declared.program.Program.{Program as Tree}
-use Rattle.c_type_base.specs.declared.statement.TStmt.{out-TStmt}
-use Rattle.c_type_base.specs.declared.typed.ExternInfo.{ExternInfo}
 use Rattle.c_type_base.specs.declared.typed.TFunction.{TFunction}
 use Rattle.c_type_base.specs.declared.typed.Typed.{Typed}
 use Rattle.slot_safety.specs.Kinds.{among}
-use Rattle.block_meaning.specs.ExpressionsInOrder.{IsDefined}
-use Rattle.block_meaning.specs.Laws.Progress.Meaning.{HasMeaning}
-use Rattle.block_meaning.specs.Linkage.{AFunction, function_of, defined, extern_in, extern_at}
-use Rattle.block_meaning.specs.Running.{Program}
+use Rattle.block_meaning.specs.Linkage.{function_of, extern_in}
 use Rattle.frame_plan.specs.Refusal.{frame_bytes}
 use Rattle.mean_link.specs.LinkFault.{AreLinked}
-use Rattle.mean_link.specs.Names.{main_name, names_in, names_of}
+use Rattle.mean_link.specs.Names.{names_in}
 use Rattle.mean_link.specs.Uses.{joined, file_uses, object_uses, function_uses}
 use Rattle.mean_texts.specs.Laws.Used.{used-among}
 use Rattle.mean_texts.specs.Laws.Bodies.{spelled-bodied}
 use Rattle.mean_texts.specs.Laws.Mains.{no-main-object}
 use Rattle.mean_texts.specs.Laws.Named.{used_in, used-defined, main-defined}
-use Rattle.mean_texts.specs.Texts.{AreFiles, AreTogether, TextsMean, HaveMeaning, program_of}
+use Rattle.mean_texts.specs.Texts.{AreFiles, AreTogether, HaveMeaning, program_of}
 use Rattle.mt_compile.specs.Planned.{HasFile}
-use Rattle.well_typed_order.specs.Laws.Growth.{In}
 use Rattle.well_typed_order.specs.Laws.Programs.{program-has_meaning}
 use Rattle.well_typed_order.specs.Links.{Links, Framed, UsedLinked}
-use Rattle.well_typed_order.specs.Uses.{StmtUses}
 use Rattle.well_typed_order.specs.WellTypedPrograms.{FileOf, WellTypedProgram}
 
 -- the text and the rest of the file of a number

@@ -1,5 +1,5 @@
 -- No object of a well-typed file is called `main`.
-use Rattle.std.proofs.Common.{◌≡◌, ◌⊎◌, refl, sym, ap, subst, ◌∙◌, inl, inr, ℕ, zero, suc, Bool, true, false, not}
+use Rattle.std.proofs.Common.{◌≡◌, ◌⊎◌, refl, sym, subst, ◌∙◌, inl, inr, ℕ, zero, suc, Bool, true, false, not}
 use Rattle.std.proofs.Common.{List, [], ◌∷◌, ◌++◌, Option, Some, None}
 use Rattle.std.specs.Prelude.{if◌then◌else◌}
 use Rattle.std.specs.Str.{bytes_eq}
@@ -22,7 +22,6 @@ use Rattle.c_type_stmt.specs.Declarations.{declared_type, object_rules, init_of}
 use Rattle.c_types.specs.Files.{is_extern, is_static, file_names}
 use Rattle.c_types.specs.Functions.{main_name, result_type}
 use Rattle.c_types.specs.Redeclarations.{may_stand}
-use Rattle.c_types.specs.Structs.{tag_alone}
 use Rattle.c_types.specs.Units.{Judgement, start, global_of, object_judged, objects_judged, part_judged, parts_judged, judged}
 use Rattle.c_types.specs.Units.{with_outcome, with_tag, with_body, with_members, struct_judged, with_function, head_judged, parameters_in}
 use Rattle.c_types.specs.Units.{object_declared, extern_rules, pieces_in}

@@ -1,6 +1,6 @@
 -- What the names of linked files stand for.
-use Rattle.std.proofs.Common.{◌≡◌, ◌⊎◌, refl, sym, ap, subst, ◌∙◌, inl, inr, ℕ, zero, suc, ◌+◌, ◌<◌, arith, Bool, true, false, not, ◌&&◌}
-use Rattle.std.proofs.Common.{◌||◌, List, [], ◌∷◌, ◌++◌, cond, find, flat_map, Option, Some, None, slice_get, codes}
+use Rattle.std.proofs.Common.{◌≡◌, ◌⊎◌, refl, sym, ap, subst, ◌∙◌, inl, inr, ℕ, zero, suc, ◌+◌, arith, Bool, true, false, not, ◌&&◌}
+use Rattle.std.proofs.Common.{◌||◌, List, [], ◌∷◌, ◌++◌, cond, find, flat_map, Option, Some, None, slice_get}
 use Rattle.std.specs.Prelude.{if◌then◌else◌}
 use Rattle.std.specs.List.{filter, list_any, position_from}
 use Rattle.std.specs.Str.{bytes_eq}
@@ -16,48 +16,14 @@ use Rattle.slot_safety.specs.Kinds.{among}
 use Rattle.block_meaning.specs.ExpressionsInOrder.{IsDefined}
 use Rattle.block_meaning.specs.Linkage.{Definition, AnObject, AFunction, function_of, is_object_named, is_function_named, or_definition}
 use Rattle.block_meaning.specs.Linkage.{object_at, function_at, defined_in, defined_from, defined}
-use Rattle.mean_link.specs.LinkFault.{defined_by, undefined_by, main_in, has_main, first_missing, is_missing}
+use Rattle.mean_link.specs.LinkFault.{defined_by, undefined_by, has_main, first_missing, is_missing}
 use Rattle.mean_link.specs.Names.{is_among, declared, object_name, function_name, global_names, main_name, is_main}
 use Rattle.mean_link.specs.Names.{used_from, names_of, names_in}
-use Rattle.mean_link.specs.declared.names.FileNames.{FileNames}
+use Rattle.mean_texts.specs.Laws.Tests.{or_side, or_false, and_true, and_false, swapped, not_false, flipped}
 use Rattle.well_typed_order.specs.Laws.Growth.{In}
 
 abbrev Name : Type 0
 Name = List ℕ
-
--- ---- tests
-
-or_side : (a b : Bool) → (a || b) ≡ true → (a ≡ true) ⊎ (b ≡ true)
-or_side true b is = inl refl
-or_side false b is = inr is
-
-or_false : (a : Bool) → (a || false) ≡ a
-or_false true = refl
-or_false false = refl
-
-and_true : (a : Bool) → (a && true) ≡ a
-and_true true = refl
-and_true false = refl
-
-and_false : (a : Bool) → (a && false) ≡ false
-and_false true = refl
-and_false false = refl
-
--- two names are compared either way
-swapped : (a b : Name) → bytes_eq a b ≡ bytes_eq b a
-swapped a b = by_test (bytes_eq a b) refl (bytes_eq b a) refl
-  where
-    by_test : (x : Bool) → bytes_eq a b ≡ x → (y : Bool) → bytes_eq b a ≡ y → x ≡ y
-    by_test true is true its = refl
-    by_test false is false its = refl
-    by_test true is false its = absurd (wrong (sym its ∙ (bytes_eq-Decides b a).1 (sym ((bytes_eq-Decides a b).0 is))))
-      where
-        wrong : false ≡ true → ⊥
-        wrong e = cc
-    by_test false is true its = absurd (wrong (sym is ∙ (bytes_eq-Decides a b).1 (sym ((bytes_eq-Decides b a).0 its))))
-      where
-        wrong : false ≡ true → ⊥
-        wrong e = cc
 
 -- ---- what is defined
 
@@ -233,10 +199,6 @@ undefined_in (q ∷ ps) (v ∷ us) zero p u name is its has =
 undefined_in (q ∷ ps) (v ∷ us) (suc unit) p u name is its has =
     in_second (names_of q v).undefined (flat_map undefined_by (names_in ps us)) name (undefined_in ps us unit p u name is its has)
 
-not_false : (b : Bool) → not b ≡ false → b ≡ true
-not_false true is = refl
-not_false false is = absurd cc
-
 -- what a file leaves to others is defined, where nothing is missing
 pub used-defined : (ps : List Program) (us : List Typed) (unit : ℕ) (p : Program) (u : Typed) (name : Name) →
     first_missing (names_in ps us) ≡ None → slice_get ps unit ≡ Some p → slice_get us unit ≡ Some u →
@@ -256,10 +218,6 @@ no_place [] from other = refl
 no_place (g ∷ gs) from other =
     ap (λ b. cond (b && not g.local) (Some from) (position_from (is_object_named main_name) (from + 1) gs)) (other g (0, refl))
     ∙ no_place gs (from + 1) (λ h has. other h (suc has.0, has.1))
-
-flipped : (a b : Bool) → (a && b) ≡ (b && a)
-flipped true b = sym (and_true b)
-flipped false b = sym (and_false b)
 
 test_is : (fs : List TFunction) → list_any is_main fs ≡ list_any (is_function_named main_name) fs
 test_is [] = refl

@@ -1,5 +1,5 @@
 -- Texts have one meaning, or one refusal, and not both: each has its file in turn, and then their names are linked.
-use Rattle.std.proofs.Common.{◌≡◌, ◌⊎◌, ℕ, suc, ◌+◌, List, [], ◌∷◌, ◌++◌, length, refl, sym, ap, ◌∙◌, subst, arith}
+use Rattle.std.proofs.Common.{◌≡◌, ℕ, suc, ◌+◌, List, [], ◌∷◌, ◌++◌, length, refl, sym, ap, ◌∙◌, subst, arith}
 use Rattle.c_ast.specs.declared.program.Program.{Program as Tree}
 use Rattle.c_type_base.specs.declared.typed.Typed.{Typed}
 use Rattle.c_types.specs.Laws.WellTypedLaws.{one_typed}

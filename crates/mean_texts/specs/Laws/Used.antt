@@ -1,20 +1,16 @@
 -- An extern that a statement uses, by the derivations that order asks for, is among those to which it refers, as the link sees them.
-use Rattle.std.proofs.Common.{◌≡◌, refl, sym, ap, ◌∙◌, subst, ℕ, Bool, true, false, ◌||◌, List, [], ◌∷◌, ◌++◌, map}
+use Rattle.std.proofs.Common.{◌≡◌, refl, ap, ◌∙◌, ℕ, Bool, true, false, ◌||◌, List, [], ◌∷◌, ◌++◌, map}
 use Rattle.std.proofs.Common.{nat_eq, arith, Option, Some, None}
 use Rattle.std.proofs.lemmas.Bool.Decides.{nat_tests}
-use Rattle.c_type_base.specs.declared.expr.Callee.{Callee}
-use Rattle.c_type_base.specs.declared.expr.Callee.TheVariants as callee
 use Rattle.c_type_base.specs.declared.expr.TExpr.{TExpr}
 use Rattle.c_type_base.specs.declared.expr.TNode.{TNode, out-TNode, map-TNode}
 use Rattle.c_type_base.specs.declared.expr.TNode.TheFolds.{fold_out-TNode, fold_out-TExpr}
-use Rattle.c_type_base.specs.declared.expr.TNode.TheOpen.{TNode-F}
 use Rattle.c_type_base.specs.declared.statement.TDecl.{TDecl}
 use Rattle.c_type_base.specs.declared.statement.TInit.{TInit, out-TInit, map-TInit}
 use Rattle.c_type_base.specs.declared.statement.TInit.TheFolds.{fold_out-TInit}
 use Rattle.c_type_base.specs.declared.statement.TInit.TheOpen.{TInit-F}
 use Rattle.c_type_base.specs.declared.statement.TItem.{TItem, out-TItem, map-TItem}
 use Rattle.c_type_base.specs.declared.statement.TItem.TheFolds.{fold_out-TItem, fold_out-TStmt}
-use Rattle.c_type_base.specs.declared.statement.TItem.TheOpen.{TItem-F, TStmt-F}
 use Rattle.c_type_base.specs.declared.statement.TStmt.{TStmt, out-TStmt, map-TStmt}
 use Rattle.slot_safety.specs.Kinds.{among}
 use Rattle.block_meaning.specs.Expressions.{NodeLayer}

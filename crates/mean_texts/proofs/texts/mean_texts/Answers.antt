@@ -1,4 +1,4 @@
-use Rattle.std.proofs.Common.{sym, ap, subst, ◌∙◌}
+use Rattle.std.proofs.Common.{sym, ◌∙◌}
 use Rattle.mean_program.specs.declared.end.MeanFault.TheVariants.{InputFault, OutputFault}
 use Rattle.mean_start.specs.Files.{frames_in}
 use Rattle.std.proofs.lemmas.List.{length-map}
