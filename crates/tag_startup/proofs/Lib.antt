@@ -1,4 +1,4 @@
-mod Held
+mod Loads
 mod Started
 mod Tagging
 mod Storing

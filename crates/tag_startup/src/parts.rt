@@ -1,17 +1,16 @@
-// Where the parts of an image and the stack lie, and their bytes.
-ghost use Rattle.std.specs.Prelude.{◌≡◌, ℕ, ◌+◌, ◌-◌, ◌<◌, ◌≤◌, IfOk, length, replicate, slice_index};
-ghost use Rattle.elf_base.specs.Laying.{pad};
+// Where the parts of an image and the stack lie.
+ghost use Rattle.std.specs.Prelude.{◌≡◌, ◌≤◌, IfOk};
 ghost use Rattle.elf_image.specs.Image.{image_of};
 ghost use Rattle.elf_image.specs.Places.{IsValid};
-ghost use Rattle.mt_base.specs.Granules.{round16};
-ghost use Rattle.tag_mem.specs.Regions.{extent_of, extents_of, span_of, byte_in};
-ghost use Rattle.tag_startup.specs.Parts.{IsStack, file_byte, loaded_guard, loaded_regions, part, stack_region};
+ghost use Rattle.tag_mem.specs.Regions.{span_of};
+ghost use Rattle.tag_pages.specs.Parts.{extent, extents};
+ghost use Rattle.tag_startup.specs.Parts.{IsStack, loaded_guard, loaded_regions, part, stack_region};
 
-use elf_base::pad_to;
-use elf_image::{ImageParts, push_code, push_writable, read_only_bytes};
+use elf_image::ImageParts;
 use mt_base::round16;
 use std::alloc::{AllocError, Global};
-use tag_mem::{Region, Span64};
+use tag_mem::Span64;
+use tag_pages::Bounds;
 
 /// Where an image is loaded.
 pub const LOAD_ADDRESS: u64 = 0x1000_0000;
@@ -33,64 +32,41 @@ pub fn guard_of(stack: u64) -> Span64
     }
 }
 
-/// The parts of an image, and a stack of so many bytes.
-pub fn regions_of(alloc: Global, image: &ImageParts, stack: u64) -> Result<Vec<Region>, AllocError>
+/// Where the parts of an image lie, and a stack of so many bytes.
+pub fn regions_of(alloc: Global, image: &ImageParts, stack: u64) -> Result<Vec<Bounds>, AllocError>
     requires valid { IsValid (image_of image.now) }
     requires stack { IsStack stack }
-    ensures places { IfOk result (λ regions. extents_of regions.items ≡ loaded_regions (image_of image.now) stack) }
-    ensures bytes { IfOk result (λ regions. byte_in regions.items ≡ file_byte (image_of image.now) stack) }
+    ensures { IfOk result (λ regions. extents regions.items ≡ loaded_regions (image_of image.now) stack) }
 {
-    let tables = read_only_bytes(alloc, image)?;
-    let read_only = part_of(tables, 0, image.rodata_end(), false, false)?;
-    let mut words = Vec::new(alloc);
-    push_code(&mut words, image)?;
-    let code = part_of(words, image.code_place(), image.code_end(), false, true)?;
-    let mut entries = Vec::new(alloc);
-    push_writable(&mut entries, image)?;
-    let data = part_of(
-        entries,
-        image.dynamic_place(),
-        image.memory_end(),
-        true,
-        false,
-    )?;
-    let stack = stack_of(alloc, stack)?;
-    Ok(vec![in alloc; read_only, code, data, stack]?)
+    let read_only = part_of(0, image.rodata_end(), false, false);
+    let code = part_of(image.code_place(), image.code_end(), false, true);
+    let data = part_of(image.dynamic_place(), image.memory_end(), true, false);
+    Ok(vec![in alloc; read_only, code, data, stack_of(stack)]?)
 }
 
-// The part of an image from one place to another, which begins with these bytes and goes on with zeros.
-fn part_of(
-    mut bytes: Vec<u8>,
-    start: u64,
-    end: u64,
-    writable: bool,
-    executable: bool,
-) -> Result<Region, AllocError>
-    requires fits { start + length bytes.items ≤ end }
+// The part of an image from one place to another.
+fn part_of(start: u64, end: u64, writable: bool, executable: bool) -> Bounds
+    requires order { start ≤ end }
     requires within { end ≤ 268435456 }
-    ensures place { IfOk result (λ r. extent_of r ≡ part start end writable executable) }
-    ensures bytes { IfOk result (λ r. r.bytes.items ≡ pad (round16 (end - start)) bytes.items) }
-    ensures in_range { (i : ℕ) → slice_index bytes.items i < 256 }
+    ensures { extent result ≡ part start end writable executable }
 {
-    pad_to(&mut bytes, round16(end - start))?;
-    Ok(Region {
+    Bounds {
         start: LOAD_ADDRESS + start,
-        bytes,
+        bytes: round16(end - start),
         writable,
         executable,
-    })
+    }
 }
 
 // A stack of so many bytes.
-fn stack_of(alloc: Global, stack: u64) -> Result<Region, AllocError>
+fn stack_of(stack: u64) -> Bounds
     requires { IsStack stack }
-    ensures place { IfOk result (λ r. extent_of r ≡ stack_region stack) }
-    ensures bytes { IfOk result (λ r. r.bytes.items ≡ replicate stack 0) }
+    ensures { extent result ≡ stack_region stack }
 {
-    Ok(Region {
+    Bounds {
         start: STACK_END - stack,
-        bytes: vec![in alloc; 0; stack as usize]?,
+        bytes: stack,
         writable: true,
         executable: false,
-    })
+    }
 }
