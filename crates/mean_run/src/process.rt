@@ -1,8 +1,7 @@
 //! A run between two of its steps.
 
-use crate::frames::Frame;
-use crate::here::Here;
-use crate::now::Now;
+use mean_control::Frame;
+use mean_effects::{Here, Now};
 
 /// What a run has between two of its steps.
 #[derive(Drop)]

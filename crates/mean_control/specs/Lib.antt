@@ -1,0 +1,3 @@
+pub mod Stacked
+pub mod Turns
+pub mod Laws
