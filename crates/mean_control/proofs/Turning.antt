@@ -4,12 +4,12 @@ use Rattle.block_meaning.specs.Running.{Context, State}
 use Rattle.mean_machine.specs.Execution.{turn}
 use Rattle.mean_machine.specs.Frames as machine
 use Rattle.mean_machine.specs.Going.{spend}
-use Rattle.mean_control.specs.Stacked.{World, Stands}
+use Rattle.mean_expressions.specs.Stacked.{World, Stands}
 use Rattle.mean_control.specs.Turns.{turn_after}
 use Rattle.mean_effects.specs.declared.now.Ending.{Ending}
 use Rattle.mean_effects.specs.declared.now.Now.{Now}
-use Rattle.mean_control.specs.declared.frames.Control.{Control}
-use Rattle.mean_control.specs.declared.frames.Frame.{Frame}
+use Rattle.mean_expressions.specs.declared.frames.Control.{Control}
+use Rattle.mean_expressions.specs.declared.frames.Frame.{Frame}
 
 pub stands-turn : {n : Now} {frames : List Frame} {w : World} {here : Context} {start : State} {r : Result Control Ending}
     (k : List machine.Frame) (l : machine.Loop) → Stands n frames w here start r (spend (turn_after here k l) start) →

@@ -1,3 +1,1 @@
-pub mod Stacked
 pub mod Turns
-pub mod Laws

@@ -10,14 +10,13 @@ ghost use Rattle.mean_machine.specs.Frames as waiting;
 ghost use Rattle.mean_machine.specs.Going.{by};
 ghost use Rattle.mean_effects.specs.Objects.{objects_of, object_of};
 ghost use Rattle.mean_effects.specs.Shown.{IsNow, IsHere, IsWindow, Gives};
-ghost use Rattle.mean_control.specs.Stacked.{World, Stacked, Stands, done_of};
+ghost use Rattle.mean_expressions.specs.Stacked.{World, Stacked, Stands, done_of};
 ghost use Rattle.mean_effects.specs.declared.now.Now.{Now as Code};
 
-use crate::frames::{Control, DoneFrame, Frame};
-use crate::locating::local_block;
 use block_meaning::Pointer;
 use c_type_base::{TDecl, TInit, Ty, is_array};
 use mean_effects::{Ending, Here, Now, Object, spend, zero_object};
+use mean_expressions::{Control, DoneFrame, Frame, local_block};
 use sqlite_items::at;
 
 /// A declaration with its initialiser, and the declarations behind it.

@@ -5,12 +5,12 @@ ghost use Rattle.block_meaning.specs.Running.{Context, State};
 ghost use Rattle.mean_machine.specs.Execution as machine;
 ghost use Rattle.mean_machine.specs.Frames as waiting;
 ghost use Rattle.mean_effects.specs.Shown.{IsNow, IsHere};
-ghost use Rattle.mean_control.specs.Stacked.{World, Stacked, Stands, done_of};
+ghost use Rattle.mean_expressions.specs.Stacked.{World, Stacked, Stands, done_of};
 
-use crate::frames::{Control, DoneFrame, Flow, Frame, Loop};
 use crate::initialising::{elements, members};
 use crate::loops::effect_then_turn;
 use mean_effects::{Ending, Here, Now};
+use mean_expressions::{Control, DoneFrame, Flow, Frame, Loop};
 
 /// A declaration or an initialiser has ended.
 pub fn done_given<'a>(

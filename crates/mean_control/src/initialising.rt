@@ -16,16 +16,16 @@ ghost use Rattle.mean_machine.specs.Going.{by, finished, spend as spend_then};
 ghost use Rattle.mean_start.specs.Files.{IsFile};
 ghost use Rattle.mean_effects.specs.Shown.{IsNow, IsHere, Gives};
 ghost use Rattle.mean_effects.specs.Objects.{object_of};
-ghost use Rattle.mean_control.specs.Stacked.{World, Stacked, Stands};
+ghost use Rattle.mean_expressions.specs.Stacked.{World, Stacked, Stands};
 ghost use Rattle.mean_effects.specs.declared.now.Now.{Now as Code};
 
 use crate::declaring::fill_first;
-use crate::frames::{Control, DoneFrame, Frame, ValueFrame};
 use crate::statements::value_first;
 use block_meaning::Pointer;
 use c_ast::Bytes;
 use c_type_base::{MemberInfo, TExpr, TInit, TNode, Ty, is_struct, wrapped_size};
 use mean_effects::{Ending, Here, Now, Object, fill_text, moved_by, spend};
+use mean_expressions::{Control, DoneFrame, Frame, ValueFrame};
 use mean_memory::moved;
 use mean_start::File;
 use sqlite_items::at;

@@ -6,13 +6,13 @@ ghost use Rattle.block_meaning.specs.Running.{Context, State};
 ghost use Rattle.mean_machine.specs.Execution as machine;
 ghost use Rattle.mean_machine.specs.Frames as waiting;
 ghost use Rattle.mean_effects.specs.Shown.{IsNow};
-ghost use Rattle.mean_control.specs.Stacked.{World, Stacked, Stands, loop_of, heading_of};
+ghost use Rattle.mean_expressions.specs.Stacked.{World, Stacked, Stands, loop_of, heading_of};
 ghost use Rattle.mean_effects.specs.declared.now.Now.{Now as Code};
 
-use crate::frames::{Control, FlowFrame, Frame, Heading, Loop, ValueFrame};
 use crate::statements::value_first;
 use c_type_base::{TExpr, TStmt};
 use mean_effects::{Ending, Now, spend};
+use mean_expressions::{Control, FlowFrame, Frame, Heading, Loop, ValueFrame};
 
 /// The body of a loop is executed.
 fn body_first<'a>(

@@ -7,14 +7,14 @@ ghost use Rattle.c_type_base.specs.declared.statement.TStmt.{out-TStmt};
 ghost use Rattle.mean_machine.specs.Execution as machine;
 ghost use Rattle.mean_machine.specs.Frames as waiting;
 ghost use Rattle.mean_effects.specs.Shown.{IsNow};
-ghost use Rattle.mean_control.specs.Stacked.{World, Stacked, Stands, value_frame_of, flow_of, loop_of};
+ghost use Rattle.mean_expressions.specs.Stacked.{World, Stacked, Stands, value_frame_of, flow_of, loop_of};
 ghost use Rattle.mean_effects.specs.declared.now.Now.{Now as Code};
 
-use crate::frames::{Control, DoneFrame, Flow, FlowFrame, Frame, Loop, ValueFrame};
 use crate::loops::{after_turn, turn};
 use block_meaning::Value;
 use c_type_base::{TExpr, TItem, TStmt};
 use mean_effects::{Ending, Now};
+use mean_expressions::{Control, DoneFrame, Flow, FlowFrame, Frame, Loop, ValueFrame};
 use sqlite_items::Boxed;
 
 /// An expression is evaluated for a frame.

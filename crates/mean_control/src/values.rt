@@ -8,13 +8,13 @@ ghost use Rattle.mean_machine.specs.Frames as waiting;
 ghost use Rattle.mean_machine.specs.Going.{either, flow};
 ghost use Rattle.mean_effects.specs.Shown.{IsNow, IsHere, Gives};
 ghost use Rattle.mean_effects.specs.Objects.{object_of};
-ghost use Rattle.mean_control.specs.Stacked.{World, Stacked, Stands, loop_of, standing, value_frame_of};
+ghost use Rattle.mean_expressions.specs.Stacked.{World, Stacked, Stands, loop_of, standing, value_frame_of};
 
-use crate::frames::{Control, Flow, Frame, Loop, ValueFrame};
 use crate::loops::{holding, turn};
 use block_meaning::Value;
 use c_type_base::{TExpr, TStmt};
 use mean_effects::{Copy, Ending, Here, Now, Object, copy_struct, is_true, write};
+use mean_expressions::{Control, Flow, Frame, Loop, ValueFrame};
 use mean_memory::pointer_in;
 
 /// An `if` whose condition is evaluated.

@@ -6,7 +6,7 @@ use Rattle.std.specs.Prelude.{slice_get}
 use Rattle.std.proofs.lemmas.List.{take_more, length-take-le}
 use Rattle.block_meaning.specs.Running.{State}
 use Rattle.mean_machine.specs.Frames.{Machine}
-use Rattle.mean_control.specs.declared.frames.Frame.{Frame}
+use Rattle.mean_expressions.specs.declared.frames.Frame.{Frame}
 use Rattle.mean_effects.specs.declared.now.Ending.{Ending}
 use Rattle.mean_effects.specs.declared.now.Ending.TheVariants as ending
 use Rattle.mean_run.specs.declared.process.Process.{Process}

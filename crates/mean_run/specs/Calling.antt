@@ -20,7 +20,7 @@ use Rattle.mean_effects.specs.declared.now.Now.{Now}
 use Rattle.mean_run.specs.declared.process.Process.{Process}
 use Rattle.mean_run.specs.Entering.{Origin, Behind}
 use Rattle.mean_effects.specs.Shown.{IsNow, IsHere, Quiet}
-use Rattle.mean_control.specs.Stacked.{IsAt, Stacked, StopsBy, outside_call}
+use Rattle.mean_expressions.specs.Stacked.{IsAt, Stacked, StopsBy, outside_call}
 use Rattle.mean_run.specs.Processes.{world_of}
 
 -- ---- which function

@@ -4,8 +4,8 @@ use Rattle.block_meaning.specs.Running.{Context, State}
 use Rattle.mean_machine.specs.Frames as machine
 use Rattle.mean_effects.specs.Shown.{IsNow}
 use Rattle.mean_effects.specs.declared.now.Ending.{Ending}
-use Rattle.mean_control.specs.declared.frames.Control.{Control}
-use Rattle.mean_control.specs.Stacked.{World, IsAt, Stacked, Stood, Sticks, StopsBy}
+use Rattle.mean_expressions.specs.declared.frames.Control.{Control}
+use Rattle.mean_expressions.specs.Stacked.{World, IsAt, Stacked, Stood, Sticks, StopsBy}
 use Rattle.mean_run.specs.declared.process.Process.{Process}
 
 abbrev pub world_of : Process → World

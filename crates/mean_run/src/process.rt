@@ -1,7 +1,7 @@
 //! A run between two of its steps.
 
-use mean_control::Frame;
 use mean_effects::{Here, Now};
+use mean_expressions::Frame;
 
 /// What a run has between two of its steps.
 #[derive(Drop)]

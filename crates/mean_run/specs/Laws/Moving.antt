@@ -9,9 +9,9 @@ use Rattle.mean_effects.specs.declared.now.Ending.TheVariants as ending
 use Rattle.mean_effects.specs.declared.now.Now.{Now}
 use Rattle.mean_effects.specs.Laws.Giving.{ends_stuck}
 use Rattle.mean_effects.specs.Shown.{IsNow, Quiet, IsStuck, Gives}
-use Rattle.mean_control.specs.declared.frames.Control.{Control}
-use Rattle.mean_control.specs.Laws.Standing.{stood_later, stops_later, stops_by, free_by, spend_is}
-use Rattle.mean_control.specs.Stacked.{IsAt, StandsBy, Stands}
+use Rattle.mean_expressions.specs.declared.frames.Control.{Control}
+use Rattle.mean_expressions.specs.Laws.Standing.{stood_later, stops_later, stops_by, free_by, spend_is}
+use Rattle.mean_expressions.specs.Stacked.{IsAt, StandsBy, Stands}
 use Rattle.mean_run.specs.declared.process.Process.{Process}
 use Rattle.mean_run.specs.Processes.{world_of, MovesBy, Moves}
 

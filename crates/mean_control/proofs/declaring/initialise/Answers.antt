@@ -3,7 +3,7 @@ use Rattle.block_meaning.specs.Memory.{Object}
 use Rattle.mean_machine.specs.Execution.{declared_object, zeroed}
 use Rattle.mean_machine.specs.Frames.{Fill, Declared, OnDone, Runs}
 use Rattle.mean_machine.specs.Going.{Stand, by}
-use Rattle.mean_control.specs.Laws.Standing.{stands-then, stands-stop, stands-spent}
+use Rattle.mean_expressions.specs.Laws.Standing.{stands-then, stands-stop, stands-spent}
 use Rattle.mean_effects.specs.Objects.{objects_of}
 use Rattle.mean_control.proofs.declaring.initialise.Goals as goal
 

@@ -2,7 +2,7 @@ use Rattle.std.proofs.Common.{◌∷◌}
 use Rattle.mean_machine.specs.Execution.{zeroed}
 use Rattle.mean_machine.specs.Frames.{Fill, Declared, OnDone, Runs}
 use Rattle.mean_machine.specs.Going.{Stand}
-use Rattle.mean_control.specs.Laws.Standing.{stands-then, stands-stop}
+use Rattle.mean_expressions.specs.Laws.Standing.{stands-then, stands-stop}
 use Rattle.mean_effects.specs.Objects.{object_of}
 use Rattle.mean_control.proofs.declaring.zero_then_fill.Goals as goal
 

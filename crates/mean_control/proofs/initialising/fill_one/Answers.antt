@@ -2,7 +2,7 @@ use Rattle.std.proofs.Common.{subst, sym}
 use Rattle.c_type_base.specs.declared.ty.Ty.{out-Ty}
 use Rattle.mean_machine.specs.Execution.{fill_one}
 use Rattle.mean_effects.specs.Objects.{object_of}
-use Rattle.mean_control.specs.Stacked.{Stands}
+use Rattle.mean_expressions.specs.Stacked.{Stands}
 use Rattle.mean_control.proofs.initialising.fill_one.Goals as goal
 
 pub returns-in-Struct : goal.returns-in-Struct

@@ -2,7 +2,7 @@ use Rattle.std.proofs.Common.{◌≡◌, ap, subst, sym, ◌∙◌, Some, slice_
 use Rattle.c_type_base.specs.Layout.{members_of}
 use Rattle.block_meaning.specs.Memory.{structs_at}
 use Rattle.mean_machine.specs.Execution.{members}
-use Rattle.mean_control.specs.Stacked.{Stands}
+use Rattle.mean_expressions.specs.Stacked.{Stands}
 use Rattle.mean_control.proofs.initialising.struct_members.Goals as goal
 
 pub returns-in-Some : goal.returns-in-Some

@@ -1,7 +1,7 @@
 use Rattle.std.proofs.Common.{refl}
 use Rattle.mean_machine.specs.Execution.{fill_text}
 use Rattle.mean_machine.specs.Going.{by, finished}
-use Rattle.mean_control.specs.Laws.Standing.{stands-then, stands-stop, stands-spent, stands-at}
+use Rattle.mean_expressions.specs.Laws.Standing.{stands-then, stands-stop, stands-spent, stands-at}
 use Rattle.mean_control.proofs.initialising.text_filled.Goals as goal
 
 pub returns-in-Ok-text_put : goal.returns-in-Ok-text_put

@@ -1,6 +1,6 @@
 use Rattle.std.proofs.Common.{subst, sym}
 use Rattle.mean_machine.specs.Execution.{turn, holding}
-use Rattle.mean_control.specs.Stacked.{Stands, loop_of}
+use Rattle.mean_expressions.specs.Stacked.{Stands, loop_of}
 use Rattle.mean_control.proofs.loops.holding.Goals as goal
 
 pub returns-in-DoWhile : goal.returns-in-DoWhile

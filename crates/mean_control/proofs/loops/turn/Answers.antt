@@ -1,5 +1,5 @@
-use Rattle.mean_control.specs.Laws.Standing.{stands-spent}
-use Rattle.mean_control.specs.Stacked.{loop_of}
+use Rattle.mean_expressions.specs.Laws.Standing.{stands-spent}
+use Rattle.mean_expressions.specs.Stacked.{loop_of}
 use Rattle.mean_control.specs.Turns.{turn_after}
 use Rattle.mean_control.proofs.Turning.{stands-turn}
 use Rattle.mean_control.proofs.loops.turn.Goals as goal

@@ -1,5 +1,5 @@
 use Rattle.std.proofs.Common.{subst, sym}
-use Rattle.mean_control.specs.Stacked.{Stands, loop_of}
+use Rattle.mean_expressions.specs.Stacked.{Stands, loop_of}
 use Rattle.mean_control.specs.Turns.{turn_after}
 use Rattle.mean_control.proofs.loops.turn_begun.Goals as goal
 

@@ -3,7 +3,7 @@ use Rattle.block_meaning.specs.Operators.{is_true}
 use Rattle.mean_machine.specs.Execution.{else_part}
 use Rattle.mean_machine.specs.Frames.{Execute, Runs}
 use Rattle.mean_machine.specs.Going.{Stand, either}
-use Rattle.mean_control.specs.Laws.Standing.{stands-then, stands-stop, stands-at}
+use Rattle.mean_expressions.specs.Laws.Standing.{stands-then, stands-stop, stands-at}
 use Rattle.mean_control.proofs.values.if_given.Goals as goal
 
 pub returns-in-Ok : goal.returns-in-Ok

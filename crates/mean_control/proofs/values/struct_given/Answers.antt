@@ -1,7 +1,7 @@
 use Rattle.std.proofs.Common.{refl}
 use Rattle.mean_machine.specs.Execution.{struct_filled}
 use Rattle.mean_machine.specs.Going.{finished}
-use Rattle.mean_control.specs.Laws.Standing.{stands-then, stands-stop, stands-at}
+use Rattle.mean_expressions.specs.Laws.Standing.{stands-then, stands-stop, stands-at}
 use Rattle.mean_effects.specs.Objects.{object_of}
 use Rattle.mean_control.proofs.values.struct_given.Goals as goal
 

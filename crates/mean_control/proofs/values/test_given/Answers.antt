@@ -3,8 +3,8 @@ use Rattle.block_meaning.specs.Operators.{is_true}
 use Rattle.block_meaning.specs.Statements.{Next}
 use Rattle.mean_machine.specs.Execution.{holding}
 use Rattle.mean_machine.specs.Going.{Stand, either, flow}
-use Rattle.mean_control.specs.Laws.Standing.{stands-then, stands-stop}
-use Rattle.mean_control.specs.Stacked.{loop_of}
+use Rattle.mean_expressions.specs.Laws.Standing.{stands-then, stands-stop}
+use Rattle.mean_expressions.specs.Stacked.{loop_of}
 use Rattle.mean_control.proofs.values.test_given.Goals as goal
 
 pub returns-in-Ok : goal.returns-in-Ok

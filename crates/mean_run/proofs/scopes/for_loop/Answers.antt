@@ -1,7 +1,7 @@
 use Rattle.mean_run.specs.Entering.{for_first}
 use Rattle.mean_run.specs.Laws.Scopes.{moves-entered, moves-not-entered}
 use Rattle.mean_run.specs.Laws.Moving.{moves-here}
-use Rattle.mean_control.specs.Stacked.{heading_of}
+use Rattle.mean_expressions.specs.Stacked.{heading_of}
 use Rattle.mean_run.specs.Processes.{world_of}
 use Rattle.mean_run.proofs.scopes.for_loop.Goals as goal
 

@@ -2,9 +2,9 @@ use Rattle.std.proofs.Common.{◌≡◌, sym, subst, ap, ◌∙◌, ◌∷◌, �
 use Rattle.std.specs.Prelude.{option_to_list}
 use Rattle.mean_machine.specs.Frames.{GivesFlow}
 use Rattle.mean_machine.specs.Steps.{resume}
-use Rattle.mean_control.specs.declared.frames.Frame.TheVariants.{OnFlow}
+use Rattle.mean_expressions.specs.declared.frames.Frame.TheVariants.{OnFlow}
 use Rattle.mean_run.specs.Laws.Popping.{popped}
-use Rattle.mean_control.specs.Stacked.{flow_of}
+use Rattle.mean_expressions.specs.Stacked.{flow_of}
 use Rattle.mean_run.specs.Processes.{Moves, world_of}
 use Rattle.mean_run.proofs.steps.give_flow.Goals as goal
 

@@ -4,7 +4,7 @@ use Rattle.mean_machine.specs.Frames.{GivesPlace}
 use Rattle.mean_machine.specs.Steps.{resume}
 use Rattle.mean_run.specs.Laws.Moving.{moves-here}
 use Rattle.mean_run.specs.declared.process.Process.{Process}
-use Rattle.mean_control.specs.declared.frames.Frame.TheVariants.{OnPlace}
+use Rattle.mean_expressions.specs.declared.frames.Frame.TheVariants.{OnPlace}
 use Rattle.mean_run.specs.Laws.Popping.{popped}
 use Rattle.mean_run.specs.Processes.{Moves, world_of}
 use Rattle.mean_run.proofs.steps.give_place.Goals as goal

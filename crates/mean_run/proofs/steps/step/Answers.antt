@@ -2,12 +2,12 @@ use Rattle.std.proofs.Common.{◌≡◌, refl, sym, subst, ap, Result}
 use Rattle.block_meaning.specs.Running.{State}
 use Rattle.mean_machine.specs.Frames.{Machine}
 use Rattle.mean_machine.specs.Steps as machine
-use Rattle.mean_control.specs.declared.frames.Control.{Control}
+use Rattle.mean_expressions.specs.declared.frames.Control.{Control}
 use Rattle.mean_effects.specs.declared.now.Ending.{Ending}
 use Rattle.mean_run.specs.declared.process.Process.{Process}
 use Rattle.mean_run.specs.Laws.Moving.{moves-here, moves-free}
 use Rattle.mean_effects.specs.Shown.{IsWindow}
-use Rattle.mean_control.specs.Stacked.{standing}
+use Rattle.mean_expressions.specs.Stacked.{standing}
 use Rattle.mean_run.specs.Processes.{Moves, world_of}
 use Rattle.mean_run.proofs.steps.step.Goals as goal
 use Rattle.mean_run.proofs.steps.step.Goals.{in-Evaluate, in-Locate, in-Execute, in-Declare, in-Fill, in-GivesValue, in-GivesPlace, in-GivesFlow, in-Finished, in-Call}
