@@ -6,9 +6,9 @@ use Rattle.block_meaning.specs.Meaning.{Meaning, Outcome, outcome_of, run_progra
 use Rattle.block_meaning.specs.Running.{Program}
 use Rattle.mean_machine.specs.Laws.Programs.{run_leads}
 use Rattle.mean_machine.specs.Steps.{begin}
-use Rattle.mean_run.specs.Stacked.{Moves}
-use Rattle.mean_run.specs.declared.frames.Control.{Control}
-use Rattle.mean_run.specs.declared.now.Ending.{Ending}
+use Rattle.mean_run.specs.Processes.{Moves}
+use Rattle.mean_expressions.specs.declared.frames.Control.{Control}
+use Rattle.mean_effects.specs.declared.now.Ending.{Ending}
 use Rattle.mean_run.specs.declared.process.Process.{Process}
 use Rattle.mean_program.specs.Answers.{PutPart, MeanGives}
 use Rattle.mean_program.specs.Held.{Aim, TurnGives}

@@ -8,8 +8,8 @@ use Rattle.block_meaning.specs.Expressions.{first_number}
 use Rattle.block_meaning.specs.Meaning.{outcome_of}
 use Rattle.block_meaning.specs.declared.value.Value.{Value}
 use Rattle.block_meaning.specs.declared.value.Value.TheVariants.{Number}
-use Rattle.mean_run.specs.declared.frames.Control.{Control}
-use Rattle.mean_run.specs.declared.frames.Control.TheVariants as control
+use Rattle.mean_expressions.specs.declared.frames.Control.{Control}
+use Rattle.mean_expressions.specs.declared.frames.Control.TheVariants as control
 use Rattle.mean_run.specs.declared.process.Process.{Process}
 use Rattle.mean_program.specs.Answers.{PutPart}
 use Rattle.mean_program.specs.Held.{Aim, Holds}

@@ -8,8 +8,9 @@ use Rattle.block_meaning.specs.declared.value.Value.{Value}
 use Rattle.mean_machine.specs.Frames as machine
 use Rattle.mean_machine.specs.Laws.Computes.{Leads}
 use Rattle.mean_machine.specs.Laws.Programs.{last}
-use Rattle.mean_run.specs.Stacked.{IsProcess, standing}
-use Rattle.mean_run.specs.declared.frames.Control.{Control}
+use Rattle.mean_expressions.specs.Stacked.{standing}
+use Rattle.mean_run.specs.Processes.{IsProcess}
+use Rattle.mean_expressions.specs.declared.frames.Control.{Control}
 use Rattle.mean_run.specs.declared.process.Process.{Process}
 use Rattle.mean_program.specs.Answers.{MeanGives}
 use Rattle.mean_program.specs.declared.turn.Turn.{Turn}

@@ -7,15 +7,17 @@ ghost use Rattle.c_ast.specs.declared.token.Span.{Span as Place};
 ghost use Rattle.c_type_base.specs.declared.expr.Callee.TheVariants as callee;
 ghost use Rattle.mean_program.specs.Held.{Aim, Holds, TurnGives};
 ghost use Rattle.mean_program.specs.Laws.Turns as law;
-ghost use Rattle.mean_run.specs.declared.frames.Control.TheVariants as control;
+ghost use Rattle.mean_expressions.specs.declared.frames.Control.TheVariants as control;
 ghost use Rattle.mean_run.specs.declared.process.Process.{Process as Code};
 ghost use Rattle.mt_outside.specs.Told.{Rose};
 
 use crate::end::{MeanEnd, MeanFault};
 use block_meaning::Value;
 use c_type_base::Callee;
+use mean_effects::Ending;
+use mean_expressions::Control;
 use mean_memory::number_in;
-use mean_run::{Control, Ending, Process, call, step};
+use mean_run::{Process, call, step};
 use mt_outside::{NextAnswer, PutAnswer, Sink, Source};
 
 /// What follows a turn.

@@ -8,14 +8,16 @@ ghost use Rattle.mean_machine.specs.Steps as machine;
 ghost use Rattle.mean_program.specs.Answers.{MeanGives, program_of};
 ghost use Rattle.mean_program.specs.Held.{Aim, TurnGives};
 ghost use Rattle.mean_program.specs.Laws.Turns as law;
-ghost use Rattle.mean_run.specs.Stacked.{Moves};
+ghost use Rattle.mean_run.specs.Processes.{Moves};
 ghost use Rattle.mean_start.specs.Files.{IsProgram};
 ghost use Rattle.mt_outside.specs.Told.{Rose};
 
 use crate::end::{MeanEnd, MeanFault};
 use crate::turn::{Turn, after, take_turn};
 use c_type_base::Typed;
-use mean_run::{Control, Ending, Process, before, begin};
+use mean_effects::Ending;
+use mean_expressions::Control;
+use mean_run::{Process, before, begin};
 use mean_start::{File, FrameSizes, files, main_of, opened};
 use mt_outside::{Sink, Source};
 use std::alloc::{AllocError, Global};

@@ -6,14 +6,14 @@ use Rattle.std.specs.Prelude.{slice_get}
 use Rattle.std.proofs.lemmas.List.{take_more, length-take-le}
 use Rattle.block_meaning.specs.Running.{State}
 use Rattle.mean_machine.specs.Frames.{Machine}
-use Rattle.mean_run.specs.declared.frames.Frame.{Frame}
-use Rattle.mean_run.specs.declared.now.Ending.{Ending}
-use Rattle.mean_run.specs.declared.now.Ending.TheVariants as ending
+use Rattle.mean_expressions.specs.declared.frames.Frame.{Frame}
+use Rattle.mean_effects.specs.declared.now.Ending.{Ending}
+use Rattle.mean_effects.specs.declared.now.Ending.TheVariants as ending
 use Rattle.mean_run.specs.declared.process.Process.{Process}
 use Rattle.mean_run.specs.Entering.{Pushed}
-use Rattle.mean_run.specs.Laws.Standing.{moves-free}
-use Rattle.mean_run.specs.Shown.{IsNoMemory}
-use Rattle.mean_run.specs.Stacked.{Moves}
+use Rattle.mean_run.specs.Laws.Moving.{moves-free}
+use Rattle.mean_effects.specs.Shown.{IsNoMemory}
+use Rattle.mean_run.specs.Processes.{Moves}
 
 pub one_more : {A : Type 0} (xs : List A) (i : ℕ) (x : A) → i < length xs → x ≡ get_or xs i x → take i xs ++ x ∷ [] ≡ take (i + 1) xs
 one_more xs i x below at = ap (λ y. take i xs ++ y ∷ []) at ∙ sym (take_more xs i x below)

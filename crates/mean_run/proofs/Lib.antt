@@ -1,10 +1,2 @@
-pub mod Modulo
-pub mod Waiting
-pub mod First
-pub mod Alike
-pub mod Blocks
 pub mod ScopeTurns
 pub mod CallTurns
-pub mod Turning
-pub mod Declared
-pub mod Texts

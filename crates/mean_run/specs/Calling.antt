@@ -13,14 +13,15 @@ use Rattle.mean_start.specs.declared.file.Called.{Called}
 use Rattle.mean_start.specs.declared.file.Called.TheVariants as called
 use Rattle.mean_start.specs.declared.file.FunctionId.{FunctionId}
 use Rattle.mean_run.specs.declared.entry.Entry.{Entry}
-use Rattle.mean_run.specs.declared.here.Here.{Here}
-use Rattle.mean_run.specs.declared.now.Ending.{Ending}
-use Rattle.mean_run.specs.declared.now.Ending.TheVariants as ending
-use Rattle.mean_run.specs.declared.now.Now.{Now}
+use Rattle.mean_effects.specs.declared.here.Here.{Here}
+use Rattle.mean_effects.specs.declared.now.Ending.{Ending}
+use Rattle.mean_effects.specs.declared.now.Ending.TheVariants as ending
+use Rattle.mean_effects.specs.declared.now.Now.{Now}
 use Rattle.mean_run.specs.declared.process.Process.{Process}
 use Rattle.mean_run.specs.Entering.{Origin, Behind}
-use Rattle.mean_run.specs.Shown.{IsNow, IsHere, Quiet}
-use Rattle.mean_run.specs.Stacked.{IsAt, Stacked, StopsBy, outside_call, world_of}
+use Rattle.mean_effects.specs.Shown.{IsNow, IsHere, Quiet}
+use Rattle.mean_expressions.specs.Stacked.{IsAt, Stacked, StopsBy, outside_call}
+use Rattle.mean_run.specs.Processes.{world_of}
 
 -- ---- which function
 

@@ -7,14 +7,15 @@ use Rattle.mean_machine.specs.Frames as machine
 use Rattle.mean_machine.specs.Going.{Stand}
 use Rattle.c_type_base.specs.declared.statement.TStmt.{TStmt}
 use Rattle.block_meaning.specs.Statements.{Heading}
-use Rattle.mean_run.specs.declared.frames.Declarations.{Declarations}
-use Rattle.mean_run.specs.declared.frames.Frame.{Frame}
-use Rattle.mean_run.specs.declared.here.Here.{Here}
-use Rattle.mean_run.specs.declared.now.Ending.{Ending}
-use Rattle.mean_run.specs.declared.now.Now.{Now}
+use Rattle.mean_expressions.specs.declared.frames.Declarations.{Declarations}
+use Rattle.mean_expressions.specs.declared.frames.Frame.{Frame}
+use Rattle.mean_effects.specs.declared.here.Here.{Here}
+use Rattle.mean_effects.specs.declared.now.Ending.{Ending}
+use Rattle.mean_effects.specs.declared.now.Now.{Now}
 use Rattle.mean_run.specs.declared.process.Process.{Process}
-use Rattle.mean_run.specs.Shown.{IsNow, IsWindow, IsNoMemory, Quiet}
-use Rattle.mean_run.specs.Stacked.{World, IsAt, Stacked, IsProcess, Sticks, StopsBy, cleared, outside_scope, world_of}
+use Rattle.mean_effects.specs.Shown.{IsNow, IsWindow, IsNoMemory, Quiet}
+use Rattle.mean_expressions.specs.Stacked.{World, IsAt, Stacked, Sticks, StopsBy, cleared, outside_scope}
+use Rattle.mean_run.specs.Processes.{IsProcess, world_of}
 
 -- ---- locals
 

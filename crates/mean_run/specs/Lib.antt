@@ -1,9 +1,4 @@
-pub mod Shown
-pub mod Stacked
-pub mod Answered
-pub mod Effects
+pub mod Processes
 pub mod Entering
 pub mod Calling
 pub mod Laws
-pub mod Objects
-pub mod Turns

@@ -9,11 +9,10 @@ ghost use Rattle.block_meaning.specs.declared.value.Value.{Value as Argument};
 ghost use Rattle.mean_memory.specs.Filled.{Fills};
 ghost use Rattle.mean_run.specs.Entering.{Origin, Passed};
 
-use crate::here::Here;
 use crate::locals::keep;
-use crate::now::Now;
 use block_meaning::{Cell, Kind, Value};
 use c_type_base::{LocalInfo, TFunction, Ty, int_size};
+use mean_effects::{Here, Now};
 use mean_memory::put_value;
 use sqlite_items::at;
 use std::alloc::{AllocError, Global};

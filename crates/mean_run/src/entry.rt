@@ -1,7 +1,7 @@
 //! Where a call's body runs.
 
-use crate::here::Here;
 use c_type_base::TFunction;
+use mean_effects::Here;
 
 /// A function that is called, and where its body runs.
 #[derive(Clone, Copy)]

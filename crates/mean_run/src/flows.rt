@@ -4,15 +4,16 @@ ghost use Rattle.std.specs.Prelude.{◌≡◌, ◌∷◌, List};
 ghost use Rattle.block_meaning.specs.Running.{Context, State};
 ghost use Rattle.mean_machine.specs.Frames as waiting;
 ghost use Rattle.mean_machine.specs.Steps.{resume};
-ghost use Rattle.mean_run.specs.Shown.{IsNow};
-ghost use Rattle.mean_run.specs.Stacked.{FrameShown, IsAt, Moves, Stacked, flow_of, world_of};
+ghost use Rattle.mean_effects.specs.Shown.{IsNow};
+ghost use Rattle.mean_expressions.specs.Stacked.{FrameShown, IsAt, Stacked, flow_of};
+ghost use Rattle.mean_run.specs.Processes.{Moves, world_of};
 
 use crate::calls::leave_call;
-use crate::frames::{Control, Flow, FlowFrame, Frame};
-use crate::now::Ending;
 use crate::process::Process;
 use crate::scopes::leave_scope;
-use crate::statements::{after_body, after_item};
+use mean_control::{after_body, after_item};
+use mean_effects::Ending;
+use mean_expressions::{Control, Flow, FlowFrame, Frame};
 
 /// A statement has ended, for what waited on top of the stack and was taken from there.
 pub fn flow_given<'a>(

@@ -4,14 +4,12 @@ ghost use Rattle.std.specs.Prelude.{◌≡◌, ◌+◌, ◌∷◌, ◌++◌, [],
 ghost use Rattle.block_meaning.specs.Statements.{declared, declared_by, local_of};
 ghost use Rattle.c_type_base.specs.declared.statement.TItem.{out-TItem};
 ghost use Rattle.mean_run.specs.Entering.{Origin, Made, Closed};
-ghost use Rattle.mean_run.specs.Stacked.{numbers_of};
+ghost use Rattle.mean_expressions.specs.Stacked.{numbers_of};
 
-use crate::frames::Declarations;
-use crate::here::Here;
-use crate::now::Now;
-use crate::sizes::exact_size;
 use block_meaning::Kind;
 use c_type_base::{TDecl, TItem};
+use mean_effects::{Here, Now, exact_size};
+use mean_expressions::Declarations;
 use sqlite_items::at;
 use std::alloc::{AllocError, Global};
 

@@ -1,8 +1,7 @@
 //! A run between two of its steps.
 
-use crate::frames::Frame;
-use crate::here::Here;
-use crate::now::Now;
+use mean_effects::{Here, Now};
+use mean_expressions::Frame;
 
 /// What a run has between two of its steps.
 #[derive(Drop)]

@@ -10,17 +10,17 @@ ghost use Rattle.mean_machine.specs.Execution as machine;
 ghost use Rattle.mean_machine.specs.Frames as waiting;
 ghost use Rattle.mean_machine.specs.Going.{by, Stand};
 ghost use Rattle.mean_run.specs.Entering.{Behind, Enters, IsInScope, Pushed, for_first, has_any};
-ghost use Rattle.mean_run.specs.Shown.{IsNow};
-ghost use Rattle.mean_run.specs.Stacked.{World, Stacked, Stands, IsProcess, Moves, numbers_of, flow_of, heading_of};
-ghost use Rattle.mean_run.specs.declared.now.Now.{Now as Code};
+ghost use Rattle.mean_effects.specs.Shown.{IsNow};
+ghost use Rattle.mean_expressions.specs.Stacked.{World, Stacked, Stands, numbers_of, flow_of, heading_of};
+ghost use Rattle.mean_run.specs.Processes.{IsProcess, Moves};
+ghost use Rattle.mean_effects.specs.declared.now.Now.{Now as Code};
 
-use crate::effects::spend;
-use crate::frames::{Control, Declarations, DoneFrame, Flow, FlowFrame, Frame, Heading};
 use crate::locals::{close, open};
-use crate::now::Ending;
 use crate::process::Process;
-use crate::statements::{execute_plain, sequence};
 use c_type_base::{TItem, TStmt};
+use mean_control::{execute_plain, sequence};
+use mean_effects::{Ending, spend};
+use mean_expressions::{Control, Declarations, DoneFrame, Flow, FlowFrame, Frame, Heading};
 
 /// Whether a part of a block declares a local.
 fn item_declares(item: &TItem) -> bool

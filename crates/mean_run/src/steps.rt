@@ -4,23 +4,17 @@ ghost use Rattle.std.specs.Prelude.{◌≡◌, List, ◌∷◌};
 ghost use Rattle.block_meaning.specs.Running.{Context, State};
 ghost use Rattle.mean_machine.specs.Frames as waiting;
 ghost use Rattle.mean_machine.specs.Steps as machine;
-ghost use Rattle.mean_run.specs.Shown.{IsNow};
-ghost use Rattle.mean_run.specs.Stacked.{FrameShown, IsAt, IsProcess, Moves, Stacked, flow_of, standing, world_of};
+ghost use Rattle.mean_effects.specs.Shown.{IsNow};
+ghost use Rattle.mean_expressions.specs.Stacked.{FrameShown, IsAt, Stacked, flow_of, standing};
+ghost use Rattle.mean_run.specs.Processes.{IsProcess, Moves, world_of};
 
-use crate::declaring::declare;
-use crate::done::done_given;
-use crate::evaluate::evaluate;
 use crate::flows::flow_given;
-use crate::frames::{Control, Flow, Frame};
-use crate::initialising::fill;
-use crate::locate::locate;
-use crate::now::Ending;
-use crate::operands::operand_given;
-use crate::places::place_given;
 use crate::process::Process;
 use crate::scopes::execute;
-use crate::values::value_given;
 use block_meaning::{Pointer, Value};
+use mean_control::{declare, done_given, fill, value_given};
+use mean_effects::Ending;
+use mean_expressions::{Control, Flow, Frame, evaluate, locate, operand_given, place_given};
 
 /// A value, for what waited on top of the stack and was taken from there.
 fn value_for<'a>(p: &mut Process<'a>, frame: Frame<'a>, v: Value) -> Result<Control<'a>, Ending>

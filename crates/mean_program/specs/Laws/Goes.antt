@@ -11,10 +11,11 @@ use Rattle.mean_machine.specs.Laws.Putting.{put_by, call_puts}
 use Rattle.mean_machine.specs.Laws.PuttingOn.{enter_puts}
 use Rattle.mean_machine.specs.Laws.Resting.{leads-step, last-rests}
 use Rattle.mean_machine.specs.Steps.{step}
-use Rattle.mean_run.specs.Stacked.{IsProcess, Moves, standing}
-use Rattle.mean_run.specs.declared.frames.Control.{Control}
-use Rattle.mean_run.specs.declared.frames.Control.TheVariants as control
-use Rattle.mean_run.specs.declared.now.Ending.{Ending}
+use Rattle.mean_expressions.specs.Stacked.{standing}
+use Rattle.mean_run.specs.Processes.{IsProcess, Moves}
+use Rattle.mean_expressions.specs.declared.frames.Control.{Control}
+use Rattle.mean_expressions.specs.declared.frames.Control.TheVariants as control
+use Rattle.mean_effects.specs.declared.now.Ending.{Ending}
 use Rattle.mean_run.specs.declared.process.Process.{Process}
 use Rattle.mean_program.specs.Answers.{Begins}
 use Rattle.mean_program.specs.Held.{Aim, Holds, TurnGives}

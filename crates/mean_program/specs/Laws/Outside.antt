@@ -19,9 +19,10 @@ use Rattle.mean_machine.specs.Laws.Programs.{last}
 use Rattle.mean_machine.specs.Laws.Putting.{put_by}
 use Rattle.mean_machine.specs.Laws.PuttingOn.{leads-puts}
 use Rattle.mean_machine.specs.Laws.Resting.{leads-rests}
-use Rattle.mean_run.specs.Stacked.{IsProcess, Stacked, World, world_of, standing}
-use Rattle.mean_run.specs.declared.frames.Control.{Control}
-use Rattle.mean_run.specs.declared.frames.Control.TheVariants as control
+use Rattle.mean_expressions.specs.Stacked.{Stacked, World, standing}
+use Rattle.mean_run.specs.Processes.{IsProcess, world_of}
+use Rattle.mean_expressions.specs.declared.frames.Control.{Control}
+use Rattle.mean_expressions.specs.declared.frames.Control.TheVariants as control
 use Rattle.mean_run.specs.declared.process.Process.{Process}
 use Rattle.mean_program.specs.Answers.{Begins, PutPart, MeanGives}
 use Rattle.mean_program.specs.Held.{Aim, Holds}

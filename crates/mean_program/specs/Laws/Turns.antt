@@ -9,11 +9,12 @@ use Rattle.mean_machine.specs.Frames.{Machine, Runs, Ended}
 use Rattle.mean_machine.specs.Laws.Computes.{Leads}
 use Rattle.mean_machine.specs.Laws.Programs.{last}
 use Rattle.mean_machine.specs.Laws.Resting.{leads-rests}
-use Rattle.mean_run.specs.Shown.{Quiet, EndsAs}
-use Rattle.mean_run.specs.Stacked.{Sticks, StopsBy, Moved, MovesBy}
-use Rattle.mean_run.specs.declared.frames.Control.{Control}
-use Rattle.mean_run.specs.declared.now.Ending.{Ending}
-use Rattle.mean_run.specs.declared.now.Ending.TheVariants as ending
+use Rattle.mean_effects.specs.Shown.{Quiet, EndsAs}
+use Rattle.mean_expressions.specs.Stacked.{Sticks, StopsBy}
+use Rattle.mean_run.specs.Processes.{Moved, MovesBy}
+use Rattle.mean_expressions.specs.declared.frames.Control.{Control}
+use Rattle.mean_effects.specs.declared.now.Ending.{Ending}
+use Rattle.mean_effects.specs.declared.now.Ending.TheVariants as ending
 use Rattle.mean_run.specs.declared.process.Process.{Process}
 use Rattle.mean_program.specs.Answers.{Begins, Leaves, PutPart, MeanGives}
 use Rattle.mean_program.specs.Held.{Aim, Holds, TurnGives}

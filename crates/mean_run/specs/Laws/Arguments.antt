@@ -15,13 +15,13 @@ use Rattle.block_meaning.specs.Running as meaning
 use Rattle.block_meaning.specs.Values.{cells_of}
 use Rattle.mean_memory.specs.Standing.{IsMemory}
 use Rattle.mean_run.specs.declared.entry.Entry.{Entry}
-use Rattle.mean_run.specs.declared.here.Here.{Here}
-use Rattle.mean_run.specs.declared.now.Now.{Now}
+use Rattle.mean_effects.specs.declared.here.Here.{Here}
+use Rattle.mean_effects.specs.declared.now.Now.{Now}
 use Rattle.mean_run.specs.Calling.{IsEntry, next_call, origin_of}
 use Rattle.mean_run.specs.Entering.{Origin, Reached, Passed}
 use Rattle.mean_run.specs.Laws.Entering.{call-of, reached-block, on_each, on_both}
 use Rattle.mean_run.specs.Laws.Windows.{take-put, window-fresh}
-use Rattle.mean_run.specs.Shown.{IsNow, IsCall, block_at}
+use Rattle.mean_effects.specs.Shown.{IsNow, IsCall, block_at}
 
 parameters_more : (here : Context) (j : ℕ) (ls : List LocalInfo) (vs : List Value) (l : LocalInfo) (v : Value) (now : State) →
     length ls ≡ length vs → with_arguments here j (ls ++ l ∷ []) (vs ++ v ∷ []) now

@@ -28,26 +28,28 @@ use Rattle.mean_start.specs.declared.file.Extern.{Extern}
 use Rattle.mean_start.specs.declared.file.File.{File}
 use Rattle.mean_start.specs.Files.{IsFile, IsFileAt, IsExtern, IsLinked, IsProgram, called_by, called_where}
 use Rattle.mean_run.specs.declared.entry.Entry as code
-use Rattle.mean_run.specs.declared.frames.Control.{Control}
-use Rattle.mean_run.specs.declared.frames.Control.TheVariants.{GivesValue}
-use Rattle.mean_run.specs.declared.frames.Flow.{Flow}
-use Rattle.mean_run.specs.declared.frames.FlowFrame.TheVariants as of_flow
-use Rattle.mean_run.specs.declared.frames.Frame.{Frame}
-use Rattle.mean_run.specs.declared.frames.Frame.TheVariants.{OnFlow}
+use Rattle.mean_expressions.specs.declared.frames.Control.{Control}
+use Rattle.mean_expressions.specs.declared.frames.Control.TheVariants.{GivesValue}
+use Rattle.mean_expressions.specs.declared.frames.Flow.{Flow}
+use Rattle.mean_expressions.specs.declared.frames.FlowFrame.TheVariants as of_flow
+use Rattle.mean_expressions.specs.declared.frames.Frame.{Frame}
+use Rattle.mean_expressions.specs.declared.frames.Frame.TheVariants.{OnFlow}
 use Rattle.mean_run.specs.declared.process.Process.{Process}
 use Rattle.c_type_base.specs.declared.ty.Ty.{Ty}
 use Rattle.c_type_base.specs.declared.statement.TItem.{TItem}
-use Rattle.mean_run.specs.declared.here.Here.{Here}
-use Rattle.mean_run.specs.declared.now.Ending.{Ending}
-use Rattle.mean_run.specs.declared.now.Ending.TheVariants as ending
-use Rattle.mean_run.specs.declared.now.Now.{Now}
+use Rattle.mean_effects.specs.declared.here.Here.{Here}
+use Rattle.mean_effects.specs.declared.now.Ending.{Ending}
+use Rattle.mean_effects.specs.declared.now.Ending.TheVariants as ending
+use Rattle.mean_effects.specs.declared.now.Now.{Now}
 use Rattle.mean_run.specs.Calling.{EntryAnswer, IsEntry, IsInCall, Request, Started, called_answer, next_call, origin_of}
 use Rattle.mean_run.specs.Entering.{Behind, Made, Passed}
-use Rattle.mean_run.specs.Laws.Standing.{free_by, moves-later}
-use Rattle.mean_run.specs.Laws.Giving.{quiet-itself, quiet-through, gives-free, gives-value}
+use Rattle.mean_expressions.specs.Laws.Standing.{free_by}
+use Rattle.mean_run.specs.Laws.Moving.{moves-later}
+use Rattle.mean_effects.specs.Laws.Giving.{quiet-itself, quiet-through, gives-free, gives-value}
 use Rattle.mean_run.specs.Laws.Windows.{take-cleared}
-use Rattle.mean_run.specs.Shown.{IsNow, IsHere, RunsIn, Gives}
-use Rattle.mean_run.specs.Stacked.{World, IsAt, Stacked, StopsBy, Moves, flow_of}
+use Rattle.mean_effects.specs.Shown.{IsNow, IsHere, RunsIn, Gives}
+use Rattle.mean_expressions.specs.Stacked.{World, IsAt, Stacked, StopsBy, flow_of}
+use Rattle.mean_run.specs.Processes.{Moves}
 
 -- ---- which function
 

@@ -12,12 +12,12 @@ use Rattle.block_meaning.specs.Running.{Call, Context, State, Goes, Stops, Stuck
 use Rattle.block_meaning.specs.Running as meaning
 use Rattle.mean_memory.specs.Laws.Places.{none_not_some, some_same}
 use Rattle.mean_memory.specs.Standing.{IsMemory}
-use Rattle.mean_run.specs.declared.here.Here.{Here}
-use Rattle.mean_run.specs.declared.now.Now.{Now}
+use Rattle.mean_effects.specs.declared.here.Here.{Here}
+use Rattle.mean_effects.specs.declared.now.Now.{Now}
 use Rattle.mean_run.specs.Entering.{Origin, Reached, Made, Closed}
-use Rattle.mean_run.specs.Laws.Giving.{quiet-through}
+use Rattle.mean_effects.specs.Laws.Giving.{quiet-through}
 use Rattle.mean_run.specs.Laws.Windows.{cleared-set, cleared-opened, cleared-some, window-put}
-use Rattle.mean_run.specs.Shown.{IsCall, RunsIn, block_at}
+use Rattle.mean_effects.specs.Shown.{IsCall, RunsIn, block_at}
 
 -- ---- the call that runs
 

@@ -2,8 +2,8 @@
 use Rattle.std.proofs.Common.{◌≡◌, refl, sym, subst, ap, ◌∙◌, List, [], ◌∷◌, ◌++◌}
 use Rattle.block_meaning.specs.Running.{Context}
 use Rattle.mean_machine.specs.Frames as machine
-use Rattle.mean_run.specs.declared.frames.Frame.{Frame}
-use Rattle.mean_run.specs.Stacked.{World, FrameShown, Stacked}
+use Rattle.mean_expressions.specs.declared.frames.Frame.{Frame}
+use Rattle.mean_expressions.specs.Stacked.{World, FrameShown, Stacked}
 
 -- ---- the last of a list, and those before it
 

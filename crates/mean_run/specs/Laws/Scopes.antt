@@ -14,23 +14,25 @@ use Rattle.block_meaning.specs.Running as meaning
 use Rattle.mean_machine.specs.Execution.{scope, execute}
 use Rattle.mean_machine.specs.Frames as machine
 use Rattle.mean_machine.specs.Going.{Stand, go_by, by, spend, flow}
-use Rattle.mean_run.specs.declared.frames.Control.{Control}
-use Rattle.mean_run.specs.declared.frames.Control.TheVariants.{GivesFlow}
-use Rattle.mean_run.specs.declared.frames.Declarations.{Declarations}
-use Rattle.mean_run.specs.declared.frames.Flow.{Flow}
-use Rattle.mean_run.specs.declared.frames.FlowFrame.TheVariants as of_flow
-use Rattle.mean_run.specs.declared.frames.Frame.{Frame}
-use Rattle.mean_run.specs.declared.frames.Frame.TheVariants.{OnFlow}
-use Rattle.mean_run.specs.declared.here.Here.{Here}
-use Rattle.mean_run.specs.declared.now.Ending.{Ending}
-use Rattle.mean_run.specs.declared.now.Ending.TheVariants as ending
-use Rattle.mean_run.specs.declared.now.Now.{Now}
+use Rattle.mean_expressions.specs.declared.frames.Control.{Control}
+use Rattle.mean_expressions.specs.declared.frames.Control.TheVariants.{GivesFlow}
+use Rattle.mean_expressions.specs.declared.frames.Declarations.{Declarations}
+use Rattle.mean_expressions.specs.declared.frames.Flow.{Flow}
+use Rattle.mean_expressions.specs.declared.frames.FlowFrame.TheVariants as of_flow
+use Rattle.mean_expressions.specs.declared.frames.Frame.{Frame}
+use Rattle.mean_expressions.specs.declared.frames.Frame.TheVariants.{OnFlow}
+use Rattle.mean_effects.specs.declared.here.Here.{Here}
+use Rattle.mean_effects.specs.declared.now.Ending.{Ending}
+use Rattle.mean_effects.specs.declared.now.Ending.TheVariants as ending
+use Rattle.mean_effects.specs.declared.now.Now.{Now}
 use Rattle.mean_run.specs.declared.process.Process.{Process}
 use Rattle.mean_run.specs.Entering.{Made, Closed, EntersBy, Enters, Pushed, for_first, has_any}
-use Rattle.mean_run.specs.Laws.Giving.{quiet-itself, quiet-through, ends_stuck}
-use Rattle.mean_run.specs.Laws.Standing.{stops_later, stops_by, free_by, spend_is, moves-later}
-use Rattle.mean_run.specs.Shown.{IsNow, Quiet, Gives}
-use Rattle.mean_run.specs.Stacked.{World, IsAt, Stacked, IsProcess, Sticks, Moves, MovesBy, numbers_of, flow_of, outside_scope}
+use Rattle.mean_effects.specs.Laws.Giving.{quiet-itself, quiet-through, ends_stuck}
+use Rattle.mean_expressions.specs.Laws.Standing.{stops_later, stops_by, free_by, spend_is}
+use Rattle.mean_run.specs.Laws.Moving.{moves-later}
+use Rattle.mean_effects.specs.Shown.{IsNow, Quiet, Gives}
+use Rattle.mean_expressions.specs.Stacked.{World, IsAt, Stacked, Sticks, numbers_of, flow_of, outside_scope}
+use Rattle.mean_run.specs.Processes.{IsProcess, Moves, MovesBy}
 
 abbrev Inside : Type 0
 Inside = Context → List machine.Frame → Stand

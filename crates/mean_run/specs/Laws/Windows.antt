@@ -4,8 +4,8 @@ use Rattle.std.proofs.Common.{length, replicate, take, Option, Some, None}
 use Rattle.std.proofs.lemmas.Bool.{eqb-true, eqb-false}
 use Rattle.std.specs.Prelude.{slice_get, slice_set, nat_eq, if◌then◌else◌}
 use Rattle.mean_memory.specs.Laws.Places.{none_not_some, some_same, get_set_same, get_set_other, set_there}
-use Rattle.mean_run.specs.Shown.{block_at}
-use Rattle.mean_run.specs.Stacked.{cleared}
+use Rattle.mean_effects.specs.Shown.{block_at}
+use Rattle.mean_expressions.specs.Stacked.{cleared}
 
 set_twice : {A : Type 0} (xs : List A) (i : ℕ) (x y : A) → slice_set (slice_set xs i x) i y ≡ slice_set xs i y
 set_twice [] i x y = refl

@@ -1,5 +1,5 @@
 use Rattle.c_type_base.specs.declared.expr.Callee.TheVariants as callee
-use Rattle.mean_run.specs.declared.frames.Control.TheVariants as control
+use Rattle.mean_expressions.specs.declared.frames.Control.TheVariants as control
 use Rattle.mean_program.proofs.Turning.{held_part}
 use Rattle.mean_program.proofs.turn.take.Goals as goal
 

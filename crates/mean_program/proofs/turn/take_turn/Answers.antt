@@ -1,6 +1,6 @@
 use Rattle.std.proofs.Common.{◌≡◌, sym, subst, arith}
 use Rattle.c_type_base.specs.declared.expr.Callee.TheVariants as callee
-use Rattle.mean_run.specs.declared.frames.Control.TheVariants as control
+use Rattle.mean_expressions.specs.declared.frames.Control.TheVariants as control
 use Rattle.mean_program.specs.Held.{Holds, TurnGives}
 use Rattle.mean_program.specs.Laws.Goes.{turn-called, turn-stepped}
 use Rattle.mean_program.proofs.turn.take_turn.Goals as goal

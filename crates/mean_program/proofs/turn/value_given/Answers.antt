@@ -2,7 +2,7 @@ use Rattle.std.proofs.Common.{◌%◌, ◌∙◌, sym, subst, Ok}
 use Rattle.std.proofs.lemmas.Bool.{eqb-true}
 use Rattle.std.proofs.lemmas.List.{nil_from_length}
 use Rattle.block_meaning.specs.Meaning.{outcome_of}
-use Rattle.mean_run.specs.declared.frames.Control.TheVariants as control
+use Rattle.mean_expressions.specs.declared.frames.Control.TheVariants as control
 use Rattle.mean_program.specs.Answers.{MeanGives}
 use Rattle.mean_program.specs.Held.{TurnGives}
 use Rattle.mean_program.specs.Laws.Goes.{turn-stepped}

@@ -1,6 +1,6 @@
 use Rattle.std.proofs.Common.{refl, sym, ◌∙◌, subst, ◌∷◌, ◌++◌, []}
 use Rattle.block_meaning.specs.Meaning.{with_arguments}
-use Rattle.mean_run.specs.declared.now.Now.{Now}
+use Rattle.mean_effects.specs.declared.now.Now.{Now}
 use Rattle.mean_run.specs.Entering.{Passed}
 use Rattle.mean_run.specs.Laws.Arguments.{passed-more}
 use Rattle.mean_run.proofs.arguments.put_block.Goals as goal

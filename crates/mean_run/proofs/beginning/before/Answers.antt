@@ -1,6 +1,6 @@
 use Rattle.std.proofs.Common.{refl, sym, ap, ◌+◌}
 use Rattle.std.specs.Prelude.{slice_get}
-use Rattle.mean_run.specs.Shown.{block_at}
+use Rattle.mean_effects.specs.Shown.{block_at}
 use Rattle.mean_run.proofs.beginning.before.Goals as goal
 
 pub returns : goal.returns

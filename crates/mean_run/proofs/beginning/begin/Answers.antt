@@ -6,8 +6,8 @@ use Rattle.mean_machine.specs.Going.{go_by}
 use Rattle.mean_machine.specs.Steps.{begin_with}
 use Rattle.mean_run.specs.declared.process.Process.{Process}
 use Rattle.mean_run.specs.Calling.{function_by}
-use Rattle.mean_run.specs.Laws.Standing.{moves-spent, moves-unspent}
-use Rattle.mean_run.specs.Stacked.{Moves}
+use Rattle.mean_run.specs.Laws.Moving.{moves-spent, moves-unspent}
+use Rattle.mean_run.specs.Processes.{Moves}
 use Rattle.mean_run.proofs.beginning.begin.Goals as goal
 
 pub returns-in-Ok : goal.returns-in-Ok

@@ -1,7 +1,7 @@
 use Rattle.std.proofs.Common.{subst}
 use Rattle.mean_machine.specs.Evaluation as evaluation
 use Rattle.mean_machine.specs.Execution.{enter}
-use Rattle.mean_run.specs.Stacked.{Moves}
+use Rattle.mean_run.specs.Processes.{Moves}
 use Rattle.mean_run.proofs.calls.call.Goals as goal
 
 pub returns : goal.returns

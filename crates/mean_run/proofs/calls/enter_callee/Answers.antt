@@ -3,8 +3,8 @@ use Rattle.block_meaning.specs.Linkage.{function_of}
 use Rattle.mean_machine.specs.Evaluation as evaluation
 use Rattle.mean_machine.specs.Execution.{enter}
 use Rattle.mean_run.specs.Calling.{function_answer}
-use Rattle.mean_run.specs.Laws.Standing.{moves-then, moves-stop}
-use Rattle.mean_run.specs.Stacked.{Moves}
+use Rattle.mean_run.specs.Laws.Moving.{moves-then, moves-stop}
+use Rattle.mean_run.specs.Processes.{Moves}
 use Rattle.mean_run.proofs.calls.enter_callee.Goals as goal
 
 pub returns-in-Function : goal.returns-in-Function

@@ -3,7 +3,7 @@ use Rattle.std.specs.Prelude.{slice_get}
 use Rattle.mean_machine.specs.Evaluation.{function_called}
 use Rattle.mean_run.specs.Calling.{called_answer}
 use Rattle.mean_run.specs.Laws.Calls.{function-linked}
-use Rattle.mean_run.specs.Shown.{Gives}
+use Rattle.mean_effects.specs.Shown.{Gives}
 use Rattle.mean_run.proofs.calls.function_called.Goals as goal
 
 pub returns-in-OtherType : goal.returns-in-OtherType

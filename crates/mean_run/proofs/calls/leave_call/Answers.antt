@@ -1,5 +1,5 @@
 use Rattle.std.proofs.Common.{refl}
-use Rattle.mean_run.specs.declared.now.Now.{Now}
+use Rattle.mean_effects.specs.declared.now.Now.{Now}
 use Rattle.mean_run.specs.declared.process.Process.{Process}
 use Rattle.mean_run.specs.Laws.Calls.{moves-returned}
 use Rattle.mean_run.proofs.calls.leave_call.Goals as goal

@@ -1,8 +1,8 @@
 use Rattle.std.proofs.Common.{refl}
 use Rattle.mean_run.specs.declared.process.Process.{Process}
 use Rattle.mean_run.specs.Laws.Calls.{call-waits}
-use Rattle.mean_run.specs.Laws.Standing.{moves-here}
-use Rattle.mean_run.specs.Stacked.{World}
+use Rattle.mean_run.specs.Laws.Moving.{moves-here}
+use Rattle.mean_expressions.specs.Stacked.{World}
 use Rattle.mean_run.proofs.CallTurns.{pushed_there, not_pushed}
 use Rattle.mean_run.proofs.calls.run_body.Goals as goal
 

@@ -1,10 +1,11 @@
 use Rattle.std.proofs.Common.{sym, subst, ◌∷◌}
 use Rattle.mean_machine.specs.Frames.{GivesFlow}
 use Rattle.mean_machine.specs.Steps.{resume}
-use Rattle.mean_run.specs.declared.frames.Frame.TheVariants.{OnFlow}
+use Rattle.mean_expressions.specs.declared.frames.Frame.TheVariants.{OnFlow}
 use Rattle.mean_run.specs.declared.process.Process.{Process}
-use Rattle.mean_run.specs.Laws.Standing.{moves-here}
-use Rattle.mean_run.specs.Stacked.{FrameShown, Moves, Stacked, flow_of, world_of}
+use Rattle.mean_run.specs.Laws.Moving.{moves-here}
+use Rattle.mean_expressions.specs.Stacked.{FrameShown, Stacked, flow_of}
+use Rattle.mean_run.specs.Processes.{Moves, world_of}
 use Rattle.mean_run.proofs.flows.flow_given.Goals as goal
 
 pub returns-in-Items : goal.returns-in-Items

@@ -1,7 +1,7 @@
 use Rattle.std.proofs.Common.{refl, sym, subst, ◌∷◌}
 use Rattle.mean_memory.specs.Shown.{ended_if}
 use Rattle.mean_memory.specs.Standing.{IsMemory}
-use Rattle.mean_run.specs.declared.now.Now.{Now}
+use Rattle.mean_effects.specs.declared.now.Now.{Now}
 use Rattle.mean_run.specs.Entering.{Closed}
 use Rattle.mean_run.specs.Laws.Entering.{closed-more}
 use Rattle.mean_run.proofs.locals.close_local.Goals as goal

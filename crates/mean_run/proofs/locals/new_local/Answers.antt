@@ -1,5 +1,5 @@
 use Rattle.std.proofs.Common.{refl, sym, subst, ◌∷◌, ◌++◌, []}
-use Rattle.mean_run.specs.declared.now.Now.{Now}
+use Rattle.mean_effects.specs.declared.now.Now.{Now}
 use Rattle.mean_run.specs.Entering.{Made}
 use Rattle.mean_run.specs.Laws.Entering.{made-more}
 use Rattle.mean_run.proofs.locals.new_local.Goals as goal

@@ -1,7 +1,7 @@
 use Rattle.std.proofs.Common.{sym, subst, []}
 use Rattle.std.proofs.lemmas.Result.{on_ok_weaker}
 use Rattle.mean_run.specs.Entering.{Made}
-use Rattle.mean_run.specs.Stacked.{numbers_of}
+use Rattle.mean_expressions.specs.Stacked.{numbers_of}
 use Rattle.mean_run.proofs.locals.open.Goals as goal
 
 pub returns-in-Block : goal.returns-in-Block

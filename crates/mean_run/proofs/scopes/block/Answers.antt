@@ -4,8 +4,8 @@ use Rattle.mean_machine.specs.Execution.{sequence}
 use Rattle.mean_machine.specs.Frames.{Frame}
 use Rattle.mean_machine.specs.Going.{Stand}
 use Rattle.mean_run.specs.Laws.Scopes.{moves-entered, moves-not-entered}
-use Rattle.mean_run.specs.Laws.Standing.{moves-here}
-use Rattle.mean_run.specs.Stacked.{world_of}
+use Rattle.mean_run.specs.Laws.Moving.{moves-here}
+use Rattle.mean_run.specs.Processes.{world_of}
 use Rattle.mean_run.proofs.scopes.block.Goals as goal
 
 pub returns-in-Ok : goal.returns-in-Ok

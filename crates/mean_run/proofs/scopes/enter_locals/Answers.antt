@@ -7,7 +7,7 @@ use Rattle.std.specs.Vec.{with_items}
 use Rattle.mean_run.specs.declared.process.Process.{Process}
 use Rattle.mean_run.specs.Entering.{Origin, Made}
 use Rattle.mean_run.specs.Laws.Scopes.{enters-in-call, enters-pushed, made-none}
-use Rattle.mean_run.specs.Stacked.{numbers_of}
+use Rattle.mean_expressions.specs.Stacked.{numbers_of}
 use Rattle.mean_run.proofs.scopes.enter_locals.Goals as goal
 
 pub returns-in-Ok : goal.returns-in-Ok

@@ -4,7 +4,7 @@ use Rattle.mean_machine.specs.Frames.{OnFlow, Scope}
 use Rattle.mean_machine.specs.Going.{Stand, by}
 use Rattle.mean_run.specs.Entering.{Enters}
 use Rattle.mean_run.specs.Laws.Scopes.{enters-spent, scope-with}
-use Rattle.mean_run.specs.Stacked.{numbers_of}
+use Rattle.mean_expressions.specs.Stacked.{numbers_of}
 use Rattle.mean_run.proofs.scopes.enter_scope.Goals as goal
 
 pub returns-in-Ok : goal.returns-in-Ok

@@ -2,8 +2,8 @@ use Rattle.std.proofs.Common.{sym, subst}
 use Rattle.mean_machine.specs.Execution.{execute, scope, sequence}
 use Rattle.block_meaning.specs.Statements.{declared}
 use Rattle.mean_run.specs.Laws.Scopes.{block-opened, for-opened, moves-for}
-use Rattle.mean_run.specs.Laws.Standing.{moves-here}
-use Rattle.mean_run.specs.Stacked.{Moves, world_of}
+use Rattle.mean_run.specs.Laws.Moving.{moves-here}
+use Rattle.mean_run.specs.Processes.{Moves, world_of}
 use Rattle.mean_run.proofs.scopes.execute.Goals as goal
 
 pub returns-in-Block : goal.returns-in-Block

@@ -1,7 +1,8 @@
 use Rattle.mean_run.specs.Entering.{for_first}
 use Rattle.mean_run.specs.Laws.Scopes.{moves-entered, moves-not-entered}
-use Rattle.mean_run.specs.Laws.Standing.{moves-here}
-use Rattle.mean_run.specs.Stacked.{heading_of, world_of}
+use Rattle.mean_run.specs.Laws.Moving.{moves-here}
+use Rattle.mean_expressions.specs.Stacked.{heading_of}
+use Rattle.mean_run.specs.Processes.{world_of}
 use Rattle.mean_run.proofs.scopes.for_loop.Goals as goal
 
 pub returns-in-Ok : goal.returns-in-Ok

@@ -3,7 +3,7 @@ use Rattle.std.proofs.lemmas.List.{with_items_is}
 use Rattle.std.specs.Vec.{with_items}
 use Rattle.mean_run.specs.declared.process.Process.{Process}
 use Rattle.mean_run.specs.Entering.{Origin, Closed}
-use Rattle.mean_run.specs.Stacked.{numbers_of}
+use Rattle.mean_expressions.specs.Stacked.{numbers_of}
 use Rattle.mean_run.specs.Laws.Scopes.{closed-none, moves-left}
 use Rattle.mean_run.proofs.scopes.leave_scope.Goals as goal
 

@@ -2,11 +2,11 @@ use Rattle.std.proofs.Common.{◌≡◌, sym, subst, ap, ◌∙◌, ◌∷◌, �
 use Rattle.std.specs.Prelude.{option_to_list}
 use Rattle.mean_machine.specs.Frames.{Finished}
 use Rattle.mean_machine.specs.Steps.{resume}
-use Rattle.mean_run.specs.Laws.Standing.{moves-here}
+use Rattle.mean_run.specs.Laws.Moving.{moves-here}
 use Rattle.mean_run.specs.declared.process.Process.{Process}
-use Rattle.mean_run.specs.declared.frames.Frame.TheVariants.{OnDone}
+use Rattle.mean_expressions.specs.declared.frames.Frame.TheVariants.{OnDone}
 use Rattle.mean_run.specs.Laws.Popping.{popped}
-use Rattle.mean_run.specs.Stacked.{Moves, world_of}
+use Rattle.mean_run.specs.Processes.{Moves, world_of}
 use Rattle.mean_run.proofs.steps.give_end.Goals as goal
 
 pub returns-in-Some-OnDone : goal.returns-in-Some-OnDone

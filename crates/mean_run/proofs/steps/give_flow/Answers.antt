@@ -2,9 +2,10 @@ use Rattle.std.proofs.Common.{◌≡◌, sym, subst, ap, ◌∙◌, ◌∷◌, �
 use Rattle.std.specs.Prelude.{option_to_list}
 use Rattle.mean_machine.specs.Frames.{GivesFlow}
 use Rattle.mean_machine.specs.Steps.{resume}
-use Rattle.mean_run.specs.declared.frames.Frame.TheVariants.{OnFlow}
+use Rattle.mean_expressions.specs.declared.frames.Frame.TheVariants.{OnFlow}
 use Rattle.mean_run.specs.Laws.Popping.{popped}
-use Rattle.mean_run.specs.Stacked.{Moves, world_of, flow_of}
+use Rattle.mean_expressions.specs.Stacked.{flow_of}
+use Rattle.mean_run.specs.Processes.{Moves, world_of}
 use Rattle.mean_run.proofs.steps.give_flow.Goals as goal
 
 pub returns-in-Some-OnFlow : goal.returns-in-Some-OnFlow

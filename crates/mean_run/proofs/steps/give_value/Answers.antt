@@ -3,7 +3,7 @@ use Rattle.std.specs.Prelude.{option_to_list}
 use Rattle.mean_machine.specs.Frames.{GivesValue}
 use Rattle.mean_machine.specs.Steps.{resume}
 use Rattle.mean_run.specs.Laws.Popping.{popped}
-use Rattle.mean_run.specs.Stacked.{Moves, world_of}
+use Rattle.mean_run.specs.Processes.{Moves, world_of}
 use Rattle.mean_run.proofs.steps.give_value.Goals as goal
 
 pub returns-in-Some : goal.returns-in-Some

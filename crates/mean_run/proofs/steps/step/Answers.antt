@@ -2,15 +2,15 @@ use Rattle.std.proofs.Common.{◌≡◌, refl, sym, subst, ap, Result}
 use Rattle.block_meaning.specs.Running.{State}
 use Rattle.mean_machine.specs.Frames.{Machine}
 use Rattle.mean_machine.specs.Steps as machine
-use Rattle.mean_run.specs.declared.frames.Control.{Control}
-use Rattle.mean_run.specs.declared.now.Ending.{Ending}
+use Rattle.mean_expressions.specs.declared.frames.Control.{Control}
+use Rattle.mean_effects.specs.declared.now.Ending.{Ending}
 use Rattle.mean_run.specs.declared.process.Process.{Process}
-use Rattle.mean_run.specs.Laws.Standing.{moves-here, moves-free}
-use Rattle.mean_run.specs.Shown.{IsWindow}
-use Rattle.mean_run.specs.Stacked.{Moves, standing, world_of}
+use Rattle.mean_run.specs.Laws.Moving.{moves-here, moves-free}
+use Rattle.mean_effects.specs.Shown.{IsWindow}
+use Rattle.mean_expressions.specs.Stacked.{standing}
+use Rattle.mean_run.specs.Processes.{Moves, world_of}
 use Rattle.mean_run.proofs.steps.step.Goals as goal
-use Rattle.mean_run.proofs.steps.step.Goals.{in-Evaluate, in-Locate, in-Execute, in-Declare, in-Fill}
-use Rattle.mean_run.proofs.steps.step.Goals.{in-GivesValue, in-GivesPlace, in-GivesFlow, in-Finished, in-Call}
+use Rattle.mean_run.proofs.steps.step.Goals.{in-Evaluate, in-Locate, in-Execute, in-Declare, in-Fill, in-GivesValue, in-GivesPlace, in-GivesFlow, in-Finished, in-Call}
 
 -- the same process, answer and machine
 moves_as : {p q : Process} {now : State} {r s : Result Control Ending} {m n : Machine} → p ≡ q → r ≡ s → m ≡ n → Moves q now s n →

@@ -2,8 +2,9 @@ use Rattle.std.proofs.Common.{◌≡◌, refl, sym, subst, ap, ◌∙◌, ◌∷
 use Rattle.mean_machine.specs.Frames.{GivesValue}
 use Rattle.mean_machine.specs.Steps.{resume}
 use Rattle.mean_run.specs.declared.process.Process.{Process}
-use Rattle.mean_run.specs.Laws.Standing.{moves-here}
-use Rattle.mean_run.specs.Stacked.{FrameShown, Moves, Stacked, world_of}
+use Rattle.mean_run.specs.Laws.Moving.{moves-here}
+use Rattle.mean_expressions.specs.Stacked.{FrameShown, Stacked}
+use Rattle.mean_run.specs.Processes.{Moves, world_of}
 use Rattle.mean_run.proofs.steps.value_for.Goals as goal
 
 pub returns-in-OnOperand : goal.returns-in-OnOperand

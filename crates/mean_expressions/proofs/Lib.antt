@@ -1,0 +1,4 @@
+pub mod Waiting
+pub mod First
+pub mod Alike
+pub mod Blocks

@@ -1,0 +1,2 @@
+-- How the code goes on after its parts.
+pub mod Standing

@@ -1,6 +1,0 @@
-use Rattle.std.proofs.Common.{◌+◌, ◌∙◌}
-use Rattle.mean_run.proofs.Modulo.{wrap_of}
-use Rattle.mean_run.proofs.stepping.wrapped_sum.Goals as goal
-
-pub returns : goal.returns
-returns c = c.wrap.ensures ∙ wrap_of c.args.t (c.args.n + c.args.k)
