@@ -1,0 +1,11 @@
+pub mod Calls
+pub mod Sites
+pub mod Numbers
+pub mod Loaded
+pub mod Stands
+pub mod Apart
+pub mod Frames
+pub mod Tags
+pub mod Cells
+pub mod Bases
+pub mod Injects
