@@ -9,3 +9,10 @@ pub mod Tags
 pub mod Cells
 pub mod Bases
 pub mod Injects
+pub mod Outcomes
+pub mod Relates
+pub mod Kept
+pub mod Ends
+pub mod Follows
+pub mod Items
+pub mod Trees
