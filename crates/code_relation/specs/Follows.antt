@@ -1,10 +1,13 @@
 -- Code follows a tree: from each pair of states that are related it does what the tree means, within bounds on its steps from below and from
 -- above, and keeps what is kept (this project's own). Of u units at least u steps are taken, and at most `per * u`; `Bounded` of
 -- code_runs tells it without subtraction, with the work that is left.
-use Rattle.std.specs.Prelude.{◌≡◌, ℕ, zero, suc, ◌+◌, ◌≤◌, List, [], ◌∷◌, length, Some}
+use Rattle.std.specs.Prelude.{◌≡◌, ℕ, suc, ◌≤◌, List, [], ◌∷◌, length, Option, Some, None}
+use Rattle.c_type_base.specs.declared.ty.Ty.{Ty}
+use Rattle.c_type_base.specs.declared.typed.TFunction.{TFunction}
 use Rattle.a64_code.specs.State.{State}
 use Rattle.block_meaning.specs.declared.value.Value.{Value}
-use Rattle.block_meaning.specs.Expressions.{Calls}
+use Rattle.block_meaning.specs.Laws.Progress.Fits.{Fits}
+use Rattle.block_meaning.specs.Linkage.{function_named, parameter_types}
 use Rattle.block_meaning.specs.Locals.{latest}
 use Rattle.block_meaning.specs.Meaning.{calls_at}
 use Rattle.block_meaning.specs.Running.{Function, Call, Context, Run, Stop, unit_then, State as MeaningState}
@@ -66,10 +69,18 @@ IsIn f here = (c : Call) × (latest here.open_calls ≡ Some c) × (c.function �
 
 -- ---- calls
 
--- the arguments, from a number on, are in the registers of these numbers
-abbrev pub HasArguments : Given → MeaningState → State → ℕ → List Value → Type 0
-HasArguments g now s k [] = Unit {0}
-HasArguments g now s k (v ∷ vs) = Holds g now v (s.register k) × HasArguments g now s (suc k) vs
+-- the arguments of parameters of these types, from a number on, are in the registers of these numbers
+abbrev pub HasArguments : Given → MeaningState → State → ℕ → List Ty → List Value → Type 0
+HasArguments g now s k [] [] = Unit {0}
+HasArguments g now s k (t ∷ ts) (v ∷ vs) =
+    Fits t (length now.blocks) v × Holds g now v (s.register k) × HasArguments g now s (suc k) ts vs
+HasArguments g now s k ts vs = ⊥
+
+-- a call: what it means, with the unit of the call, the types of the parameters, and the arguments
+pub record Called : Type 0 where
+  pub run : Context → Run Value
+  pub parameters : List Ty
+  pub arguments : List Value
 
 -- a call leaves 8 steps of its bound, and takes one more for each parameter
 abbrev pub call_room : List Value → Room
@@ -88,29 +99,40 @@ pub record Span : Type 0 where
   pub from : ℕ
   pub to : ℕ
 
--- A call, with its arguments, of which the run counts the unit: the item that makes it stands there.
-abbrev pub call_item : Given → (Context → Run Value) → List Value → Span → Tree Value
-call_item g run vs span = record {
-  run = run;
-  Begins = λ here now s. IsIn span.function here × (s.pc ≡ span.from) × HasArguments g now s 0 vs;
+-- A call item, which stands there.
+abbrev pub call_item : Given → Called → Span → Tree Value
+call_item g call span = record {
+  run = call.run;
+  Begins = λ here now s. IsIn span.function here × (s.pc ≡ span.from) × HasArguments g now s 0 call.parameters call.arguments;
   before = 0;
   Uncounted = None_uncounted;
-  room = λ extra v. call_room vs;
+  room = λ extra v. call_room call.arguments;
   Completes = Returns g span.to;
 }
 
 -- The words of a function, which stand at an address, entered by a step that counts. They come back to the address in X30.
-abbrev pub function_words : Given → (Context → Run Value) → List Value → ℕ → Tree Value
-function_words g run vs from = record {
-  run = run;
-  Begins = λ here now s. (s.pc ≡ from) × HasArguments g now s 0 vs;
+abbrev pub function_words : Given → Called → ℕ → Tree Value
+function_words g call from = record {
+  run = call.run;
+  Begins = λ here now s. (s.pc ≡ from) × HasArguments g now s 0 call.parameters call.arguments;
   before = 1;
   Uncounted = None_uncounted;
-  room = λ extra v. call_room vs;
+  room = λ extra v. call_room call.arguments;
   Completes = λ here s v now t. Returns g (s.register 30) here s v now t;
+}
+
+abbrev pub types_of : Option TFunction → List Ty
+types_of None = []
+types_of (Some f) = parameter_types f
+
+-- the call of a function, made from anywhere
+abbrev pub call_of : Given → ℕ → Function → List Value → Called
+call_of g bound f vs = record {
+  run = λ here. unit_then (calls_at bound here f vs);
+  parameters = types_of (function_named (units_of g) f);
+  arguments = vs;
 }
 
 -- The words of a function that stand at an address follow it, from any call that may make it.
 pub record WordsFollow (c : Code) (f : Function) (at : ℕ) : Type 0 where
-  pub follows : (bound : ℕ) (vs : List Value) →
-      Follows c (function_words c.given (λ here. unit_then (calls_at bound here f vs)) vs at)
+  pub follows : (bound : ℕ) (vs : List Value) → Follows c (function_words c.given (call_of c.given bound f vs) at)

@@ -1,6 +1,6 @@
 -- Symbolic code where it stands: what each item does there, in however many instructions (this project's own). What is said of code is said
 -- of each way in which it may stand.
-use Rattle.std.specs.Prelude.{◌≡◌, ◌≢◌, ℕ, zero, suc, ◌+◌, ◌*◌, ◌/◌, ◌≤◌, ◌<◌, List, [], ◌∷◌, length, slice_get, Option, Some}
+use Rattle.std.specs.Prelude.{◌≡◌, ◌≢◌, ℕ, zero, suc, ◌+◌, ◌*◌, ◌/◌, ◌≤◌, ◌<◌, List, [], ◌∷◌, slice_get, Option, Some, None}
 use Rattle.a64_code.specs.declared.instr.Instr.{Instr}
 use Rattle.a64_code.specs.declared.instr.Reg.{Reg}
 use Rattle.a64_code.specs.State.{State, general, at_pc}
@@ -10,9 +10,11 @@ use Rattle.block_meaning.specs.declared.value.Pointer.{Pointer}
 use Rattle.block_meaning.specs.declared.value.Value.{Value}
 use Rattle.block_meaning.specs.Blocks.{pointer}
 use Rattle.block_meaning.specs.Expressions.{Site, call_effect}
-use Rattle.block_meaning.specs.Linkage.{object_block, text_block, extern_block}
+use Rattle.block_meaning.specs.Linkage.{object_block, text_block, extern_block, extern_at, function_of, function_named}
 use Rattle.block_meaning.specs.Meaning.{calls_at}
 use Rattle.block_meaning.specs.Running.{Function, Context, Run, unit_then, State as MeaningState}
+use Rattle.c_type_base.specs.declared.ty.Ty.{Ty}
+use Rattle.c_type_base.specs.declared.typed.ExternInfo.{ExternInfo}
 use Rattle.c_type_base.specs.declared.expr.Callee.{Callee}
 use Rattle.c_type_base.specs.declared.expr.Callee.TheVariants as callee
 use Rattle.code_runs.specs.Within.{StepsWithin}
@@ -24,7 +26,7 @@ use Rattle.sym_code.specs.declared.item.SymItem.TheVariants as item
 use Rattle.tag_plan.specs.Effects.{IsFrame, TagsSlots, LeavesSlots, Puts, granules}
 use Rattle.tag_plan.specs.Lists.{listed, between}
 use Rattle.code_relation.specs.Calls.{frame_of}
-use Rattle.code_relation.specs.Follows.{Code, Follows, IsIn, call_item}
+use Rattle.code_relation.specs.Follows.{Code, Follows, IsIn, Called, call_item, types_of}
 use Rattle.code_relation.specs.Injects.{Injects}
 use Rattle.code_relation.specs.Numbers.{IsNumber}
 use Rattle.code_relation.specs.Sites.{Given, units_of}
@@ -107,11 +109,28 @@ pub record ChangesScope (c : Code) (p : Place) (position bytes most : ℕ) (leav
 
 -- ---- calls
 
--- from each pair of states that are related, with any arguments: the unit of the call, and then what it means
+-- the types of the parameters of what a function's code calls
+abbrev pub types_of_extern : Option ExternInfo → List Ty
+types_of_extern None = []
+types_of_extern (Some e) = e.params
+
+abbrev pub parameters_of : Given → Function → Callee → List Ty
+parameters_of g f (callee.Function n) = types_of (function_named (units_of g) (function_of f.unit n))
+parameters_of g f (callee.Extern n) = types_of_extern (extern_at (units_of g) f.unit n)
+parameters_of g f _ = []
+
+-- the unit of a call, and then what it means, whatever stands round it
+abbrev pub call_from : Given → Function → Callee → Site → List Value → Called
+call_from g f to_call around vs = record {
+  run = λ here. unit_then (call_effect (record around { here = here }) to_call vs);
+  parameters = parameters_of g f to_call;
+  arguments = vs;
+}
+
+-- from each pair of states that are related, with any arguments
 pub record Calls (c : Code) (f : Function) (from to : ℕ) (to_call : Callee) : Type 0 where
-  pub follows : (bound : ℕ) (vs : List Value) (around : Site) → around.calls ≡ calls_at bound →
-      Follows c (call_item c.given (λ here. unit_then (call_effect (record around { here = here }) to_call vs)) vs
-          (record { function = f; from = from; to = to }))
+  pub follows : (bound : ℕ) (around : Site) (vs : List Value) → around.calls ≡ calls_at bound →
+      Follows c (call_item c.given (call_from c.given f to_call around vs) (record { function = f; from = from; to = to }))
 
 -- ---- all items
 

@@ -3,8 +3,9 @@ use Rattle.std.specs.Prelude.{◌≡◌, ℕ, ◌+◌, ◌≤◌, Bool, List, []
 use Rattle.std.specs.List.{filter}
 use Rattle.c_ast.specs.declared.token.Span.{Span as TextSpan}
 use Rattle.c_type_base.specs.declared.expr.TExpr.{TExpr}
+use Rattle.c_type_base.specs.declared.expr.TNode.{out-TNode}
 use Rattle.c_type_base.specs.declared.statement.TItem.{TItem}
-use Rattle.c_type_base.specs.declared.statement.TStmt.{TStmt}
+use Rattle.c_type_base.specs.declared.statement.TStmt.{TStmt, out-TStmt}
 use Rattle.c_type_base.specs.declared.typed.Typed.{Typed}
 use Rattle.a64_code.specs.declared.instr.Reg.{Reg}
 use Rattle.a64_code.specs.State.{State, with_tags}
@@ -18,6 +19,10 @@ use Rattle.tag_plan.specs.Effects.{NoneHas}
 use Rattle.block_meaning.specs.declared.value.Pointer.{Pointer}
 use Rattle.block_meaning.specs.declared.value.Value.{Value}
 use Rattle.block_meaning.specs.Expressions.{parts_at}
+use Rattle.block_meaning.specs.ExpressionsInOrder.{Scope, ValueInOrder, Designates}
+use Rattle.block_meaning.specs.Linkage.{function_named}
+use Rattle.block_meaning.specs.ProgramsInOrder.{InOrder}
+use Rattle.block_meaning.specs.StatementsInOrder.{StatementInOrder, Items}
 use Rattle.block_meaning.specs.Meaning.{calls_at}
 use Rattle.block_meaning.specs.Running.{Function, Context, Run, State as MeaningState}
 use Rattle.block_meaning.specs.Statements.{Flow, Next, Broke, Continued, Returned, statements_at, items}
@@ -130,30 +135,45 @@ statement_tree g run part p exits = record {
 
 -- ---- items follow a tree
 
--- the function's file is there, and a unit of work pays for its frames and copies
+-- the program is in order, the function's file is there, and a unit of work pays for its frames and copies
 pub record HasFile (c : Code) (f : Function) : Type 0 where
+  pub in_order : InOrder c.given.program
   pub file : Typed
   pub is : slice_get (units_of c.given) f.unit ≡ Some file
   pub pays : per (file ∷ []) ≤ c.per
 
+-- what a tree that stands in the function may name
+pub record IsScope (c : Code) (f : Function) (scope : Scope) : Type 0 where
+  pub program_is : scope.program ≡ c.given.program
+  pub unit_is : scope.unit ≡ f.unit
+  pub function_is : function_named (units_of c.given) f ≡ Some scope.function
+
+-- code that follows trees of a function, where its items stand
+pub record IsPlaced (part : Part) (c : Code) (p : Place) : Type 0 where
+  pub file : HasFile c part.function
+  pub stands : StandsAt c part.function p part.items
+
 -- Wherever the items stand they follow the expression, into a register.
 pub record FollowsExpression (part : Part) (e : TExpr) (reg : Reg) : Type 1 where
-  pub follows : (c : Code) (p : Place) → HasFile c part.function → StandsAt c part.function p part.items →
+  pub follows : (c : Code) (p : Place) (scope : Scope) → IsPlaced part c p → IsScope c part.function scope → ValueInOrder scope e →
       (bound depth : ℕ) (around : TextSpan) →
       Follows c (expression_tree c.given (λ here. (parts_at (calls_at bound) here depth).value_in around e) part.first (span_of part p) reg)
 
 pub record FollowsPlace (part : Part) (e : TExpr) (reg : Reg) : Type 1 where
-  pub follows : (c : Code) (p : Place) → HasFile c part.function → StandsAt c part.function p part.items → (bound depth : ℕ) →
+  pub follows : (c : Code) (p : Place) (scope : Scope) → IsPlaced part c p → IsScope c part.function scope → Designates scope e.ty (out-TNode e.node) →
+      (bound depth : ℕ) →
       Follows c (place_tree c.given (λ here. (parts_at (calls_at bound) here depth).place e) part.first (span_of part p) reg)
 
 -- They follow the statement, which leaves its loop by two labels.
 pub record FollowsStatement (part : Part) (broke continued : ℕ) (st : TStmt) : Type 1 where
-  pub follows : (c : Code) (p : Place) → HasFile c part.function → StandsAt c part.function p part.items → (bound depth : ℕ) →
+  pub follows : (c : Code) (p : Place) (scope : Scope) → IsPlaced part c p → IsScope c part.function scope →
+      StatementInOrder scope (out-TStmt st) → (bound depth : ℕ) →
       Follows c (statement_tree c.given (λ here. (statements_at (calls_at bound) depth).run here st) part p
           (record { broke = p.label broke; continued = p.label continued }))
 
 -- the same of what stands in a block, whose locals are in scope: so of the body of a function too
 pub record FollowsItems (part : Part) (broke continued : ℕ) (is : List TItem) : Type 1 where
-  pub follows : (c : Code) (p : Place) → HasFile c part.function → StandsAt c part.function p part.items → (bound depth : ℕ) →
+  pub follows : (c : Code) (p : Place) (scope : Scope) → IsPlaced part c p → IsScope c part.function scope → Items scope is →
+      (bound depth : ℕ) →
       Follows c (statement_tree c.given (λ here. items (statements_at (calls_at bound) depth) here is) part p
           (record { broke = p.label broke; continued = p.label continued }))
