@@ -16,3 +16,4 @@ pub mod Ends
 pub mod Follows
 pub mod Items
 pub mod Trees
+pub mod Laws
