@@ -1,3 +1,5 @@
 pub mod Kept
 pub mod Outcomes
 pub mod Follows
+pub mod Told
+pub mod Sequence
