@@ -3,3 +3,5 @@ pub mod Outcomes
 pub mod Follows
 pub mod Told
 pub mod Sequence
+pub mod Lists
+pub mod Reading
