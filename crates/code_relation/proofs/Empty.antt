@@ -156,6 +156,7 @@ stands = record {
   scope = λ k number none. absurd (cc);
   null_is = refl;
   opened = as_opened;
+  of_files = λ number b is of. absurd (no_file_block number b (record { is = is; of_file = of }));
   locals = λ number b call k is local. absurd (no_local number b call k is local);
   cells = λ number b lives. without_cells number b lives;
 }

@@ -5,3 +5,4 @@ pub mod Told
 pub mod Sequence
 pub mod Lists
 pub mod Reading
+pub mod Changing

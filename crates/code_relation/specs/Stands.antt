@@ -9,7 +9,7 @@ use Rattle.block_meaning.specs.Linkage.{structs_of, function_named}
 use Rattle.block_meaning.specs.Opening.{opening}
 use Rattle.block_meaning.specs.Running.{Call, Context, State as MeaningState}
 use Rattle.block_meaning.specs.Locals.{latest}
-use Rattle.code_relation.specs.Sites.{Given, units_of, Lives}
+use Rattle.code_relation.specs.Sites.{Given, units_of, Lives, is_of_file}
 
 -- the open calls are among all calls, by their numbers
 abbrev pub AreCalls : List Call → List Call → Type 0
@@ -41,6 +41,13 @@ pub record IsAsOpened (now : MeaningState) (number : ℕ) (before : Block) : Typ
   pub kind_is : block.kind ≡ before.kind
   pub size_is : block.size ≡ before.size
 
+-- a block was there before the call of `main`
+pub record WasOpened (g : Given) (number : ℕ) (b : Block) : Type 0 where
+  pub before : Block
+  pub is : slice_get (opening (units_of g)) number ≡ Some before
+  pub kind_is : b.kind ≡ before.kind
+  pub size_is : b.size ≡ before.size
+
 -- A state of the meaning, with the context in which something runs there.
 pub record Stands (g : Given) (here : Context) (now : MeaningState) : Type 0 where
   pub program_is : here.program ≡ g.program
@@ -49,6 +56,7 @@ pub record Stands (g : Given) (here : Context) (now : MeaningState) : Type 0 whe
   pub scope : (k number : ℕ) → here.local k ≡ Some number → IsInScope now (latest here.open_calls) k number
   pub null_is : slice_get now.blocks 0 ≡ Some null_block
   pub opened : (number : ℕ) (b : Block) → slice_get (opening (units_of g)) number ≡ Some b → IsAsOpened now number b
+  pub of_files : (number : ℕ) (b : Block) → slice_get now.blocks number ≡ Some b → is_of_file b.kind ≡ true → WasOpened g number b
   pub locals : (number : ℕ) (b : Block) (call k : ℕ) → slice_get now.blocks number ≡ Some b → b.kind ≡ Local call k →
       IsLocal g now b call k
   pub cells : (number : ℕ) (b : Block) → Lives now number b → length b.cells ≡ b.size

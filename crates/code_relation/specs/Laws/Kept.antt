@@ -64,6 +64,7 @@ Stands-with {g} {now = now} r stands = record {
   scope = λ k number is. in_scope (stands.scope k number is);
   null_is = stands.null_is;
   opened = λ number b is. as_opened (stands.opened number b is);
+  of_files = stands.of_files;
   locals = λ number b call k is local. of_local (stands.locals number b call k is local);
   cells = λ number b lives. stands.cells number b (Lives-without r lives);
 }
