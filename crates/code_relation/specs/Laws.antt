@@ -6,3 +6,4 @@ pub mod Sequence
 pub mod Lists
 pub mod Reading
 pub mod Changing
+pub mod Writing

@@ -98,30 +98,30 @@ becomes {g} {now} x i d is = elim (cases_eq i x.number) [
 
 -- ---- what hangs on blocks is the same
 
-site_same : (g : Given) (now : MeaningState) (i : ℕ) {b d : Block} → SameBlock b d → site_of g now i d ≡ site_of g now i b
+pub site_same : (g : Given) (now : MeaningState) (i : ℕ) {b d : Block} → SameBlock b d → site_of g now i d ≡ site_of g now i b
 site_same g now i same = ap (λ kind. site_by g now.calls kind i) same.kind
 
-has_byte_same : (g : Given) (now : MeaningState) (i : ℕ) {b d : Block} (a : ℕ) → SameBlock b d → has_byte g now i d a ≡ has_byte g now i b a
+pub has_byte_same : (g : Given) (now : MeaningState) (i : ℕ) {b d : Block} (a : ℕ) → SameBlock b d → has_byte g now i d a ≡ has_byte g now i b a
 has_byte_same g now i {b} {d} a same =
     ap (λ place. is_between place.start d.size a) (site_same g now i same)
     ∙ ap (λ size. is_between (site_of g now i b).start size a) same.size
 
-tagged_same : (g : Given) (now : MeaningState) {b d : Block} → SameBlock b d →
+pub tagged_same : (g : Given) (now : MeaningState) {b d : Block} → SameBlock b d →
     is_tagged_block g now.calls d.kind ≡ is_tagged_block g now.calls b.kind
 tagged_same g now same = ap (λ kind. is_tagged_block g now.calls kind) same.kind
 
 -- a live block was live before the change
-record Lived (now : MeaningState) (i : ℕ) (d : Block) : Type 0 where
-  block : Block
-  lives : Lives now i block
-  same : SameBlock block d
+pub record Lived (now : MeaningState) (i : ℕ) (d : Block) : Type 0 where
+  pub block : Block
+  pub lives : Lives now i block
+  pub same : SameBlock block d
 
-lived : {g : Given} {now : MeaningState} (x : Change g now) {i : ℕ} {d : Block} → Lives (changed x) i d → Lived now i d
+pub lived : {g : Given} {now : MeaningState} (x : Change g now) {i : ℕ} {d : Block} → Lives (changed x) i d → Lived now i d
 lived x {i} {d} lives =
     let before = was x i d lives.is in
     record { block = before.block; lives = record { is = before.is; live = sym before.same.live ∙ lives.live }; same = before.same }
 
-lives_on : {g : Given} {now : MeaningState} (x : Change g now) {i : ℕ} {d : Block} → Lives now i d → Lived (changed x) i d
+pub lives_on : {g : Given} {now : MeaningState} (x : Change g now) {i : ℕ} {d : Block} → Lives now i d → Lived (changed x) i d
 lives_on x {i} {d} lives =
     let after = becomes x i d lives.is in
     record { block = after.block; lives = record { is = after.is; live = sym after.same.live ∙ lives.live }; same = after.same }
@@ -146,7 +146,7 @@ IsCell-changed x (Part k block offset) byte is =
 
 -- ---- the meaning's own state
 
-Stands-changed : {g : Given} {here : Context} {now : MeaningState} (x : Change g now) → length x.after.cells ≡ x.after.size →
+pub Stands-changed : {g : Given} {here : Context} {now : MeaningState} (x : Change g now) → length x.after.cells ≡ x.after.size →
     slice_get (changed x).blocks 0 ≡ Some null_block → Stands g here now → Stands g here (changed x)
 Stands-changed {g} {here} {now} x whole null stands = record {
   program_is = stands.program_is;
