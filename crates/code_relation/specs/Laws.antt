@@ -7,3 +7,4 @@ pub mod Lists
 pub mod Reading
 pub mod Changing
 pub mod Writing
+pub mod Storing

@@ -35,3 +35,28 @@ length-part zero (suc n) [] within = absurd (omega (arith, within))
 length-part zero (suc n) (x ∷ xs) within = ap suc (length-part zero n xs (omega (arith, within)))
 length-part (suc offset) n [] within = absurd (omega (arith, within))
 length-part (suc offset) n (x ∷ xs) within = length-part offset n xs (omega (arith, within))
+
+pub length-front : {A : Type 0} (n : ℕ) (xs : List A) → n ≤ length xs → length (take n xs) ≡ n
+length-front zero xs within = refl
+length-front (suc n) [] within = absurd (omega (arith, within))
+length-front (suc n) (x ∷ xs) within = ap suc (length-front n xs (omega (arith, within)))
+
+-- where something is that has a place in a list
+pub get_within : {A : Type 0} (xs : List A) (k : ℕ) (x : A) → slice_get xs k ≡ Some x → k < length xs
+get_within [] k x is = absurd (cc)
+get_within (y ∷ ys) zero x is = omega arith
+get_within (y ∷ ys) (suc k) x is = omega (arith, get_within ys k x is)
+
+-- in two lists joined it is in one of them
+pub data InJoined {A : Type 0} (xs ys : List A) (k : ℕ) (x : A) : Type 0 where
+  front : slice_get xs k ≡ Some x → InJoined xs ys k x
+  back : (j : ℕ) → k ≡ length xs + j → slice_get ys j ≡ Some x → InJoined xs ys k x
+
+further : {A : Type 0} {xs ys : List A} {k : ℕ} {x : A} (y : A) → InJoined xs ys k x → InJoined (y ∷ xs) ys (suc k) x
+further y (front is) = front is
+further y (back j same is) = back j (omega (arith, same)) is
+
+pub get_joined : {A : Type 0} (xs ys : List A) (k : ℕ) (x : A) → slice_get (xs ++ ys) k ≡ Some x → InJoined xs ys k x
+get_joined [] ys k x is = back k (omega arith) is
+get_joined (y ∷ xs) ys zero x is = front is
+get_joined (y ∷ xs) ys (suc k) x is = further y (get_joined xs ys k x is)
