@@ -5,7 +5,7 @@ use Rattle.std.proofs.lemmas.Bool.Decides.{nat_tests}
 use Rattle.mt_base.specs.Memory.{is_between, bytes_of, store}
 use Rattle.mt_base.specs.Laws.Memory.{length-bytes_of, store_bytes_inside}
 use Rattle.a64_code.specs.State.{State}
-use Rattle.a64_laws.specs.Laws.Effects.Stores.{store_outside}
+use Rattle.a64_laws.specs.Laws.Effects.InRange.{IsInRange}
 use Rattle.block_meaning.specs.declared.cell.Cell.{Cell}
 use Rattle.block_meaning.specs.declared.cell.Cell.TheVariants.{Byte}
 use Rattle.block_meaning.specs.Blocks.{Block, with_cells, with_cells_in}
@@ -13,12 +13,13 @@ use Rattle.block_meaning.specs.Running.{Context, State as MeaningState}
 use Rattle.block_meaning.specs.Values.{number_cells}
 use Rattle.code_relation.specs.Bases.{HaveBaseWords}
 use Rattle.code_relation.specs.Cells.{IsCell, HasCells}
+use Rattle.code_relation.specs.Injects.{Injects}
 use Rattle.code_relation.specs.Loaded.{on_stack, NoObjectAt}
 use Rattle.code_relation.specs.Sites.{Given, Lives, site_of, has_byte}
-use Rattle.code_relation.specs.Laws.Changing.{Change}
+use Rattle.code_relation.specs.Laws.Changing.{Change, changed}
 use Rattle.code_relation.specs.Laws.Lists.{get_take, get_drop, get_within, get_joined, length-front, InJoined, front, back}
 use Rattle.code_relation.specs.Laws.Reading.{AreCells}
-use Rattle.code_relation.specs.Laws.Writing.{IsWritten}
+use Rattle.code_relation.specs.Laws.Writing.{IsWritten, SameButBytes, Injects-written}
 
 -- ---- where a cell of a block with new ones comes from
 
@@ -117,3 +118,34 @@ IsWritten-stored {g} {here} {now} {number} {b} {offset} {new} {s} {t} lives has 
         subst (λ byte. IsCell g now c byte)
         (sym (stored.others ((site_of g now number b).start + k) (above (site_of g now number b).start offset (length new) k more)))
         (has.cell number b k c lives is)
+
+-- ---- a number
+
+-- a cell of a number is the byte of it that is stored there
+number_cell : (n value j : ℕ) (c : Cell) → slice_get (number_cells n value) j ≡ Some c → c ≡ Byte (slice_index (bytes_of n value) j)
+unfolding bytes_of
+number_cell zero value j c is = absurd (cc)
+number_cell (suc n) value zero c is = cc
+number_cell (suc n) value (suc j) c is = number_cell n (value / 256) j c is
+
+pub length-number_cells : (n value : ℕ) → length (number_cells n value) ≡ n
+length-number_cells zero value = refl
+length-number_cells (suc n) value = ap suc (length-number_cells n (value / 256))
+
+-- A number of so many bytes is stored: its cells are there.
+pub AreCells-store : (g : Given) (now : MeaningState) (n : ℕ) (byte : ℕ → ℕ) (at value : ℕ) →
+    AreCells g now (number_cells n value) (store n byte at value) at
+AreCells-store g now n byte at value = record {
+  each = λ j c is.
+      let within : j < length (bytes_of n value) =
+          omega (arith, get_within (number_cells n value) j c is, length-number_cells n value, length-bytes_of n value) in
+      subst (λ cell. IsCell g now cell (store n byte at value (at + j))) (sym (number_cell n value j c is))
+      (store_bytes_inside byte at (bytes_of n value) j within);
+}
+
+-- A number is stored where a block that is alive has room for it, and the relation holds on.
+pub Injects-number : {g : Given} {here : Context} {now : MeaningState} {number : ℕ} {b : Block} {s t : State} (lives : Lives now number b)
+    (offset n value : ℕ) → IsStored g here now number b offset (number_cells n value) s t → SameButBytes s t → IsInRange t →
+    Injects g here now s → Injects g here (changed (with_new {g = g} lives offset (number_cells n value))) t
+Injects-number lives offset n value stored same range injects =
+    Injects-written (IsWritten-stored lives injects.cells stored) same range injects

@@ -13,16 +13,16 @@ use Rattle.code_relation.specs.Outcomes.{outcome_of}
 
 -- ---- arithmetic
 
-split : (per left units : ℕ) → per * (left + units) ≡ per * left + per * units
-split zero left units = omega arith
-split (suc per) left units = omega (arith, split per left units)
+pub product_split : (per left units : ℕ) → per * (left + units) ≡ per * left + per * units
+product_split zero left units = omega arith
+product_split (suc per) left units = omega (arith, product_split per left units)
 
 -- where a unit pays for some steps, so much less work is left
 pub less_work : (per left work : ℕ) → 1 ≤ per → per * left ≤ per * work → left ≤ work
 less_work per zero work some less = omega arith
-less_work per (suc left) zero some less = absurd (omega (arith, some, less, split per left 1))
+less_work per (suc left) zero some less = absurd (omega (arith, some, less, product_split per left 1))
 less_work per (suc left) (suc work) some less =
-    let fewer : left ≤ work = less_work per left work some (omega (arith, less, split per left 1, split per work 1)) in
+    let fewer : left ≤ work = less_work per left work some (omega (arith, less, product_split per left 1, product_split per work 1)) in
     omega (arith, fewer)
 
 -- ---- a tree that completes
@@ -59,7 +59,7 @@ Does-completed {A} {c} {t} {here} {now} {s} a units then is work does =
       to = r.to;
       led = r.led;
       least = omega (arith, r.least, work);
-      most = omega (arith, r.most, ap (λ w. c.per * w) work, split c.per then.work units);
+      most = omega (arith, r.most, ap (λ w. c.per * w) work, product_split c.per then.work units);
       completes = r.there;
     }
 
