@@ -1,8 +1,7 @@
 -- An example: a program without files, before any call. Its states are related.
-use Rattle.std.specs.Prelude.{◌≡◌, ◌≢◌, ℕ, zero, suc, ◌+◌, ◌-◌, ◌%◌, ◌^◌, ◌<◌, ◌≤◌, true, false, List, [], ◌∷◌, slice_get, slice_index, slice_index_or, length, Some, refl}
+use Rattle.std.specs.Prelude.{◌≡◌, ℕ, zero, suc, ◌-◌, ◌<◌, true, false, List, [], ◌∷◌, slice_get, slice_index, length, Some, refl}
 use Rattle.std.proofs.Common.{ap, arith, sym, subst, ◌∙◌}
 use Rattle.std.proofs.lemmas.Bool.Decides.{nat_tests}
-use Rattle.mt_base.specs.Granules.{granule_of}
 use Rattle.mt_base.specs.Memory.{Extent, is_between}
 use Rattle.std.specs.List.{All}
 use Rattle.tag_mem.specs.Regions.{IsApartFrom}
@@ -20,7 +19,6 @@ use Rattle.block_meaning.specs.Running.{Program, Context, State as MeaningState}
 use Rattle.code_relation.specs.Calls.{stack_end}
 use Rattle.code_relation.specs.Injects.{Injects}
 use Rattle.code_relation.specs.Loaded.{IsLoaded, IsFileBlock, FilesLie}
-use Rattle.code_relation.specs.Relates.{Relates}
 use Rattle.code_relation.specs.Sites.{Given, Lives, site, has_byte, is_of_file}
 use Rattle.code_relation.specs.Stands.{Stands, IsAsOpened}
 
@@ -97,8 +95,12 @@ no_cell number b offset c lives is =
 as_opened : (number : ℕ) (b : Block) → slice_get (null_block ∷ []) number ≡ Some b → IsAsOpened now number b
 as_opened zero b is =
     let null : null_block ≡ b = cc in
-    record { block = null_block; lives = record { is = refl; live = refl }; kind_is = ap (λ (x : Block). x.kind) null;
-        size_is = ap (λ (x : Block). x.size) null }
+    record {
+      block = null_block;
+      lives = record { is = refl; live = refl };
+      kind_is = ap (λ (x : Block). x.kind) null;
+      size_is = ap (λ (x : Block). x.size) null;
+    }
 as_opened (suc number) b is = absurd (cc)
 
 -- ---- what is given

@@ -1,25 +1,23 @@
 -- An example: one instruction that does nothing follows a tree that spends one unit of work and does nothing.
-use Rattle.std.specs.Prelude.{◌≡◌, ℕ, zero, suc, ◌+◌, ◌*◌, ◌%◌, ◌^◌, ◌<◌, ◌≤◌, true, false, List, [], ◌∷◌, Some, refl}
-use Rattle.std.proofs.Common.{arith, ap, sym, subst, ◌∙◌}
+use Rattle.std.specs.Prelude.{◌≡◌, ℕ, zero, suc, ◌+◌, ◌*◌, ◌^◌, ◌<◌, ◌≤◌, [], ◌∷◌, refl}
+use Rattle.std.proofs.Common.{arith, ap, sym, ◌∙◌}
 use Rattle.a64_code.specs.declared.instr.Instr.TheVariants.{Nop}
 use Rattle.a64_code.specs.State.{State}
-use Rattle.a64_code.specs.Stepped.{Stepped, Leads}
-use Rattle.a64_code.specs.Effect.{effect}
-use Rattle.a64_code.specs.Step.{fetched, carried_out, step}
+use Rattle.a64_code.specs.Stepped.{Leads}
+use Rattle.a64_code.specs.Step.{carried_out, step}
 use Rattle.a64_laws.specs.Forms.{next}
 use Rattle.a64_laws.specs.Laws.Extending.{passed_over}
 use Rattle.mte_machine.specs.Run.{Steps}
 use Rattle.mte_machine.specs.Laws.Steps.{Steps-one}
 use Rattle.block_meaning.specs.Running.{Function, Context, gives, unit_then, State as MeaningState}
 use Rattle.code_runs.specs.Bounded.{just}
-use Rattle.code_runs.specs.Laws.Bounded.{done, after, Stands-opened}
+use Rattle.code_runs.specs.Laws.Bounded.{done, after}
 use Rattle.code_runs.specs.Laws.Ranges.{IsInRange-Steps}
 use Rattle.code_runs.specs.Laws.Within.{StepsWithin-one}
 use Rattle.sym_code.specs.declared.item.SymItem.TheVariants as item
-use Rattle.code_relation.specs.Follows.{Code, setting, Tree, Does, Follows, None_uncounted}
-use Rattle.code_relation.specs.Injects.{Injects}
+use Rattle.code_relation.specs.Follows.{Code, Tree, Does, Follows, None_uncounted}
 use Rattle.code_relation.specs.Items.{Place, IsAt, HasInstr, StandsAt}
-use Rattle.code_relation.specs.Relates.{Relates, SameOutside}
+use Rattle.code_relation.specs.Relates.{Relates}
 use Rattle.code_relation.specs.Laws.Follows.{does_unit}
 use Rattle.code_relation.specs.Laws.Kept.{SameInjected, Injects-same, Injects-with}
 use Rattle.code_relation.specs.Laws.Outcomes.{one_less, spent}
@@ -85,7 +83,7 @@ pause_follows c f p stands fits pays =
     by_instr acts here now s relates begins =
         let is_at = one acts.0 here now s relates begins in
         let leads : step s ≡ Leads (next s) =
-            ap (λ instr. carried_out instr s) (acts.0.is s is_at) ∙ passed_over s in
+        ap (λ instr. carried_out instr s) (acts.0.is s is_at) ∙ passed_over s in
         let steps : Steps 1 s (next s) = Steps-one s (next s) leads in
         record {
           extra = 0;

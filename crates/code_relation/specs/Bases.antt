@@ -1,5 +1,5 @@
 -- The register with the tagged base, X28, and the base words of frames (this project's own).
-use Rattle.std.specs.Prelude.{◌≡◌, ℕ, ◌+◌, Bool, true, List, [], ◌∷◌, if◌then◌else◌}
+use Rattle.std.specs.Prelude.{◌≡◌, ℕ, ◌+◌, true, List, [], ◌∷◌, if◌then◌else◌}
 use Rattle.mt_base.specs.Memory.{load}
 use Rattle.mt_base.specs.Pointers.{with_tag}
 use Rattle.a64_code.specs.State.{State}
@@ -8,7 +8,8 @@ use Rattle.tag_plan.specs.Lists.{tagged_base}
 use Rattle.code_relation.specs.Calls.{lowest, has_tagged}
 use Rattle.code_relation.specs.Sites.{Given, units_of, base_of}
 
--- By the open calls, the latest first: the lowest address, with the base tag, of the innermost frame that has tagged slots, or what was loaded.
+-- By the open calls, the latest first: the lowest address, with the base tag, of the innermost frame that has tagged slots, or what was
+-- loaded.
 abbrev pub tagged_base_of : Given → List Call → List Call → ℕ
 tagged_base_of g calls [] = g.loaded.register tagged_base.0
 tagged_base_of g calls (c ∷ cs) =

@@ -1,5 +1,6 @@
 -- Where the machine stands when the meaning is over: its next step is that of the end (this project's own).
-use Rattle.std.specs.Prelude.{◌≡◌, ℕ, ◌+◌, ◌*◌, ◌%◌, ◌^◌, ◌<◌, Bool, true, false, ◌&&◌, nat_eq, List, [], ◌∷◌, map, slice_get, Option, Some, None}
+use Rattle.std.specs.Prelude.{◌≡◌, ℕ, ◌+◌, ◌*◌, ◌%◌, ◌^◌, ◌<◌, Bool, true, false}
+use Rattle.std.specs.Prelude.{◌&&◌, nat_eq, List, [], ◌∷◌, map, slice_get, Option, Some, None}
 use Rattle.std.specs.Prelude.{if◌then◌else◌}
 use Rattle.mt_base.specs.Wrapping.{wrapping_add}
 use Rattle.a64_code.specs.declared.instr.Instr.{Instr}
@@ -27,7 +28,8 @@ use Rattle.code_relation.specs.Sites.{Given, units_of, site_of, choice_of}
 
 -- an instruction loads or stores so many bytes at a number, and its base is not SP
 pub data AccessesAt (s : State) (size number : ℕ) : Instr → Type 0 where
-  loads : (l : Load) (imm12 : ℕ) (rn rt : Reg) → rn.0 < 31 → load_size l ≡ size → wrapping_add 64 (s.register rn.0) (imm12 * load_size l) ≡ number →
+  loads : (l : Load) (imm12 : ℕ) (rn rt : Reg) → rn.0 < 31 → load_size l ≡ size →
+      wrapping_add 64 (s.register rn.0) (imm12 * load_size l) ≡ number →
       AccessesAt s size number (load_instr l imm12 rn rt)
   stores : (w : Store) (imm12 : ℕ) (rn rt : Reg) → rn.0 < 31 → store_size w ≡ size →
       wrapping_add 64 (s.register rn.0) (imm12 * store_size w) ≡ number → AccessesAt s size number (store_instr w imm12 rn rt)
@@ -57,9 +59,9 @@ pub record IsCaught (g : Given) (now : MeaningState) (a : Access) (s : State) : 
   pub fault : (b : Block) (call k : ℕ) (c : Call) → slice_get now.blocks a.at.block ≡ Some b → b.kind ≡ Local call k →
       slice_get now.calls call ≡ Some c →
       (n : Neighbour (frame_of (units_of g) c.function)
-          (record { live = live_locals call now.blocks; number = k; offset = a.at.offset; size = a.size })) →
+      (record { live = live_locals call now.blocks; number = k; offset = a.at.offset; size = a.size })) →
       step s ≡ Ends (machine.TagFault (((site_of g now a.at.block b).start + a.at.offset) % 2 ^ 64) (site_of g now a.at.block b).tag
-          (tag_there (choice_of g now.calls c) n))
+      (tag_there (choice_of g now.calls c) n))
 
 -- ---- undefined steps
 

@@ -1,5 +1,5 @@
--- Code follows a tree: from each pair of states that are related it does what the tree means, within bounds on its steps from below and from
--- above, and keeps what is kept (this project's own). Of u units at least u steps are taken, and at most `per * u`; `Bounded` of
+-- Code follows a tree: from each pair of states that are related it does what the tree means, within bounds on its steps from below and
+-- from above, and keeps what is kept (this project's own). Of u units at least u steps are taken, and at most `per * u`; `Bounded` of
 -- code_runs tells it without subtraction, with the work that is left.
 use Rattle.std.specs.Prelude.{◌≡◌, ℕ, suc, ◌≤◌, List, [], ◌∷◌, length, Option, Some, None}
 use Rattle.c_type_base.specs.declared.ty.Ty.{Ty}

@@ -1,6 +1,6 @@
--- Symbolic code where it stands: what each item does there, in however many instructions (this project's own). What is said of code is said
--- of each way in which it may stand.
-use Rattle.std.specs.Prelude.{◌≡◌, ◌≢◌, ℕ, zero, suc, ◌+◌, ◌*◌, ◌/◌, ◌≤◌, ◌<◌, List, [], ◌∷◌, slice_get, Option, Some, None}
+-- Symbolic code where it stands: what each item does there, in however many instructions (this project's own). What is said of code is
+-- said of each way in which it may stand.
+use Rattle.std.specs.Prelude.{◌≡◌, ◌≢◌, ℕ, suc, ◌+◌, ◌*◌, ◌/◌, ◌≤◌, List, [], slice_get, Option, Some, None}
 use Rattle.a64_code.specs.declared.instr.Instr.{Instr}
 use Rattle.a64_code.specs.declared.instr.Reg.{Reg}
 use Rattle.a64_code.specs.State.{State, general, at_pc}
@@ -12,7 +12,7 @@ use Rattle.block_meaning.specs.Blocks.{pointer}
 use Rattle.block_meaning.specs.Expressions.{Site, call_effect}
 use Rattle.block_meaning.specs.Linkage.{object_block, text_block, extern_block, extern_at, function_of, function_named}
 use Rattle.block_meaning.specs.Meaning.{calls_at}
-use Rattle.block_meaning.specs.Running.{Function, Context, Run, unit_then, State as MeaningState}
+use Rattle.block_meaning.specs.Running.{Function, Context, unit_then, State as MeaningState}
 use Rattle.c_type_base.specs.declared.ty.Ty.{Ty}
 use Rattle.c_type_base.specs.declared.typed.ExternInfo.{ExternInfo}
 use Rattle.c_type_base.specs.declared.expr.Callee.{Callee}

@@ -1,5 +1,5 @@
 -- A pair of states from which code is to follow a tree, and to which it leads (this project's own).
-use Rattle.std.specs.Prelude.{◌≡◌, ℕ, map, Option, Some, None}
+use Rattle.std.specs.Prelude.{◌≡◌, map, Some, None}
 use Rattle.a64_code.specs.State.{State}
 use Rattle.block_meaning.specs.Running.{Context, State as MeaningState}
 use Rattle.code_relation.specs.Injects.{Injects}

@@ -105,8 +105,8 @@ is_inner_slot s = s.inner
 abbrev pub inner_tagged : List Slot → List Slot
 inner_tagged ss = filter is_inner_slot (tagged_slots ss)
 
--- The code has come to an item where the function ends, with the value in X0. The scopes that are left may still have their tags, which the
--- end of the function takes away.
+-- The code has come to an item where the function ends, with the value in X0. The scopes that are left may still have their tags, which
+-- the end of the function takes away.
 pub record ComesToLeave (g : Given) (part : Part) (p : Place) (here : Context) (s : State) (v : Value) (now : MeaningState) (t : State) :
     Type 0 where
   pub position : ℕ
@@ -157,10 +157,12 @@ pub record IsPlaced (part : Part) (c : Code) (p : Place) : Type 0 where
 pub record FollowsExpression (part : Part) (e : TExpr) (reg : Reg) : Type 1 where
   pub follows : (c : Code) (p : Place) (scope : Scope) → IsPlaced part c p → IsScope c part.function scope → ValueInOrder scope e →
       (bound depth : ℕ) (around : TextSpan) →
-      Follows c (expression_tree c.given (λ here. (parts_at (calls_at bound) here depth).value_in around e) part.first (span_of part p) reg)
+      Follows c (expression_tree c.given (λ here. (parts_at (calls_at bound) here depth).value_in around e) part.first
+      (span_of part p) reg)
 
 pub record FollowsPlace (part : Part) (e : TExpr) (reg : Reg) : Type 1 where
-  pub follows : (c : Code) (p : Place) (scope : Scope) → IsPlaced part c p → IsScope c part.function scope → Designates scope e.ty (out-TNode e.node) →
+  pub follows : (c : Code) (p : Place) (scope : Scope) → IsPlaced part c p → IsScope c part.function scope →
+      Designates scope e.ty (out-TNode e.node) →
       (bound depth : ℕ) →
       Follows c (place_tree c.given (λ here. (parts_at (calls_at bound) here depth).place e) part.first (span_of part p) reg)
 
@@ -169,11 +171,11 @@ pub record FollowsStatement (part : Part) (broke continued : ℕ) (st : TStmt) :
   pub follows : (c : Code) (p : Place) (scope : Scope) → IsPlaced part c p → IsScope c part.function scope →
       StatementInOrder scope (out-TStmt st) → (bound depth : ℕ) →
       Follows c (statement_tree c.given (λ here. (statements_at (calls_at bound) depth).run here st) part p
-          (record { broke = p.label broke; continued = p.label continued }))
+      (record { broke = p.label broke; continued = p.label continued }))
 
 -- the same of what stands in a block, whose locals are in scope: so of the body of a function too
 pub record FollowsItems (part : Part) (broke continued : ℕ) (is : List TItem) : Type 1 where
   pub follows : (c : Code) (p : Place) (scope : Scope) → IsPlaced part c p → IsScope c part.function scope → Items scope is →
       (bound depth : ℕ) →
       Follows c (statement_tree c.given (λ here. items (statements_at (calls_at bound) depth) here is) part p
-          (record { broke = p.label broke; continued = p.label continued }))
+      (record { broke = p.label broke; continued = p.label continued }))

@@ -1,28 +1,18 @@
 -- A live block gets other cells, and memory other bytes for them: the relation holds on (this project's own).
-use Rattle.std.specs.Prelude.{◌≡◌, ◌≢◌, ℕ, ◌+◌, Bool, true, false, List, length, slice_get, slice_set, Option, Some, refl}
-use Rattle.std.proofs.Common.{arith, ap, sym, subst, inl, inr, ◌∙◌}
-use Rattle.std.proofs.lemmas.Bool.{cases_Bool, cases_eq}
-use Rattle.mt_base.specs.Granules.{granule_of}
+use Rattle.std.specs.Prelude.{◌≡◌, ℕ, true, length, slice_get, slice_set, Option, Some, refl}
+use Rattle.std.proofs.Common.{ap, sym, subst, inl, inr, ◌∙◌}
+use Rattle.std.proofs.lemmas.Bool.{cases_eq}
 use Rattle.mt_base.specs.Memory.{is_between}
-use Rattle.a64_code.specs.State.{State}
-use Rattle.a64_laws.specs.Laws.Effects.InRange.{IsInRange}
 use Rattle.block_meaning.specs.declared.cell.Cell.{Cell}
 use Rattle.block_meaning.specs.declared.cell.Cell.TheVariants.{Nothing, Byte, Part}
 use Rattle.block_meaning.specs.declared.kind.Kind.TheVariants.{Local}
 use Rattle.block_meaning.specs.declared.value.Pointer.{Pointer}
 use Rattle.block_meaning.specs.Blocks.{Block, null_block}
-use Rattle.block_meaning.specs.Meaning.{open_bytes}
 use Rattle.block_meaning.specs.Running.{Call, Context, State as MeaningState}
-use Rattle.tag_plan.specs.Lists.{tagged_base}
-use Rattle.code_relation.specs.Apart.{AreTwo, AreApart}
-use Rattle.code_relation.specs.Bases.{HaveBaseWords}
-use Rattle.code_relation.specs.Cells.{IsByteOf, IsCell, HasCells}
-use Rattle.code_relation.specs.Injects.{Injects}
-use Rattle.code_relation.specs.Loaded.{on_stack, NoObjectAt}
+use Rattle.code_relation.specs.Cells.{IsCell}
 use Rattle.code_relation.specs.Numbers.{number_at, IsNumber}
 use Rattle.code_relation.specs.Sites.{Given, Lives, site_by, site_of, has_byte, is_tagged_block, is_of_file}
 use Rattle.code_relation.specs.Stands.{IsInScope, IsAsOpened, WasOpened, IsLocal, Stands}
-use Rattle.code_relation.specs.Tags.{HasTags, IsAsLoaded}
 use Rattle.code_relation.specs.Laws.Lists.{get_set_same, get_set_other}
 
 -- The block is another in its cells alone.
@@ -63,10 +53,10 @@ pub was : {g : Given} {now : MeaningState} (x : Change g now) (i : ℕ) (d : Blo
 was {g} {now} x i d is = elim (cases_eq i x.number) [
   | inl here ↦ of_number here (ap (λ n. slice_get (changed x).blocks n) (sym here) ∙ is)
   | inr other ↦ record {
-      block = d;
-      is = sym (get_set_other now.blocks x.number i x.after (λ s. other (sym s))) ∙ is;
-      same = SameBlock-same d;
-    }
+    block = d;
+    is = sym (get_set_other now.blocks x.number i x.after (λ s. other (sym s))) ∙ is;
+    same = SameBlock-same d;
+  }
 ]
   where
     of_number : i ≡ x.number → slice_get (changed x).blocks x.number ≡ Some d → Is now i d
@@ -76,14 +66,15 @@ was {g} {now} x i d is = elim (cases_eq i x.number) [
         record { block = x.before; is = ap (λ n. slice_get now.blocks n) here ∙ x.lives.is; same = SameBlock-then x.same new }
 
 -- and what was there is there after it
-pub becomes : {g : Given} {now : MeaningState} (x : Change g now) (i : ℕ) (d : Block) → slice_get now.blocks i ≡ Some d → Is (changed x) i d
+pub becomes : {g : Given} {now : MeaningState} (x : Change g now) (i : ℕ) (d : Block) → slice_get now.blocks i ≡ Some d →
+    Is (changed x) i d
 becomes {g} {now} x i d is = elim (cases_eq i x.number) [
   | inl here ↦ of_number here (ap (λ n. slice_get now.blocks n) (sym here) ∙ is)
   | inr other ↦ record {
-      block = d;
-      is = get_set_other now.blocks x.number i x.after (λ s. other (sym s)) ∙ is;
-      same = SameBlock-same d;
-    }
+    block = d;
+    is = get_set_other now.blocks x.number i x.after (λ s. other (sym s)) ∙ is;
+    same = SameBlock-same d;
+  }
 ]
   where
     of_number : i ≡ x.number → slice_get now.blocks x.number ≡ Some d → Is (changed x) i d
@@ -101,7 +92,8 @@ becomes {g} {now} x i d is = elim (cases_eq i x.number) [
 pub site_same : (g : Given) (now : MeaningState) (i : ℕ) {b d : Block} → SameBlock b d → site_of g now i d ≡ site_of g now i b
 site_same g now i same = ap (λ kind. site_by g now.calls kind i) same.kind
 
-pub has_byte_same : (g : Given) (now : MeaningState) (i : ℕ) {b d : Block} (a : ℕ) → SameBlock b d → has_byte g now i d a ≡ has_byte g now i b a
+pub has_byte_same : (g : Given) (now : MeaningState) (i : ℕ) {b d : Block} (a : ℕ) → SameBlock b d →
+    has_byte g now i d a ≡ has_byte g now i b a
 has_byte_same g now i {b} {d} a same =
     ap (λ place. is_between place.start d.size a) (site_same g now i same)
     ∙ ap (λ size. is_between (site_of g now i b).start size a) same.size
@@ -207,7 +199,7 @@ Stands-changed {g} {here} {now} x whole null stands = record {
     of_number : (b : Block) → slice_get (changed x).blocks x.number ≡ Some b → length b.cells ≡ b.size
     of_number b is =
         let found : slice_get (changed x).blocks x.number ≡ Some x.after =
-            get_set_same now.blocks x.number x.before x.after x.lives.is in
+        get_set_same now.blocks x.number x.before x.after x.lives.is in
         let new : x.after ≡ b = cc in
         subst (λ y. length y.cells ≡ y.size) new whole
 
@@ -215,7 +207,7 @@ Stands-changed {g} {here} {now} x whole null stands = record {
     as_many number b lives = elim (cases_eq number x.number) [
       | inl here ↦ of_number b (ap (λ n. slice_get (changed x).blocks n) (sym here) ∙ lives.is)
       | inr other ↦ stands.cells number b (record {
-          is = sym (get_set_other now.blocks x.number number x.after (λ s. other (sym s))) ∙ lives.is;
-          live = lives.live;
-        })
+        is = sym (get_set_other now.blocks x.number number x.after (λ s. other (sym s))) ∙ lives.is;
+        live = lives.live;
+      })
     ]

@@ -1,14 +1,12 @@
 -- How it is proved that code follows a tree: by the parts of the tree, and with bounds that are weakened (this project's own).
-use Rattle.std.specs.Prelude.{◌≡◌, ℕ, zero, suc, ◌+◌, ◌*◌, ◌≤◌, refl}
+use Rattle.std.specs.Prelude.{◌≡◌, ℕ, suc, ◌≤◌}
 use Rattle.std.proofs.Common.{arith, sym, subst}
 use Rattle.a64_code.specs.State.{State}
-use Rattle.block_meaning.specs.Running.{Context, Run, Stop, and_then, unit_then, State as MeaningState}
-use Rattle.code_runs.specs.Bounded.{Setting, Account, Room, just, later, Bounded}
-use Rattle.code_runs.specs.Outcome.{Outcome}
-use Rattle.code_runs.specs.Laws.Bounded.{IsLooser, IsWider, Stands, opened, ticks, binds, changes}
+use Rattle.block_meaning.specs.Running.{Context, Run, and_then, unit_then, State as MeaningState}
+use Rattle.code_runs.specs.Bounded.{Account, Room, just, later, Bounded}
+use Rattle.code_runs.specs.Laws.Bounded.{IsWider, Stands, opened, ticks, binds, changes}
 use Rattle.code_relation.specs.Follows.{Code, setting, Tree, Does, Follows}
 use Rattle.code_relation.specs.Outcomes.{outcome_of}
-use Rattle.code_relation.specs.Relates.{Relates}
 use Rattle.code_relation.specs.Laws.Outcomes.{outcome_of-then, outcome_of-unit, spent}
 
 -- ---- bounded runs of the meaning
@@ -57,15 +55,18 @@ pub record AsksLess {A : Type 0} (c : Code) (t u : Tree A) : Type 0 where
 
 -- code that follows a tree follows one that asks less
 pub Follows-less : {A : Type 0} {c : Code} {t u : Tree A} → AsksLess c t u → Follows c t → Follows c u
-Follows-less {A} {c} {t} {u} less follows = record { does = λ here now s within relates begins. weaker here now s
-    (follows.does here now s within relates (less.begins here now s begins)) }
+Follows-less {A} {c} {t} {u} less follows = record {
+  does = λ here now s within relates begins. weaker here now s
+      (follows.does here now s within relates (less.begins here now s begins));
+}
   where
     weaker : (here : Context) (now : MeaningState) (s : State) → Does c t here now s → Does c u here now s
     weaker here now s does = record {
       extra = does.extra;
       uncounted = less.uncounted s does.extra does.uncounted;
       bounded =
-          subst (λ r. Bounded (setting c) (later u.before (opened (setting c) now.work)) (u.room does.extra) s (u.Completes here s) (outcome_of r))
+          subst (λ r. Bounded (setting c) (later u.before (opened (setting c) now.work)) (u.room does.extra) s (u.Completes here s)
+          (outcome_of r))
           (sym (less.run here now))
           (changes (record { least = omega (arith, less.before); most = omega (arith, less.before) }) (less.room does.extra)
           (less.completes here s) does.bounded);

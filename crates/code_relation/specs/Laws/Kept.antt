@@ -1,6 +1,6 @@
 -- The relation holds on where what it speaks of is the same: in the meaning blocks and calls, in the machine memory, SP, X28 and the
 -- choices drawn (this project's own).
-use Rattle.std.specs.Prelude.{◌≡◌, ℕ, ◌+◌, ◌*◌, List, [], ◌∷◌, true, Option}
+use Rattle.std.specs.Prelude.{◌≡◌, ℕ, ◌+◌, List, [], ◌∷◌, Option}
 use Rattle.std.proofs.Common.{ap, sym, subst, ◌∙◌}
 use Rattle.mt_base.specs.Granules.{granule_of}
 use Rattle.mt_base.specs.Memory.{load}
@@ -11,20 +11,19 @@ use Rattle.block_meaning.specs.declared.cell.Cell.TheVariants.{Nothing, Byte, Pa
 use Rattle.block_meaning.specs.declared.value.Pointer.{Pointer}
 use Rattle.block_meaning.specs.declared.value.Value.{Value}
 use Rattle.block_meaning.specs.declared.value.Value.TheVariants.{Number, Address, Struct, NoValue}
-use Rattle.block_meaning.specs.Blocks.{Block, pointer}
+use Rattle.block_meaning.specs.Blocks.{Block}
 use Rattle.block_meaning.specs.Meaning.{open_bytes}
 use Rattle.block_meaning.specs.Running.{Call, Context, State as MeaningState}
 use Rattle.tag_plan.specs.Lists.{tagged_base}
-use Rattle.code_relation.specs.Apart.{AreTwo, AreApart}
-use Rattle.code_relation.specs.Bases.{HaveBaseWords, HasBases}
-use Rattle.code_relation.specs.Cells.{IsByteOf, IsCell, HasCells}
+use Rattle.code_relation.specs.Apart.{AreTwo}
+use Rattle.code_relation.specs.Bases.{HaveBaseWords}
+use Rattle.code_relation.specs.Cells.{IsCell}
 use Rattle.code_relation.specs.Calls.{lowest}
-use Rattle.code_relation.specs.Frames.{HasFrames}
 use Rattle.code_relation.specs.Injects.{Injects}
 use Rattle.code_relation.specs.Numbers.{IsNumber, Holds}
 use Rattle.code_relation.specs.Sites.{Given, Lives, site_of}
 use Rattle.code_relation.specs.Stands.{IsLocal, IsInScope, IsAsOpened, Stands}
-use Rattle.code_relation.specs.Tags.{HasTags, IsAsLoaded}
+use Rattle.code_relation.specs.Tags.{IsAsLoaded}
 
 -- ---- the meaning: work, input and output are another
 
@@ -43,7 +42,8 @@ Lives-with r lives = record { is = lives.is; live = lives.live }
 Lives-without : {now : MeaningState} {number : ℕ} {b : Block} (r : Rest) → Lives (with_rest r now) number b → Lives now number b
 Lives-without r lives = record { is = lives.is; live = lives.live }
 
-pub IsNumber-with : {g : Given} {now : MeaningState} {p : Pointer} {n : ℕ} (r : Rest) → IsNumber g now p n → IsNumber g (with_rest r now) p n
+pub IsNumber-with : {g : Given} {now : MeaningState} {p : Pointer} {n : ℕ} (r : Rest) → IsNumber g now p n →
+    IsNumber g (with_rest r now) p n
 IsNumber-with r is = record { block = is.block; is = is.is; fits = is.fits; number = is.number }
 
 pub Holds-with : (g : Given) (now : MeaningState) (v : Value) (n : ℕ) (r : Rest) → Holds g now v n → Holds g (with_rest r now) v n
@@ -120,7 +120,9 @@ Injects-with {g} {now = now} r injects = record {
     without_object = injects.tags.without_object;
   };
   as_loaded = injects.as_loaded;
-  cells = record { cell = λ number b offset c lives is. IsCell-with g now c _ r (injects.cells.cell number b offset c (Lives-without r lives) is) };
+  cells = record {
+    cell = λ number b offset c lives is. IsCell-with g now c _ r (injects.cells.cell number b offset c (Lives-without r lives) is);
+  };
   bases = record { register_is = injects.bases.register_is; words = injects.bases.words };
 }
 
@@ -152,7 +154,8 @@ IsAsLoaded-same same loaded = record {
   bytes = λ a off none. ap (λ byte. byte a) same.byte ∙ loaded.bytes a off none;
 }
 
-pub Injects-same : {g : Given} {here : Context} {now : MeaningState} {s t : State} → SameInjected s t → IsInRange t → Injects g here now s →
+pub Injects-same : {g : Given} {here : Context} {now : MeaningState} {s t : State} → SameInjected s t → IsInRange t →
+    Injects g here now s →
     Injects g here now t
 Injects-same {g} {here} {now} {s} {t} same range injects = record {
   loaded = injects.loaded;
@@ -169,7 +172,8 @@ Injects-same {g} {here} {now} {s} {t} same range injects = record {
     choices = same.choices ∙ injects.frames.choices;
   };
   tags = record {
-    of_blocks = λ number b lives tagged a has. ap (λ tag. tag (granule_of a)) same.tag ∙ injects.tags.of_blocks number b lives tagged a has;
+    of_blocks = λ number b lives tagged a has.
+        ap (λ tag. tag (granule_of a)) same.tag ∙ injects.tags.of_blocks number b lives tagged a has;
     of_others = λ granule on none. ap (λ tag. tag granule) same.tag ∙ injects.tags.of_others granule on none;
     outside = λ granule off. ap (λ tag. tag granule) same.tag ∙ injects.tags.outside granule off;
     without_object = λ granule off none. ap (λ tag. tag granule) same.tag ∙ injects.tags.without_object granule off none;
@@ -177,7 +181,8 @@ Injects-same {g} {here} {now} {s} {t} same range injects = record {
   as_loaded = IsAsLoaded-same same injects.as_loaded;
   cells = record {
     cell = λ number b offset c lives is.
-        subst (λ (byte : ℕ → ℕ). IsCell g now c (byte ((site_of g now number b).start + offset))) (sym same.byte) (injects.cells.cell number b offset c lives is);
+        subst (λ (byte : ℕ → ℕ). IsCell g now c (byte ((site_of g now number b).start + offset))) (sym same.byte)
+        (injects.cells.cell number b offset c lives is);
   };
   bases = record {
     register_is = same.base ∙ injects.bases.register_is;

@@ -1,8 +1,8 @@
 -- The outcomes of what the meaning puts together: one run and then another, and a unit of work (this project's own).
 use Rattle.std.specs.Prelude.{◌≡◌, ℕ, zero, suc, refl}
-use Rattle.block_meaning.specs.Running.{Result, Goes, Stops, Stop, Divide, Deep, More, IsUndefined, Stuck, Run, State as MeaningState}
+use Rattle.block_meaning.specs.Running.{Result, Goes, Stops, Divide, Deep, More, IsUndefined, Stuck, Run, State as MeaningState}
 use Rattle.block_meaning.specs.Running.{and_then, goes_on, one_of, unit_then}
-use Rattle.code_runs.specs.Outcome.{Outcome, followed_by, where_left, spends}
+use Rattle.code_runs.specs.Outcome.{followed_by, where_left, spends}
 use Rattle.code_relation.specs.Outcomes.{outcome_of}
 
 outcome_of-on : {A B : Type 0} (r : Result A) (f : A → Run B) →

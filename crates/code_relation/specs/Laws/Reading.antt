@@ -1,8 +1,8 @@
 -- What memory has where the meaning reads: a number of so many bytes, and so an integer (this project's own).
-use Rattle.std.specs.Prelude.{◌≡◌, ℕ, zero, suc, ◌+◌, ◌*◌, ◌≤◌, Bool, true, false, List, [], ◌∷◌, length, slice_get, Option, Some, None, refl}
-use Rattle.std.specs.Prelude.{if◌then◌else◌, take, drop}
+use Rattle.std.specs.Prelude.{◌≡◌, ℕ, suc, ◌+◌, ◌*◌, ◌≤◌, Bool, true, false, List, [], ◌∷◌, length, slice_get, Option, Some, None, refl}
+use Rattle.std.specs.Prelude.{if◌then◌else◌, drop}
 use Rattle.std.specs.List.{list_any}
-use Rattle.std.proofs.Common.{arith, ap, sym, subst, ◌∙◌}
+use Rattle.std.proofs.Common.{arith, subst}
 use Rattle.std.proofs.lemmas.Bool.Decides.{nat_tests}
 use Rattle.mt_base.specs.Memory.{load}
 use Rattle.c_ast.specs.declared.int_type.IntType.{IntType}
@@ -98,7 +98,6 @@ read_cells false r why v is = is
 
 module _ {g : Given} {now : MeaningState} {s : State} {number : ℕ} {b : Block} (has : HasCells g now s) (lives : Lives now number b)
     (whole : length b.cells ≡ b.size) (t : IntType) (a : Access) where
-
   by_level : (l : TyLayer) → l ≡ Ty-F.Int t → (cells : List Cell) → length cells ≡ a.size → AreCells g now cells s.byte
       ((site_of g now number b).start + a.at.offset) → (v : Value) →
       whole_or_part (scalar_of_cells l cells) ≡ ReadsAs v →
@@ -106,7 +105,7 @@ module _ {g : Given} {now : MeaningState} {s : State} {number : ℕ} {b : Block}
   by_level (Ty-F.Int u) same cells as_many are v is =
       let read = read_number u (number_of_cells cells) v is in
       let loaded : load (length cells) s.byte ((site_of g now number b).start + a.at.offset) ≡ read.0 =
-          load-cells cells ((site_of g now number b).start + a.at.offset) read.0 are read.1 in
+      load-cells cells ((site_of g now number b).start + a.at.offset) read.0 are read.1 in
       let value : v ≡ Number (wrap u read.0) = read.2 in
       record { is = cc }
   by_level _ same cells as_many are v is = absurd cc
@@ -120,4 +119,4 @@ module _ {g : Given} {now : MeaningState} {s : State} {number : ℕ} {b : Block}
       (length-part a.at.offset a.size b.cells (omega (arith, within_block b a judged.0, whole)))
       (AreCells-block a.at.offset a.size has lives) v
       (read_cells (list_any is_nothing (cells_in b a.at.offset a.size))
-          (whole_or_part (value_of_cells ty (cells_in b a.at.offset a.size))) Indeterminate v judged.1)
+      (whole_or_part (value_of_cells ty (cells_in b a.at.offset a.size))) Indeterminate v judged.1)

@@ -1,11 +1,12 @@
 -- Code of one tree and then of another (this project's own).
-use Rattle.std.specs.Prelude.{◌≡◌, ℕ, ◌+◌, ◌*◌, ◌≤◌, refl}
+use Rattle.std.specs.Prelude.{◌≡◌, ℕ, ◌≤◌, refl}
 use Rattle.std.proofs.Common.{arith, ap, sym, subst, ◌∙◌}
 use Rattle.a64_code.specs.State.{State}
-use Rattle.block_meaning.specs.Running.{Context, Result, Goes, Stops, Stop, Divide, Deep, More, IsUndefined, Stuck, and_then, goes_on, State as MeaningState}
-use Rattle.code_runs.specs.Bounded.{Account, Room, just, Reaches, later, Bounded}
+use Rattle.block_meaning.specs.Running.{Context, Result, Goes, Stops, Stop, Divide}
+use Rattle.block_meaning.specs.Running.{Deep, More, IsUndefined, Stuck, and_then, goes_on, State as MeaningState}
+use Rattle.code_runs.specs.Bounded.{Account, just, Reaches, later, Bounded}
 use Rattle.code_runs.specs.Outcome.{Outcome, Completes}
-use Rattle.code_runs.specs.Laws.Bounded.{IsLooser, IsWider, IsWider-same, Reaches-changes, opened, after, changes}
+use Rattle.code_runs.specs.Laws.Bounded.{IsWider, IsWider-same, Reaches-changes, opened, after, changes}
 use Rattle.code_relation.specs.Follows.{Code, setting, Tree, Does, Follows}
 use Rattle.code_relation.specs.Outcomes.{outcome_of}
 use Rattle.code_relation.specs.Relates.{Relates}
@@ -38,18 +39,17 @@ outcome_at X why then = outcome_of (Stops why then)
 
 module _ {A B : Type 0} {c : Code} {first : Tree A} {rest : A → Tree B} {whole : Tree B} (joins : Joins c first rest whole)
     (here : Context) (now : MeaningState) (s : State) where
-
   -- the first has completed, in a state from which the second goes on
   second_does : (a : A) (then : MeaningState) (extra : ℕ) → first.run here now ≡ Goes a then →
       (r : Reaches (setting c) (later first.before (opened (setting c) now.work)) (first.room extra a) then.work s
-          (first.Completes here s a then)) →
+      (first.Completes here s a then)) →
       Does c (rest a) here then r.to → Does c whole here now s
   second_does a then extra is r does = record {
     extra = does.extra;
     uncounted = joins.uncounted_rest a r.steps does.extra s r.to r.led.steps does.uncounted;
     bounded =
         subst (λ q. Bounded (setting c) (later whole.before (opened (setting c) now.work)) (whole.room does.extra) s
-            (whole.Completes here s) (outcome_of q))
+        (whole.Completes here s) (outcome_of q))
         (sym (joins.run here now ∙ ap (λ q. goes_on q (λ a. (rest a).run here)) is))
         (after r.led
         (changes
@@ -69,11 +69,11 @@ module _ {A B : Type 0} {c : Code} {first : Tree A} {rest : A → Tree B} {whole
     uncounted = joins.uncounted_first s does.extra does.uncounted;
     bounded =
         subst (λ q. Bounded (setting c) (later whole.before (opened (setting c) now.work)) (whole.room does.extra) s
-            (whole.Completes here s) (outcome_of q))
+        (whole.Completes here s) (outcome_of q))
         (sym (joins.run here now ∙ ap (λ q. goes_on q (λ a. (rest a).run here)) is))
         (by_stop why
         (subst (λ q. Bounded (setting c) (later first.before (opened (setting c) now.work)) (first.room does.extra) s
-            (first.Completes here s) (outcome_of q)) is does.bounded));
+        (first.Completes here s) (outcome_of q)) is does.bounded));
   }
     where
       account : Account
@@ -92,7 +92,7 @@ module _ {A B : Type 0} {c : Code} {first : Tree A} {rest : A → Tree B} {whole
       by_stop : (why : Stop) →
           Bounded (setting c) account (first.room does.extra) s (first.Completes here s) (outcome_at A why then) →
           Bounded (setting c) (later whole.before (opened (setting c) now.work)) (whole.room does.extra) s (whole.Completes here s)
-              (outcome_at B why then)
+          (outcome_at B why then)
       by_stop Divide bounded = record { does = over bounded.does }
       by_stop Deep bounded = record { does = over bounded.does }
       by_stop More bounded = record { does = wants bounded.does }
@@ -103,16 +103,18 @@ module _ {A B : Type 0} {c : Code} {first : Tree A} {rest : A → Tree B} {whole
 pub Follows-then : {A B : Type 0} {c : Code} {first : Tree A} {rest : A → Tree B} {whole : Tree B} → Joins c first rest whole → 1 ≤ c.per →
     Follows c first → ((a : A) → Follows c (rest a)) → Follows c whole
 Follows-then {A} {B} {c} {first} {rest} {whole} joins pays one two =
-    record { does = λ here now s within relates begins. by_result here now s within (first.run here now) refl
-        (one.does here now s within relates (joins.begins here now s begins)) }
+    record {
+      does = λ here now s within relates begins. by_result here now s within (first.run here now) refl
+          (one.does here now s within relates (joins.begins here now s begins));
+    }
   where
     completed : (here : Context) (now : MeaningState) (s : State) → now.work ≤ c.reach → (a : A) (then : MeaningState) (extra : ℕ) →
         first.run here now ≡ Goes a then →
         (r : Reaches (setting c) (later first.before (opened (setting c) now.work)) (first.room extra a) then.work s
-            (first.Completes here s a then)) → Does c whole here now s
+        (first.Completes here s a then)) → Does c whole here now s
     completed here now s within a then extra is r =
         let less : then.work ≤ now.work =
-            less_work c.per then.work now.work pays (omega (arith, r.most, (joins.room_first extra a).wider)) in
+        less_work c.per then.work now.work pays (omega (arith, r.most, (joins.room_first extra a).wider)) in
         let meets = joins.meets here s a then r.to r.there in
         second_does joins here now s a then extra is r
         ((two a).does here then r.to (omega (arith, less, within)) meets.relates meets.begins)
@@ -121,8 +123,8 @@ Follows-then {A} {B} {c} {first} {rest} {whole} joins pays one two =
         Does c first here now s → Does c whole here now s
     by_result here now s within (Goes a then) is does =
         let bounded : Bounded (setting c) (later first.before (opened (setting c) now.work)) (first.room does.extra) s
-                (first.Completes here s) (Completes a then) =
-            subst (λ q. Bounded (setting c) (later first.before (opened (setting c) now.work)) (first.room does.extra) s
-                (first.Completes here s) (outcome_of q)) is does.bounded in
+        (first.Completes here s) (Completes a then) =
+        subst (λ q. Bounded (setting c) (later first.before (opened (setting c) now.work)) (first.room does.extra) s
+        (first.Completes here s) (outcome_of q)) is does.bounded in
         completed here now s within a then does.extra is bounded.does
     by_result here now s within (Stops why then) is does = stops_too joins here now s why then is does

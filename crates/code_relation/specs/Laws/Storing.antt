@@ -1,5 +1,6 @@
 -- A part of a block gets new cells: what then has to be shown, and a number that is stored there (this project's own).
-use Rattle.std.specs.Prelude.{◌≡◌, ◌≢◌, ℕ, zero, suc, ◌+◌, ◌*◌, ◌/◌, ◌%◌, ◌≤◌, ◌<◌, true, false, List, [], ◌∷◌, ◌++◌, take, drop, length, slice_get, slice_index, Some, refl}
+use Rattle.std.specs.Prelude.{◌≡◌, ◌≢◌, ℕ, zero, suc, ◌+◌, ◌/◌, ◌≤◌, ◌<◌, true}
+use Rattle.std.specs.Prelude.{false, List, ◌++◌, take, drop, length, slice_get, slice_index, Some, refl}
 use Rattle.std.proofs.Common.{arith, ap, sym, subst, ◌∙◌, length-append, length-drop}
 use Rattle.std.proofs.lemmas.Bool.Decides.{nat_tests}
 use Rattle.mt_base.specs.Memory.{is_between, bytes_of, store}
@@ -41,7 +42,7 @@ found_any offset new cells k c within (front is) =
     found_front offset new cells k c within (get_joined (take offset cells) new k c is)
 found_any offset new cells k c within (back i same is) =
     let place : offset + length new + i ≡ k =
-        omega (arith, same, length-append (take offset cells) new, length-front offset cells within) in
+    omega (arith, same, length-append (take offset cells) new, length-front offset cells within) in
     behind (omega (arith, place))
     (subst (λ n. slice_get cells n ≡ Some c) place (get_drop (offset + length new) i cells c is))
 
@@ -138,7 +139,7 @@ pub AreCells-store : (g : Given) (now : MeaningState) (n : ℕ) (byte : ℕ → 
 AreCells-store g now n byte at value = record {
   each = λ j c is.
       let within : j < length (bytes_of n value) =
-          omega (arith, get_within (number_cells n value) j c is, length-number_cells n value, length-bytes_of n value) in
+      omega (arith, get_within (number_cells n value) j c is, length-number_cells n value, length-bytes_of n value) in
       subst (λ cell. IsCell g now cell (store n byte at value (at + j))) (sym (number_cell n value j c is))
       (store_bytes_inside byte at (bytes_of n value) j within);
 }

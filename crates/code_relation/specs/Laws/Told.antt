@@ -2,9 +2,9 @@
 use Rattle.std.specs.Prelude.{◌≡◌, ℕ, zero, suc, ◌+◌, ◌*◌, ◌≤◌}
 use Rattle.std.proofs.Common.{arith, ap, subst}
 use Rattle.a64_code.specs.State.{State}
-use Rattle.block_meaning.specs.Running.{Context, Result, Goes, Stops, More, State as MeaningState}
+use Rattle.block_meaning.specs.Running.{Context, Goes, Stops, More, State as MeaningState}
 use Rattle.code_runs.specs.Bounded.{Reaches, later, Bounded}
-use Rattle.code_runs.specs.Outcome.{Completes, Lacks}
+use Rattle.code_runs.specs.Outcome.{Completes}
 use Rattle.code_runs.specs.Within.{StepsWithin}
 use Rattle.code_runs.specs.Laws.Bounded.{opened}
 use Rattle.code_runs.specs.Laws.Told.{RunsOn, runs_on}
@@ -29,29 +29,29 @@ less_work per (suc left) (suc work) some less =
 
 -- steps lead to a state in which it has completed; what was made before counts
 pub record Completed {A : Type 0} (c : Code) (t : Tree A) (here : Context) (s : State) (a : A) (units : ℕ) (then : MeaningState) : Type 0
-    where
-  pub extra : ℕ
-  pub uncounted : t.Uncounted s extra
-  pub steps : ℕ
-  pub to : State
-  pub led : StepsWithin c.Inside steps s to
-  -- as many steps as units at least, and at most those that they pay for
-  pub least : units ≤ t.before + steps
-  pub most : t.before + steps + (t.room extra a).spare ≤ c.per * units + (t.room extra a).over
-  pub completes : t.Completes here s a then to
+  where
+    pub extra : ℕ
+    pub uncounted : t.Uncounted s extra
+    pub steps : ℕ
+    pub to : State
+    pub led : StepsWithin c.Inside steps s to
+    -- as many steps as units at least, and at most those that they pay for
+    pub least : units ≤ t.before + steps
+    pub most : t.before + steps + (t.room extra a).spare ≤ c.per * units + (t.room extra a).over
+    pub completes : t.Completes here s a then to
 
 pub Does-completed : {A : Type 0} {c : Code} {t : Tree A} {here : Context} {now : MeaningState} {s : State} (a : A) (units : ℕ)
     (then : MeaningState) → t.run here now ≡ Goes a then → now.work ≡ then.work + units → Does c t here now s →
     Completed c t here s a units then
 Does-completed {A} {c} {t} {here} {now} {s} a units then is work does =
     let bounded : Bounded (setting c) (later t.before (opened (setting c) now.work)) (t.room does.extra) s (t.Completes here s)
-            (Completes a then) =
-        subst (λ r. Bounded (setting c) (later t.before (opened (setting c) now.work)) (t.room does.extra) s (t.Completes here s)
-            (outcome_of r)) is does.bounded in
+    (Completes a then) =
+    subst (λ r. Bounded (setting c) (later t.before (opened (setting c) now.work)) (t.room does.extra) s (t.Completes here s)
+    (outcome_of r)) is does.bounded in
     told bounded.does
   where
-    told : Reaches (setting c) (later t.before (opened (setting c) now.work)) (t.room does.extra a) then.work s (t.Completes here s a then) →
-        Completed c t here s a units then
+    told : Reaches (setting c) (later t.before (opened (setting c) now.work)) (t.room does.extra a) then.work s
+        (t.Completes here s a then) → Completed c t here s a units then
     told r = record {
       extra = does.extra;
       uncounted = does.uncounted;
@@ -73,11 +73,12 @@ no_unit-no_step {c = c} done room = omega (arith, done.most, room, nothing c.per
 
 -- ---- a tree that wants more work
 
--- As many steps as there was work are made without leaving the code and without an end, and what they have put begins what the meaning has.
+-- As many steps as there was work are made without leaving the code and without an end, and what they have put begins what the meaning
+-- has.
 pub more-runs : {A : Type 0} {c : Code} {t : Tree A} {here : Context} {now : MeaningState} {s : State} (then : MeaningState) →
     t.run here now ≡ Stops More then → t.before ≡ 0 → Does c t here now s → RunsOn (setting c) now.work s then
 more-runs {A} {c} {t} {here} {now} {s} then is none does =
     runs_on now.work (omega arith)
     (subst (λ r. Bounded (setting c) (opened (setting c) now.work) (t.room does.extra) s (t.Completes here s) (outcome_of r)) is
     (subst (λ before. Bounded (setting c) (later before (opened (setting c) now.work)) (t.room does.extra) s (t.Completes here s)
-        (outcome_of (t.run here now))) none does.bounded))
+    (outcome_of (t.run here now))) none does.bounded))

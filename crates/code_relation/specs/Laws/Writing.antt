@@ -1,6 +1,6 @@
 -- Memory gets the bytes of a live block's new cells, and the relation holds on (this project's own).
-use Rattle.std.specs.Prelude.{◌≡◌, ◌≢◌, ℕ, zero, suc, ◌+◌, ◌≤◌, ◌<◌, Bool, true, false, List, [], ◌∷◌, length, slice_get, Some, refl}
-use Rattle.std.proofs.Common.{arith, ap, sym, subst, inl, inr, ◌∙◌, true≢false}
+use Rattle.std.specs.Prelude.{◌≡◌, ◌≢◌, ℕ, zero, suc, ◌+◌, ◌<◌, true, false, List, [], ◌∷◌, length, slice_get, Some}
+use Rattle.std.proofs.Common.{arith, ap, sym, subst, inl, inr, ◌∙◌}
 use Rattle.std.proofs.lemmas.Bool.{cases_Bool, cases_eq}
 use Rattle.std.proofs.lemmas.Bool.Decides.{nat_tests}
 use Rattle.mt_base.specs.Granules.{granule_of}
@@ -17,9 +17,10 @@ use Rattle.code_relation.specs.Bases.{HaveBaseWords}
 use Rattle.code_relation.specs.Cells.{IsCell, HasCells}
 use Rattle.code_relation.specs.Injects.{Injects}
 use Rattle.code_relation.specs.Loaded.{on_stack, NoObjectAt}
-use Rattle.code_relation.specs.Sites.{Given, Lives, site_of, has_byte, is_tagged_block}
+use Rattle.code_relation.specs.Sites.{Given, Lives, site_of, has_byte}
 use Rattle.code_relation.specs.Stands.{Stands}
-use Rattle.code_relation.specs.Laws.Changing.{Change, changed, lived, lives_on, site_same, has_byte_same, tagged_same, IsCell-changed, Stands-changed}
+use Rattle.code_relation.specs.Laws.Changing.{Change, changed, lived, lives_on}
+use Rattle.code_relation.specs.Laws.Changing.{site_same, has_byte_same, tagged_same, IsCell-changed, Stands-changed}
 use Rattle.code_relation.specs.Laws.Lists.{get_set_same, get_set_other}
 
 -- but for bytes of memory, what the relation speaks of is the same in both states
@@ -71,7 +72,6 @@ inside : (start size offset : ℕ) → offset < size → is_between start size (
 inside start size offset below = grind (arith, nat_tests)
 
 module _ {g : Given} {here : Context} {now : MeaningState} {s t : State} {x : Change g now} (written : IsWritten g here now x s t) where
-
   -- the cells of the block itself, and those of another
   own_cell : (d : Block) (offset : ℕ) (c : Cell) → slice_get (changed x).blocks x.number ≡ Some d →
       slice_get d.cells offset ≡ Some c → IsCell g (changed x) c (t.byte ((site_of g now x.number d).start + offset))
@@ -89,13 +89,13 @@ module _ {g : Given} {here : Context} {now : MeaningState} {s t : State} {x : Ch
   other_cell apart has i d other lives whole offset c cell =
       let at : ℕ = (site_of g now i d).start + offset in
       let within : has_byte g now i d at ≡ true =
-          inside (site_of g now i d).start d.size offset (omega (arith, in_list d.cells offset c cell, whole)) in
+      inside (site_of g now i d).start d.size offset (omega (arith, in_list d.cells offset c cell, whole)) in
       let two : AreTwo now i x.number d x.before = record { different = other; first = lives; second = x.lives } in
       let apart_from : has_byte g now x.number x.before at ≡ false =
-          elim (cases_Bool (has_byte g now x.number x.before at)) [
-            | inl both ↦ absurd (apart.bytes i x.number d x.before two at within both)
-            | inr none ↦ none
-          ] in
+      elim (cases_Bool (has_byte g now x.number x.before at)) [
+        | inl both ↦ absurd (apart.bytes i x.number d x.before two at within both)
+        | inr none ↦ none
+      ] in
       IsCell-changed x c _
       (subst (λ byte. IsCell g now c byte) (sym (written.others at apart_from)) (has.cell i d offset c lives cell))
 
