@@ -26,10 +26,10 @@ use Rattle.code_relation.specs.Stands.{Stands, IsAsOpened}
 abbrev program : Program
 program = record { units = []; frames = []; stack = 1024 }
 
-abbrev stack_region : Extent
+abbrev pub stack_region : Extent
 stack_region = record { start = stack_end - 1024; bytes = 1024; writable = true; executable = false }
 
-abbrev machine : State
+abbrev pub machine : State
 machine = record {
   register = λ i. 0;
   sp = stack_end;
@@ -105,7 +105,7 @@ as_opened (suc number) b is = absurd (cc)
 
 -- ---- what is given
 
-below_stack : All (IsApartFrom machine.guard) machine.regions
+pub below_stack : All (IsApartFrom machine.guard) machine.regions
 below_stack zero d within = guard_below machine.guard stack_region (omega arith)
 below_stack (suc k) d within = absurd (omega (arith, within))
 

@@ -1,2 +1,3 @@
-mod Empty
+pub mod Empty
 mod OneStep
+mod Slot
