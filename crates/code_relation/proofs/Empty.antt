@@ -130,6 +130,7 @@ loaded = record {
   in_range = in_range;
   apart = λ i j d before below. absurd (omega (arith, before, below));
   guard_apart = below_stack;
+  stack_size = record { whole = refl; least = omega arith; most = omega arith };
   stack = record { region = stack_region; there = (0, omega arith, refl); end = refl; bytes_is = refl; writable = refl };
   guard_bytes_is = refl;
   guard_end = refl;

@@ -119,7 +119,6 @@ as_opened (suc zero) b is = subst (λ c. IsAsOpened now 1 c) (let e : code_block
 as_opened (suc (suc number)) b is = absurd (cc)
 
 module _ (f : TFunction) (has : HasOneSlot f) where
-
   tagged_none : has_tagged (program f).units call.function ≡ false
   tagged_none = ap (λ slots. list_any is_tagged_slot slots) has.slots_are
 
@@ -131,7 +130,7 @@ module _ (f : TFunction) (has : HasOneSlot f) where
   untagged number b the_code tagged = absurd (cc)
   untagged number b the_local tagged =
       let none : is_tagged_by (slice_get (frame_of (program f).units call.function).slots 0) ≡ false =
-          ap (λ slots. is_tagged_by (slice_get slots 0)) has.slots_are in
+      ap (λ slots. is_tagged_by (slice_get slots 0)) has.slots_are in
       absurd (cc)
 
   -- only the local has bytes
@@ -167,6 +166,7 @@ module _ (f : TFunction) (has : HasOneSlot f) where
     in_range = in_range;
     apart = λ i j d before below. absurd (omega (arith, before, below));
     guard_apart = below_stack;
+    stack_size = record { whole = refl; least = omega arith; most = omega arith };
     stack = record { region = stack_region; there = (0, omega arith, refl); end = refl; bytes_is = refl; writable = refl };
     guard_bytes_is = refl;
     guard_end = refl;

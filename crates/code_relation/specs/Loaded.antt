@@ -15,6 +15,12 @@ use Rattle.code_relation.specs.Sites.{Given, units_of, is_object, is_of_file}
 
 -- ---- regions
 
+-- a size of the stack, in bytes: whole kilobytes up to 64 MiB
+pub record IsStack (bytes : ℕ) : Type 0 where
+  pub whole : bytes % 1024 ≡ 0
+  pub least : 1024 ≤ bytes
+  pub most : bytes ≤ 67108864
+
 -- some region is the stack, and may be written
 pub record HasStack (bytes : ℕ) (s : State) : Type 0 where
   pub region : Extent
@@ -28,6 +34,7 @@ pub record IsLoaded (p : Program) (s : State) : Type 0 where
   pub in_range : IsInRange s
   pub apart : AllPairs AreApart s.regions
   pub guard_apart : All (IsApartFrom s.guard) s.regions
+  pub stack_size : IsStack p.stack
   pub stack : HasStack p.stack s
   pub guard_bytes_is : s.guard.bytes ≡ guard_bytes
   pub guard_end : s.guard.start + guard_bytes + p.stack ≡ stack_end

@@ -23,8 +23,8 @@ use Rattle.block_meaning.specs.ExpressionsInOrder.{Scope, ValueInOrder, Designat
 use Rattle.block_meaning.specs.Linkage.{function_named}
 use Rattle.block_meaning.specs.ProgramsInOrder.{InOrder}
 use Rattle.block_meaning.specs.StatementsInOrder.{StatementInOrder, Items}
-use Rattle.block_meaning.specs.Meaning.{calls_at}
-use Rattle.block_meaning.specs.Running.{Function, Context, Run, State as MeaningState}
+use Rattle.block_meaning.specs.Meaning.{calls_at, frame_bytes}
+use Rattle.block_meaning.specs.Running.{Function, Program, Context, Run, State as MeaningState}
 use Rattle.block_meaning.specs.Statements.{Flow, Next, Broke, Continued, Returned, statements_at, items}
 use Rattle.code_runs.specs.Bounded.{Room, just, sparing, exceeding}
 use Rattle.code_relation.specs.Calls.{frame_of}
@@ -135,9 +135,14 @@ statement_tree g run part p exits = record {
 
 -- ---- items follow a tree
 
--- the program is in order, the function's file is there, and a unit of work pays for its frames and copies
+-- A program is in order, and the meaning has the frames that the code has.
+pub record IsMeant (p : Program) : Type 0 where
+  pub in_order : InOrder p
+  pub frames : (f : Function) (bytes : ℕ) → frame_bytes p f ≡ Some bytes → bytes ≡ (frame_of p.units f).bytes
+
+-- the program is as it is meant, the function's file is there, and a unit of work pays for its frames and copies
 pub record HasFile (c : Code) (f : Function) : Type 0 where
-  pub in_order : InOrder c.given.program
+  pub meant : IsMeant c.given.program
   pub file : Typed
   pub is : slice_get (units_of c.given) f.unit ≡ Some file
   pub pays : per (file ∷ []) ≤ c.per
