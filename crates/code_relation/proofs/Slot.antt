@@ -1,5 +1,6 @@
 -- An example: a function with one int in a safe slot has been called, and the int is 7. Its states are related.
-use Rattle.std.specs.Prelude.{◌≡◌, ◌≢◌, ℕ, zero, suc, ◌+◌, ◌-◌, ◌%◌, ◌^◌, ◌<◌, ◌≤◌, Bool, true, false, nat_eq, if◌then◌else◌, List, [], ◌∷◌}
+use Rattle.std.specs.Prelude.{◌≡◌, ℕ, zero, suc, ◌+◌, ◌-◌, ◌%◌, ◌^◌}
+use Rattle.std.specs.Prelude.{◌<◌, ◌≤◌, Bool, true, false, nat_eq, if◌then◌else◌, List, [], ◌∷◌}
 use Rattle.std.specs.Prelude.{length, slice_get, slice_index, Option, Some, None, refl}
 use Rattle.std.specs.List.{list_any}
 use Rattle.std.proofs.Common.{ap, arith, sym, subst, ◌∙◌, true≢false}
@@ -10,7 +11,6 @@ use Rattle.c_ast.specs.declared.int_type.IntType.TheVariants as int
 use Rattle.c_type_base.specs.declared.ty.Ty.TheVariants as ty
 use Rattle.c_type_base.specs.declared.typed.LocalInfo.{LocalInfo}
 use Rattle.c_type_base.specs.declared.typed.TFunction.{TFunction}
-use Rattle.c_type_base.specs.declared.typed.Typed.{Typed}
 use Rattle.c_type_base.specs.Sizes.{size}
 use Rattle.c_type_base.specs.Laws.SizeLaws.{size-int}
 use Rattle.slot_safety.specs.declared.kind.Kind.TheVariants.{Safe}
@@ -21,7 +21,6 @@ use Rattle.a64_code.specs.State.{State}
 use Rattle.a64_laws.specs.Laws.Effects.InRange.{IsInRange}
 use Rattle.block_meaning.specs.declared.cell.Cell.{Cell}
 use Rattle.block_meaning.specs.declared.cell.Cell.TheVariants.{Byte}
-use Rattle.block_meaning.specs.declared.kind.Kind.{Kind}
 use Rattle.block_meaning.specs.declared.kind.Kind.TheVariants.{NullBlock, Code, Local}
 use Rattle.block_meaning.specs.Access.{is_text}
 use Rattle.block_meaning.specs.Blocks.{Block, null_block, block_of}
@@ -31,7 +30,8 @@ use Rattle.code_relation.specs.Calls.{stack_end, frame_of, has_tagged, is_among}
 use Rattle.code_relation.specs.Injects.{Injects}
 use Rattle.code_relation.specs.Loaded.{IsLoaded, IsFileBlock, FilesLie}
 use Rattle.code_relation.specs.Cells.{IsCell}
-use Rattle.code_relation.specs.Sites.{Given, base_of, site, site_of, site_of_slot, has_byte, is_of_file, is_object, is_tagged_block, is_tagged_by}
+use Rattle.code_relation.specs.Sites.{Given, base_of, site, site_of, site_of_slot}
+use Rattle.code_relation.specs.Sites.{has_byte, is_of_file, is_object, is_tagged_block, is_tagged_by}
 use Rattle.code_relation.specs.Stands.{Stands, IsInScope, IsAsOpened, WasOpened, IsLocal}
 use Rattle.code_relation.proofs.Empty.{machine as empty, stack_region, below_stack}
 

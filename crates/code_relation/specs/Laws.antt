@@ -8,3 +8,5 @@ pub mod Reading
 pub mod Changing
 pub mod Writing
 pub mod Storing
+pub mod Keeps
+pub mod Calling
