@@ -51,6 +51,7 @@ KeepsFrom-then units least first second s t u (c ∷ cs) one two before behind =
 )
 
 -- what keeps all temps keeps those before one
-pub KeepsAll-from : (units : List Typed) (first : ℕ) (s t : State) (c : Call) (cs : List Call) → first ≤ (frame_of units c.function).temps →
+pub KeepsAll-from : (units : List Typed) (first : ℕ) (s t : State) (c : Call) (cs : List Call) →
+    first ≤ (frame_of units c.function).temps →
     KeepsAll units s t (c ∷ cs) → KeepsFrom units first s t (c ∷ cs)
 KeepsAll-from units first s t c cs within keeps = (keeps.0, λ k below. keeps.1 k (omega (arith, below, within)), keeps.2)
