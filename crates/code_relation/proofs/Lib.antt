@@ -1,0 +1,3 @@
+pub mod Empty
+mod OneStep
+mod Slot

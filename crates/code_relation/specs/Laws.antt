@@ -1,0 +1,12 @@
+pub mod Kept
+pub mod Outcomes
+pub mod Follows
+pub mod Told
+pub mod Sequence
+pub mod Lists
+pub mod Reading
+pub mod Changing
+pub mod Writing
+pub mod Storing
+pub mod Keeps
+pub mod Calling
