@@ -1,7 +1,7 @@
 -- Parts of symbolic code, where the whole stands (this project's own).
-use Rattle.std.specs.Prelude.{◌≡◌, ℕ, zero, suc, ◌+◌, List, [], ◌∷◌, ◌++◌, length, slice_get, Some, refl}
-use Rattle.std.proofs.Common.{arith, ap, subst, ◌∙◌, length-append}
-use Rattle.a64_code.specs.State.{State, with_tags}
+use Rattle.std.specs.Prelude.{◌≡◌, ℕ, zero, suc, ◌+◌, List, [], ◌∷◌, ◌++◌, length, slice_get, Some}
+use Rattle.std.proofs.Common.{arith, ap, subst, length-append}
+use Rattle.a64_code.specs.State.{State}
 use Rattle.mte_machine.specs.Run.{Steps}
 use Rattle.mte_machine.specs.Laws.Steps.{Steps-add}
 use Rattle.block_meaning.specs.declared.value.Value.{Value}
@@ -11,7 +11,7 @@ use Rattle.sym_code.specs.declared.item.SymItem.TheVariants as item
 use Rattle.code_relation.specs.Follows.{Code}
 use Rattle.code_relation.specs.Items.{Place, Spot, spot_at, Acts, StandsAt}
 use Rattle.code_relation.specs.Sites.{Given}
-use Rattle.code_relation.specs.Trees.{Part, LeaveSteps, no_scope, scope, Comes, ComesToLeave}
+use Rattle.code_relation.specs.Trees.{LeaveSteps, no_scope, scope, ComesToLeave}
 
 -- ---- lists
 
@@ -59,7 +59,8 @@ StandsAt-back {c} {f} {p} xs ys stands = record {
 
 -- ---- what is not counted
 
-pub LeaveSteps-front : {p : Place} {s : State} {extra : ℕ} (xs ys : List SymItem) → LeaveSteps xs p s extra → LeaveSteps (xs ++ ys) p s extra
+pub LeaveSteps-front : {p : Place} {s : State} {extra : ℕ} (xs ys : List SymItem) → LeaveSteps xs p s extra →
+    LeaveSteps (xs ++ ys) p s extra
 LeaveSteps-front xs ys no_scope = no_scope
 LeaveSteps-front xs ys (scope k first last before r there steps pc) =
     scope k first last before r (get_front xs ys k (item.LeaveScope first last) there) steps pc
