@@ -1,3 +1,4 @@
 pub mod Empty
 mod OneStep
+pub mod SlotStates
 mod Slot

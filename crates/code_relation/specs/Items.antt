@@ -41,6 +41,16 @@ pub record Place : Type 0 where
   -- how many steps the one at a position takes that enters or leaves a scope
   pub scope_steps : ℕ → State → ℕ
 
+-- where one item stands, and the one behind it, and how many steps it takes where it enters or leaves a scope
+pub record Spot : Type 0 where
+  pub from : ℕ
+  pub to : ℕ
+  pub label : ℕ → ℕ
+  pub steps : State → ℕ
+
+abbrev pub spot_at : Place → ℕ → Spot
+spot_at p k = record { from = p.at k; to = p.at (suc k); label = p.label; steps = p.scope_steps k }
+
 -- PC is at an address, and the code is as it was loaded
 pub record IsAt (c : Code) (at : ℕ) (s : State) : Type 0 where
   pub pc : s.pc ≡ at
@@ -101,11 +111,10 @@ most_to_enter ss = 4 * granules ss + 24
 abbrev pub most_to_leave : List Slot → ℕ
 most_to_leave ss = 3 * granules ss / 4 + 24
 
--- in a frame of so many bytes at SP, at most so many steps do this, and the place tells how many
-pub record ChangesScope (c : Code) (p : Place) (position bytes most : ℕ) (leaves : State → State → Type 0) : Type 0 where
-  pub few : (s : State) → p.scope_steps position s ≤ most
-  pub takes : (s : State) → IsAt c (p.at position) s → IsFrame bytes s →
-      TakesSteps c (p.at (suc position)) (p.scope_steps position s) leaves s
+-- in a frame of so many bytes at SP, at most so many steps do this, and the spot tells how many
+pub record ChangesScope (c : Code) (spot : Spot) (bytes most : ℕ) (leaves : State → State → Type 0) : Type 0 where
+  pub few : (s : State) → spot.steps s ≤ most
+  pub takes : (s : State) → IsAt c spot.from s → IsFrame bytes s → TakesSteps c spot.to (spot.steps s) leaves s
 
 -- ---- calls
 
@@ -134,29 +143,29 @@ pub record Calls (c : Code) (f : Function) (from to : ℕ) (to_call : Callee) : 
 
 -- ---- all items
 
-abbrev pub Acts : Code → Function → Place → ℕ → SymItem → Type 0
-Acts c f p k (item.Plain instr) = HasInstr c (p.at k) instr × (p.at (suc k) ≡ p.at k + 4)
-Acts c f p k (item.Label n) = (p.label n ≡ p.at k) × (p.at (suc k) ≡ p.at k)
-Acts c f p k (item.Jump n) = (s : State) → IsAt c (p.at k) s → GoesTo c (p.label n) s
-Acts c f p k (item.JumpIfZero r n) = JumpsOnZero c (p.at k) (p.label n) (p.at (suc k)) r
-Acts c f p k (item.JumpIfNotZero r n) = JumpsOnZero c (p.at k) (p.at (suc k)) (p.label n) r
-Acts c f p k (item.SlotAddress n r) = PutsAddress c f (p.at k) (p.at (suc k)) r (λ here. here.local n)
-Acts c f p k (item.GlobalAddress n r) =
-    PutsAddress c f (p.at k) (p.at (suc k)) r (λ here. Some (object_block (units_of c.given) f.unit n))
-Acts c f p k (item.ExternAddress n r) = PutsAddress c f (p.at k) (p.at (suc k)) r (λ here. extern_block (units_of c.given) f.unit n)
-Acts c f p k (item.TextAddress n r) = PutsAddress c f (p.at k) (p.at (suc k)) r (λ here. Some (text_block (units_of c.given) f.unit n))
-Acts c f p k (item.CallFunction n) = Calls c f (p.at k) (p.at (suc k)) (callee.Function n)
-Acts c f p k (item.CallExtern n) = Calls c f (p.at k) (p.at (suc k)) (callee.Extern n)
+abbrev pub Acts : Code → Function → Spot → SymItem → Type 0
+Acts c f spot (item.Plain instr) = HasInstr c spot.from instr × (spot.to ≡ spot.from + 4)
+Acts c f spot (item.Label n) = (spot.label n ≡ spot.from) × (spot.to ≡ spot.from)
+Acts c f spot (item.Jump n) = (s : State) → IsAt c spot.from s → GoesTo c (spot.label n) s
+Acts c f spot (item.JumpIfZero r n) = JumpsOnZero c spot.from (spot.label n) spot.to r
+Acts c f spot (item.JumpIfNotZero r n) = JumpsOnZero c spot.from spot.to (spot.label n) r
+Acts c f spot (item.SlotAddress n r) = PutsAddress c f spot.from spot.to r (λ here. here.local n)
+Acts c f spot (item.GlobalAddress n r) =
+    PutsAddress c f spot.from spot.to r (λ here. Some (object_block (units_of c.given) f.unit n))
+Acts c f spot (item.ExternAddress n r) = PutsAddress c f spot.from spot.to r (λ here. extern_block (units_of c.given) f.unit n)
+Acts c f spot (item.TextAddress n r) = PutsAddress c f spot.from spot.to r (λ here. Some (text_block (units_of c.given) f.unit n))
+Acts c f spot (item.CallFunction n) = Calls c f spot.from spot.to (callee.Function n)
+Acts c f spot (item.CallExtern n) = Calls c f spot.from spot.to (callee.Extern n)
 -- the function ends here, and what comes then is no part of the code of a tree
-Acts c f p k item.Leave = Unit {0}
-Acts c f p k (item.EnterScope slots) =
+Acts c f spot item.Leave = Unit {0}
+Acts c f spot (item.EnterScope slots) =
     let frame : Frame = frame_of (units_of c.given) f in
-    ChangesScope c p k frame.bytes (most_to_enter (listed frame.slots slots.0)) (TagsSlots (listed frame.slots slots.0))
-Acts c f p k (item.LeaveScope first last) =
+    ChangesScope c spot frame.bytes (most_to_enter (listed frame.slots slots.0)) (TagsSlots (listed frame.slots slots.0))
+Acts c f spot (item.LeaveScope first last) =
     let frame : Frame = frame_of (units_of c.given) f in
-    ChangesScope c p k frame.bytes (most_to_leave (tagged_slots (between frame.slots first last)))
+    ChangesScope c spot frame.bytes (most_to_leave (tagged_slots (between frame.slots first last)))
     (LeavesSlots (tagged_slots (between frame.slots first last)))
 
 -- the items of a function's code stand there
 pub record StandsAt (c : Code) (f : Function) (p : Place) (items : List SymItem) : Type 0 where
-  pub acts : (k : ℕ) (i : SymItem) → slice_get items k ≡ Some i → Acts c f p k i
+  pub acts : (k : ℕ) (i : SymItem) → slice_get items k ≡ Some i → Acts c f (spot_at p k) i

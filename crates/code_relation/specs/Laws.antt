@@ -10,3 +10,4 @@ pub mod Writing
 pub mod Storing
 pub mod Keeps
 pub mod Calling
+pub mod Placing
