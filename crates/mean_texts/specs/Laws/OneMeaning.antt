@@ -2,6 +2,8 @@
 use Rattle.std.proofs.Common.{◌≡◌, ℕ, suc, ◌+◌, List, [], ◌∷◌, ◌++◌, length, refl, sym, ap, ◌∙◌, subst, arith}
 use Rattle.c_ast.specs.declared.program.Program.{Program as Tree}
 use Rattle.c_type_base.specs.declared.typed.Typed.{Typed}
+use Rattle.block_meaning.specs.Laws.Bound.Meaning.{one_meaning}
+use Rattle.block_meaning.specs.Meaning.{Meaning, Outcome}
 use Rattle.c_types.specs.Laws.WellTypedLaws.{one_typed}
 use Rattle.frame_plan.specs.Laws.OneText.{one_sizes}
 use Rattle.linker.specs.declared.refusal.LinkRefusal.{LinkRefusal}
@@ -10,7 +12,7 @@ use Rattle.mean_link.specs.LinkFault.{AreLinked, LinkFault}
 use Rattle.mean_link.specs.Names.{names_in}
 use Rattle.mean_link.specs.declared.names.FileNames.{FileNames}
 use Rattle.mean_texts.specs.Refusal.{RefusesTexts, AreRefused, source, unlinked, file_number}
-use Rattle.mean_texts.specs.Texts.{AreFiles, AreTogether}
+use Rattle.mean_texts.specs.Texts.{AreFiles, AreTogether, TextsMean, program_of}
 use Rattle.mean_texts.specs.declared.refusal.MeanRefusal.{MeanRefusal}
 use Rattle.mean_texts.specs.declared.refusal.MeanRefusal.TheVariants.{Compile, Link}
 use Rattle.mt_compile.specs.Laws.OnePlan.{no_file, one_plan_refusal, one_program}
@@ -245,3 +247,15 @@ one_files texts trees also_trees units also_units frames also_frames first secon
       units_same = sym a.apart.units_are ∙ ap units_of same ∙ b.apart.units_are;
       frames_same = sym a.apart.frames_are ∙ ap frames_of same ∙ b.apart.frames_are;
     }
+
+-- and so is what they mean
+pub one_outcome : {texts : List (List ℕ)} {stack : ℕ} {input : List ℕ} {work : ℕ} {o other : Outcome} →
+    TextsMean texts stack input work o → TextsMean texts stack input work other → o ≡ other
+one_outcome {texts} {stack} {input} {work} {o} {other} first second =
+    let a = first.together in
+    let b = second.together in
+    let same = one_files texts a.trees b.trees a.units b.units a.frames b.frames a.files b.files in
+    one_meaning
+    (subst (λ units. Meaning (program_of units b.frames stack) input work o) same.units_same
+    (subst (λ frames. Meaning (program_of a.units frames stack) input work o) same.frames_same first.means))
+    second.means
