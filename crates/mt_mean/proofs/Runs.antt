@@ -84,7 +84,6 @@ end_same (end.Undefined why file span) = refl
 module _ {S K : Type 0} (files : List (List ℕ)) (options : MeanOptions) (before after : Seen S K) (texts : List (List ℕ))
     (trees : List Tree) (units : List Typed) (frames : List (List ℕ)) (held : Hold before.files files texts)
     (are : AreFiles texts trees units frames) where
-
   abbrev names : List FileNames
   names = names_in trees units
 

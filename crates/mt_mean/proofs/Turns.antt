@@ -1,6 +1,6 @@
 -- One more typed file beside those before it.
-use Rattle.std.proofs.Common.{◌≡◌, ◌<◌, ℕ, ◌+◌, List, [], ◌∷◌, ◌++◌, length, take, map, get_or, refl, sym, ap, ◌∙◌, subst}
-use Rattle.std.proofs.lemmas.List.{map_more}
+use Rattle.std.proofs.Common.{◌≡◌, ℕ, List, [], ◌∷◌, ◌++◌, map, refl, sym, ap, subst}
+use Rattle.std.proofs.lemmas.List.{map-append}
 use Rattle.mean_texts.specs.Texts.{AreFilesOf}
 use Rattle.mean_texts.specs.declared.files.Files.{Files}
 use Rattle.mt_compile.specs.declared.file.TypedFile.{TypedFile}
@@ -33,13 +33,17 @@ last_of (t ∷ s ∷ ts) [] file typed = absurd typed.1
 last_of (t ∷ ts) (f ∷ fs) file typed = behind_one t f ts fs file typed.0 (last_of ts fs file typed.1)
 
 -- a file that was pushed stands beside the others
-pub pushed_file : (held : List TypedFile) (i : ℕ) (file : TypedFile) (before after : Files) → i < length held → file ≡ get_or held i file →
-    ((texts : List (List ℕ)) → AreTyped texts (map held_as (take i held)) → AreFilesOf texts before) →
+pub pushed_file : (held : List TypedFile) (file : TypedFile) (before after : Files) →
+    ((texts : List (List ℕ)) → AreTyped texts (map held_as held) → AreFilesOf texts before) →
     ((texts : List (List ℕ)) (text : List ℕ) → AreFilesOf texts before → IsTypedAs text (held_as file) →
     AreFilesOf (texts ++ text ∷ []) after) →
-    (texts : List (List ℕ)) → AreTyped texts (map held_as (take (i + 1) held)) → AreFilesOf texts after
-pushed_file held i file before after within is so_far more texts typed =
-    let last = last_of texts (map held_as (take i held)) (held_as file)
-    (subst (λ fs. AreTyped texts fs) (map_more held_as held i file within ∙ ap (λ f. map held_as (take i held) ++ held_as f ∷ []) (sym is))
-    typed) in
+    (texts : List (List ℕ)) → AreTyped texts (map held_as (held ++ file ∷ [])) → AreFilesOf texts after
+pushed_file held file before after so_far more texts typed =
+    let last = last_of texts (map held_as held) (held_as file)
+    (subst (λ fs. AreTyped texts fs) (map-append held_as held (file ∷ [])) typed) in
     subst (λ ts. AreFilesOf ts after) (sym last.is) (more last.front last.text (so_far last.front last.typed) last.has)
+
+-- before the first file there is none
+pub no_file_yet : (files : Files) → AreFilesOf [] files → (texts : List (List ℕ)) → AreTyped texts [] → AreFilesOf texts files
+no_file_yet files none [] typed = none
+no_file_yet files none (t ∷ ts) typed = absurd typed

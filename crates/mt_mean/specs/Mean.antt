@@ -74,19 +74,19 @@ pub data CauseOfMean {S K : Type 0} (files : List (List ℕ)) (options : MeanOpt
 
 -- What `mean` of files answers, and what it leaves.
 pub record MeanAnswers {S K : Type 0} (names : List (List ℕ)) (options : MeanOptions) (before after : Seen S K) (ended : Ended) : Type 0
-    where
-  -- Where the files hold texts that mean this with the input, the stack and the work, and no read of a file failed, it is answered.
-  pub means : (texts : List (List ℕ)) (input taken : List ℕ) (o : Outcome) → IsTold before.files → Hold before.files names texts →
-      before.streams.input ≡ Some input → before.streams.output ≡ Some taken → TextsMean texts options.stack input options.work o →
-      ¬ ReadFailed before.files after.files → AnswersTo taken o after.streams ended
-  -- Where they mean nothing together and no read failed, that is answered, or memory is wanting.
-  pub refuses : (why : Why) → IsTold before.files → MeansNothing names before.files after.files why →
-      ¬ ReadFailed before.files after.files → (ended ≡ ends why) ⊎ (ended ≡ ends NoMemory)
-  -- Each answer comes only by its cause.
-  pub cause : CauseOfMean names options before after ended
-  -- Nothing was taken or put where no program was run.
-  pub silent : ComesBeforeMeaning ended.why → IsSilent before after
-  -- No file changes.
-  pub files : SameFiles before.files after.files
-  -- No fault of a file is counted but the one that is answered, and none of a write.
-  pub counts : UncountedReads before.files after.files ended.why
+  where
+    -- Where the files hold texts that mean this with the input, the stack and the work, and no read of a file failed, it is answered.
+    pub means : (texts : List (List ℕ)) (input taken : List ℕ) (o : Outcome) → IsTold before.files → Hold before.files names texts →
+        before.streams.input ≡ Some input → before.streams.output ≡ Some taken → TextsMean texts options.stack input options.work o →
+        ¬ ReadFailed before.files after.files → AnswersTo taken o after.streams ended
+    -- Where they mean nothing together and no read failed, that is answered, or memory is wanting.
+    pub refuses : (why : Why) → IsTold before.files → MeansNothing names before.files after.files why →
+        ¬ ReadFailed before.files after.files → (ended ≡ ends why) ⊎ (ended ≡ ends NoMemory)
+    -- Each answer comes only by its cause.
+    pub cause : CauseOfMean names options before after ended
+    -- Nothing was taken or put where no program was run.
+    pub silent : ComesBeforeMeaning ended.why → IsSilent before after
+    -- No file changes.
+    pub files : SameFiles before.files after.files
+    -- No fault of a file is counted but the one that is answered, and none of a write.
+    pub counts : UncountedReads before.files after.files ended.why

@@ -97,7 +97,11 @@ fn finish_job<F: Files, S: Source, K: Sink, E: Sink>(
         Job::Mean {
             files: names,
             options,
-        } => finish(err, names, mean_sources(alloc, names, options, files, input, out)),
+        } => finish(
+            err,
+            names,
+            mean_sources(alloc, names, options, files, input, out),
+        ),
     }
 }
 

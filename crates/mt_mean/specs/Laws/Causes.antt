@@ -64,9 +64,10 @@ put_nothing before after taken o same told = record {
 }
 
 module _ {S K : Type 0} (files : List (List ℕ)) (options : MeanOptions) (before after : Seen S K) where
-  mean_means : {ended : Ended} → CauseOfMean files options before after ended → (texts : List (List ℕ)) (input taken : List ℕ) (o : Outcome) →
-      IsTold before.files → Hold before.files files texts → before.streams.input ≡ Some input → before.streams.output ≡ Some taken →
-      TextsMean texts options.stack input options.work o → ¬ ReadFailed before.files after.files → AnswersTo taken o after.streams ended
+  mean_means : {ended : Ended} → CauseOfMean files options before after ended →
+      (texts : List (List ℕ)) (input taken : List ℕ) (o : Outcome) → IsTold before.files → Hold before.files files texts →
+      before.streams.input ≡ Some input → before.streams.output ≡ Some taken → TextsMean texts options.stack input options.work o →
+      ¬ ReadFailed before.files after.files → AnswersTo taken o after.streams ended
   mean_means (ran others run held together runs) texts input taken o told these left put means no_failure =
       let same : texts ≡ others = one_hold before.files files texts others told these held in
       record {
