@@ -170,7 +170,7 @@ uses_more objects os k o h is =
     ∙ ap (λ (m : ℕ). uses_from objects 0 (take k os) ++ (filter_map (used_by objects m o.symbols) o.text_relocs ++ []))
     (omega (arith, length-took os k (omega arith)))
     ∙ ap (λ (l : List NumberedSymbol). uses_from objects 0 (take k os) ++ l)
-        (append-nil (filter_map (used_by objects k o.symbols) o.text_relocs))
+    (append-nil (filter_map (used_by objects k o.symbols) o.text_relocs))
 
 -- ---- the number of a word
 

@@ -1,6 +1,29 @@
 -- What the parts of `job_of` find, from what their own parts find.
-use Rattle.std.proofs.Common.{◌≡◌, ◌∙◌, ◌≤◌, ◌||◌, ℕ, suc, List, [], ◌∷◌, Bool, true, false, Option, Some, None, refl, sym, ap, subst,
-    arith, codes, length, slice_index_or}
+use Rattle.std.proofs.Common.{
+  ◌≡◌,
+  ◌∙◌,
+  ◌≤◌,
+  ◌||◌,
+  ℕ,
+  suc,
+  List,
+  [],
+  ◌∷◌,
+  Bool,
+  true,
+  false,
+  Option,
+  Some,
+  None,
+  refl,
+  sym,
+  ap,
+  subst,
+  arith,
+  codes,
+  length,
+  slice_index_or,
+}
 use Rattle.std.specs.Prelude.{IfNone, IfSome, is_some, map}
 use Rattle.std.specs.Borrow.{Bor}
 use Rattle.std.proofs.lemmas.Bool.{true≢false}
@@ -31,7 +54,7 @@ any a b c d = is_some a || (is_some b || (is_some c || is_some d))
 
 none_of : (out : Option (List ℕ)) (a b c d : Option (Bor (List ℕ))) → any a b c d ≡ false →
     ◌≡◌ {A = Options} (record { out = out; tags = text_is a; steps = text_is b; stack = text_is c; work = text_is d })
-        (record none_given { out = out })
+    (record none_given { out = out })
 unfolding any
 none_of out None None None None e = refl
 none_of out (Some x) b c d e = absurd (true≢false e)
@@ -115,7 +138,7 @@ first_text xs ys d same one = subst (λ zs. texts zs ≡ (slice_index_or ys 0 d)
 pub other_texts : (xs ys : List (Bor (List ℕ))) (file : List ℕ) → ys ≡ xs → ¬ (length ys ≡ 1) → ¬ (texts xs ≡ file ∷ [])
 other_texts xs ys file same other is = other
     (subst (λ zs. length zs ≡ 1) (sym same)
-      (let n : length (texts xs) ≡ 1 = ap length is in omega (arith, length_texts xs)))
+    (let n : length (texts xs) ≡ 1 = ap length is in omega (arith, length_texts xs)))
 
 -- what is given with the one file
 pub run_given : (files : List (Bor (List ℕ))) (file : List ℕ) (options : OptionsValue) → texts files ≡ file ∷ [] →

@@ -77,8 +77,12 @@ build_ab_read : fault_of mtcc build_ab ≡ []
 unfolding clap_on_literals mtcc
 build_ab_read = refl
 
-build_ab_given : given_by build_ab ≡ record { command = Some (codes "build"); files = codes "a.c" ∷ codes "b.c" ∷ []; options = only_out
-    (codes "x") }
+build_ab_given : given_by build_ab ≡ record {
+  command = Some (codes "build");
+  files = codes "a.c" ∷ codes "b.c" ∷ [];
+  options = only_out
+      (codes "x");
+}
 unfolding clap_on_literals mtcc given_by
 build_ab_given = refl
 
@@ -94,8 +98,12 @@ run_x_read : fault_of mtcc run_x ≡ []
 unfolding clap_on_literals mtcc
 run_x_read = refl
 
-run_x_given : given_by run_x ≡ record { command = Some (codes "run"); files = codes "x" ∷ []; options = record none_given
-    { tags = Some (codes "1a7"); steps = Some (codes "0") } }
+run_x_given : given_by run_x ≡ record {
+  command = Some (codes "run");
+  files = codes "x" ∷ [];
+  options = record none_given
+      { tags = Some (codes "1a7"); steps = Some (codes "0") };
+}
 unfolding clap_on_literals mtcc given_by
 run_x_given = refl
 

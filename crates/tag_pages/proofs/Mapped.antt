@@ -42,7 +42,7 @@ length_extents (x ∷ bs) = ap suc (length_extents bs)
 -- no region holds the address
 pub none_holds : (bounds : List Bounds) (at : ℕ) →
     ((k : ℕ) (d : Bounds) → k < length bounds → is_in_extent (extent (get_or bounds k d)) at ≡ false) → is_mapped (extents bounds) at
-        ≡ false
+    ≡ false
 none_holds [] at none = refl
 none_holds (b ∷ bs) at none =
     or_from (is_in_extent (extent b) at) (is_mapped (extents bs) at) (none 0 b (omega arith))

@@ -1,6 +1,27 @@
 -- What holds of the addresses of a part.
-use Rattle.std.proofs.Common.{◌≡◌, ℕ, ◌+◌, ◌*◌, ◌/◌, ◌%◌, ◌<◌, ◌≤◌, Bool, true, false, not, cond, List, length, get_or, refl, sym, ◌∙◌,
-    ap, arith}
+use Rattle.std.proofs.Common.{
+  ◌≡◌,
+  ℕ,
+  ◌+◌,
+  ◌*◌,
+  ◌/◌,
+  ◌%◌,
+  ◌<◌,
+  ◌≤◌,
+  Bool,
+  true,
+  false,
+  not,
+  cond,
+  List,
+  length,
+  get_or,
+  refl,
+  sym,
+  ◌∙◌,
+  ap,
+  arith,
+}
 use Rattle.std.proofs.Common.{true≢false, inl, inr, add-zero, ◌&&◌, ◌↔◌, Option, None, IsSome, IsTrue, [], ◌∷◌}
 use Rattle.std.proofs.lemmas.Bool.{cases_Bool, and_from, and_left, and_right, or_parts, or_from, eq-eqb}
 use Rattle.mt_base.specs.Memory.{Span, Extent, is_in_span, is_in_extent, is_mapped, is_protected, is_executable, every_byte, some_byte}

@@ -6,8 +6,14 @@ use Rattle.std.proofs.lemmas.Bool.{cases_lt, cases_eq, cases_Bool}
 use Rattle.std.proofs.lemmas.List.{get_or-take, get_or-drop, get_or_default}
 use Rattle.mt_base.specs.Granules.{granule_of}
 use Rattle.mt_base.specs.Memory.{Extent, is_mapped, bytes_at, load, store_bytes, store_tag}
-use Rattle.mt_base.specs.Laws.Memory.{bytes_at_is, store_bytes_inside, store_bytes_below, store_bytes_above, store_tag_same,
-    store_tag_other}
+use Rattle.mt_base.specs.Laws.Memory.{
+  bytes_at_is,
+  store_bytes_inside,
+  store_bytes_below,
+  store_bytes_above,
+  store_tag_same,
+  store_tag_other,
+}
 use Rattle.tag_mem.specs.Regions.{put_list}
 use Rattle.tag_pages.specs.declared.page.Page.{Page}
 use Rattle.tag_pages.specs.declared.part.Part.{Part}

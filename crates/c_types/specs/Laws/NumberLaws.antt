@@ -33,8 +33,16 @@ use Rattle.c_types.specs.Functions.{result_type, head_rules, main_form, main_nam
 use Rattle.c_types.specs.Structs.{member, member_type, members}
 use Rattle.c_types.specs.Units.{Judgement, start, with_outcome, with_names, object_declared, function_declared}
 use Rattle.c_types.specs.Units.{with_tag, with_body, with_members, struct_judged, misfits, extern_rules, object_judged}
-use Rattle.c_types.specs.Units.{objects_judged, parameters_in, head_judged, with_function, function_judged, part_judged, parts_judged,
-    judged}
+use Rattle.c_types.specs.Units.{
+  objects_judged,
+  parameters_in,
+  head_judged,
+  with_function,
+  function_judged,
+  part_judged,
+  parts_judged,
+  judged,
+}
 use Rattle.c_types.specs.WellTyped.{FirstBroken}
 use Rattle.c_types.specs.Laws.QuietRows.{of_rule, Quiet, broken_rules, rules_joined, on_quiet, whole_quiet}
 use Rattle.c_types.specs.Laws.QuietLaws.{written_quiet}

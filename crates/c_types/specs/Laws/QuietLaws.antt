@@ -21,8 +21,16 @@ use Rattle.c_type_expr.specs.Laws.SaidLaws.{written-void, written-int, written-s
 use Rattle.c_type_expr.specs.Expressions.{in_parentheses, sizeof_row, sizeof_type, cast_row, unary_row, assign_row, step_row, conditional}
 use Rattle.c_type_expr.specs.Expressions.{cast_judged, index_of, arrow_of, node_step, expr_step, expression, written, judged_value}
 use Rattle.c_types.specs.Laws.QuietRows.{Quiet, at_once, rules_quiet, both_quiet, AllQuiet, each_quiet, on_quiet, binary_quiet, cond_quiet}
-use Rattle.c_types.specs.Laws.QuietRows.{unary_quiet, assign_quiet, step_quiet, index_quiet, member_quiet, arrow_quiet, name_quiet,
-    call_by_quiet}
+use Rattle.c_types.specs.Laws.QuietRows.{
+  unary_quiet,
+  assign_quiet,
+  step_quiet,
+  index_quiet,
+  member_quiet,
+  arrow_quiet,
+  name_quiet,
+  call_by_quiet,
+}
 use Rattle.c_types.specs.Laws.QuietRows.{pointer_quiet, array_quiet, tag_quiet, whole_quiet, length_quiet, none, some}
 
 -- what is said of a node, which has no span

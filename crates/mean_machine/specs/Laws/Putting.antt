@@ -1,6 +1,28 @@
 -- No step in an expression takes back what was put.
-use Rattle.std.proofs.Common.{◌≡◌, refl, sym, subst, ap, ◌∙◌, ℕ, zero, suc, ◌+◌, ◌*◌, Bool, true, false, List, [], ◌∷◌, ◌++◌, map, Option,
-    Some, None}
+use Rattle.std.proofs.Common.{
+  ◌≡◌,
+  refl,
+  sym,
+  subst,
+  ap,
+  ◌∙◌,
+  ℕ,
+  zero,
+  suc,
+  ◌+◌,
+  ◌*◌,
+  Bool,
+  true,
+  false,
+  List,
+  [],
+  ◌∷◌,
+  ◌++◌,
+  map,
+  Option,
+  Some,
+  None,
+}
 use Rattle.std.specs.Prelude.{not, ◌||◌, ◌%◌, ◌^◌, take, slice_get, codes}
 use Rattle.c_ast.specs.declared.token.Span.{Span}
 use Rattle.c_ast.specs.declared.operator.UnaryOperator.{UnaryOperator}
@@ -34,8 +56,14 @@ use Rattle.block_meaning.specs.declared.value.Value.TheVariants.{Number, Address
 use Rattle.block_meaning.specs.Expressions.{NodeLayer, same_truth}
 use Rattle.block_meaning.specs.Laws.Steady.{Begins, begins-itself, begins-through, output_after, Steady, steady-gives, steady-stuck}
 use Rattle.block_meaning.specs.Laws.Steady.{steady-undefined, steady-with_blocks, steady-then, steady-unit, steady-choice, steady-some}
-use Rattle.block_meaning.specs.Laws.MoreWork.Expressions.{number_steady, effect_steady, take_steady, put_steady, starts_steady,
-    member_of_steady}
+use Rattle.block_meaning.specs.Laws.MoreWork.Expressions.{
+  number_steady,
+  effect_steady,
+  take_steady,
+  put_steady,
+  starts_steady,
+  member_of_steady,
+}
 use Rattle.block_meaning.specs.Laws.MoreWork.Locals.{new_locals_steady}
 use Rattle.block_meaning.specs.Laws.MoreWork.Values.{scalar_steady, read_steady, write_steady, copy_steady, truth_steady, values_steady}
 use Rattle.block_meaning.specs.Linkage.{Definition, AnObject, AFunction, definition_of, called_as, extern_at, extern_block}

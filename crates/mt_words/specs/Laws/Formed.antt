@@ -73,8 +73,12 @@ are_formed : (value : Option (List ℕ)) (choices : List ℕ) → OrDefault AreC
 are_formed None choices is = subst AreFormed (sym is) (record { some = lit≤ tt; few = lit≤ tt; tags = default_tags })
 are_formed (Some digits) choices is =
     subst AreFormed (sym is.values)
-    (record { some = omega (arith, length_tags digits, is.least); few = omega (arith, length_tags digits, is.most); tags = all_tags digits
-        is.all })
+    (record {
+      some = omega (arith, length_tags digits, is.least);
+      few = omega (arith, length_tags digits, is.most);
+      tags = all_tags digits
+          is.all;
+    })
 
 run_formed : (options : Options) (how : RunOptions) → AskRun options how → IsRunFormed how
 run_formed options how asks =

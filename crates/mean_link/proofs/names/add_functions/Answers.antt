@@ -9,4 +9,4 @@ pub loop-function-preserved : goal.loop-function-preserved
 loop-function-preserved c =
     adds_turn function_name c.args.functions.now c.loop-function.function-index c.function-item.result c.args.known.now
     c.loop-function.known c.add_where.new.known c.loop-function-test.true c.function-item.is c.loop-function.invariant
-        c.in_ok-add_where.ensures
+    c.in_ok-add_where.ensures

@@ -19,5 +19,8 @@ returns-in-Some c = subst (λ command. IfOk c.named.result (Finds (under c.args.
 
 pub returns : goal.returns
 unfolding under
-returns c = record { some = tt; none = λ job asks. no_command _ _ job
-    (subst (λ command. Asks (under c.args.given command) job) c.in-None.is asks) }
+returns c = record {
+  some = tt;
+  none = λ job asks. no_command _ _ job
+      (subst (λ command. Asks (under c.args.given command) job) c.in-None.is asks);
+}

@@ -20,5 +20,5 @@ returns-in-Some c =
 pub returns : goal.returns
 returns c =
     let found : FindsRun (options_are c.args.options) None =
-          subst (FindsRun (options_are c.args.options)) c.in-None.is c.in_ok-found.ensures in
+    subst (FindsRun (options_are c.args.options)) c.in-None.is c.in_ok-found.ensures in
     record { some = tt; none = no_go _ _ (λ how some asks. found.none how asks) }

@@ -7,8 +7,11 @@ returns-then-files-eq0 c = record { some = tt; none = λ out least same. omega (
 
 pub returns-then-is_any_given : goal.returns-then-is_any_given
 returns-then-is_any_given c =
-    record { some = tt; none = λ out least same. some_other c.args.options (Some out)
-        (sym c.is_any_given.ensures ∙ c.if-is_any_given.true) same }
+    record {
+      some = tt;
+      none = λ out least same. some_other c.args.options (Some out)
+          (sym c.is_any_given.ensures ∙ c.if-is_any_given.true) same;
+    }
 
 pub returns : goal.returns
 returns c =

@@ -9,7 +9,7 @@ use Rattle.mt_words.proofs.words.run.Goals as goal
 pub returns-in-Some : goal.returns-in-Some
 returns-in-Some c =
     subst (λ given. IfOk c.run_image.result (Finds given))
-        (sym (run_given c.args.files.items c.in-Some.image.now c.args.options c.in-Some.ensures.some))
+    (sym (run_given c.args.files.items c.in-Some.image.now c.args.options c.in-Some.ensures.some))
     c.run_image.ensures
 
 pub returns-in-None : goal.returns-in-None

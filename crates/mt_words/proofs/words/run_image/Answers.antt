@@ -15,5 +15,5 @@ returns-in-Some c =
 pub returns-in-None : goal.returns-in-None
 returns-in-None c =
     let found : FindsRun (options_are c.args.options) None =
-          subst (FindsRun (options_are c.args.options)) c.in-None.is c.in_ok-found.ensures in
+    subst (FindsRun (options_are c.args.options)) c.in-None.is c.in_ok-found.ensures in
     record { some = tt; none = no_run _ _ (λ image how one asks. found.none how asks) }

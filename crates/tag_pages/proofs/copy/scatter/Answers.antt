@@ -54,7 +54,7 @@ loop-done-preserved c =
       written =
           c.put_part.ensures.bytes
           ∙ ap (λ xs. store_bytes held (c.args.at + c.loop-done.done) xs)
-              (ap (λ n. take n (drop c.loop-done.done c.args.bytes.now)) counted)
+          (ap (λ n. take n (drop c.loop-done.done c.args.bytes.now)) counted)
           ∙ more c.args.bytes.now before held c.args.at c.loop-done.done c.room-count.result (omega arith) c.loop-done.invariant.written;
       tags = c.put_part.ensures.tags ∙ c.loop-done.invariant.tags;
     }

@@ -3,8 +3,17 @@ use Rattle.std.proofs.Math.Path.{fun_ext}
 use Rattle.mt_base.specs.Memory.{store_bytes}
 use Rattle.tag_pages.specs.Pages.{byte_in_pages}
 use Rattle.tag_pages.specs.Parts.{extents}
-use Rattle.tag_pages.proofs.Filled.{byte_over, byte_over_zero, byte_over_last, byte_over_empty, IsCovered, covered_bytes, all_covered,
-    last_of, front_of}
+use Rattle.tag_pages.proofs.Filled.{
+  byte_over,
+  byte_over_zero,
+  byte_over_last,
+  byte_over_empty,
+  IsCovered,
+  covered_bytes,
+  all_covered,
+  last_of,
+  front_of,
+}
 use Rattle.tag_pages.proofs.fill.fill.Goals as goal
 
 pub loop-region-init : goal.loop-region-init

@@ -40,7 +40,7 @@ loop-done-preserved c =
           every_byte-add (is_mapped (extents c.args.regions.now)) c.args.at c.loop-done.done n
           ∙ ap₂ (λ x y. x && y) c.loop-done.invariant.mapped
           (run_mapped (extents c.args.regions.now) c.args.numbers.now (c.args.at + c.loop-done.done) n part found
-              c.room-done.ensures.within);
+          c.room-done.ensures.within);
       writable =
           not-and c.loop-done.writable part.writable
           ∙ ap₂ (λ x y. x || y) c.loop-done.invariant.writable

@@ -14,7 +14,7 @@ add_numbers-requires c = record {
   whole =
       whole_at (extents c.args.regions.now) c.loop-region.region-index _ c.requires.whole
       (bounds_at c.args.regions.now c.loop-region.region-index _
-          (omega (arith, c.loop-region-test.true, c.loop-region.auto.region-index-end)));
+      (omega (arith, c.loop-region-test.true, c.loop-region.auto.region-index-end)));
 }
 
 pub returns-clause-increasing : goal.returns-clause-increasing
