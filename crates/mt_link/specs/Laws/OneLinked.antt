@@ -1,6 +1,6 @@
 -- Of files one image is linked or nothing is, for one reason, where the files are told and no read failed.
 use Rattle.std.specs.Prelude.{◌≡◌, ℕ, List}
-use Rattle.std.proofs.Common.{ap, subst}
+use Rattle.std.proofs.Common.{ap, sym, subst}
 use Rattle.elf_obj.specs.Object.{Object}
 use Rattle.elf_obj.specs.ObjectFile.{IsFileOf}
 use Rattle.elf_obj.specs.Refusal.{number_of as object_number, place_of as object_place}
