@@ -152,7 +152,8 @@ def rows():
     out.files(f_o=f, main_o=main, alone_o=alone, g_o=file_of(F2), large_o=file_of(LARGE), x=b'before')
     for words, answer in (
             ('main.o f.o g.o', error(39, 'Duplicate f')), ('g.o main.o f.o', error(39, 'Duplicate f')), ('main.o alone.o', error(39, 'Duplicate main')),
-            ('main.o', error(38, 'Undefined f')), ('f.o', error(40, 'NoMain')), ('large.o', error(40, 'NoMain')), ('alone.o large.o', error(42, 'ImageTooLarge')),
+            ('main.o', error(38, 'Undefined f')), ('f.o', error(40, 'NoMain')), ('large.o', error(40, 'NoMain')),
+            ('alone.o large.o', error(42, 'ImageTooLarge')),
             ('main.o large.o', error(38, 'Undefined f')), (' '.join(['f.o'] * 17), error(41, 'TooManyObjects')),
             (' '.join(['f.o'] * 16), error(39, 'Duplicate f'))):
         out.call('link %s --out x' % words, answer)
