@@ -5,4 +5,5 @@ pub mod Answers
 pub mod Groups
 pub mod Accesses
 pub mod Written
+pub mod Decoded
 pub mod Laws

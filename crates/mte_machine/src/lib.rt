@@ -3,6 +3,7 @@
 
 mod arithmetic;
 mod branches;
+mod decoder;
 mod effect;
 mod granule_tags;
 mod immediate;

@@ -4,7 +4,7 @@ ghost use Rattle.mt_base.specs.Extension.{sign_extend};
 ghost use Rattle.a64_code.specs.Shape.{done};
 ghost use Rattle.a64_code.specs.Outside.{Outside};
 ghost use Rattle.a64_code.specs.Effect.{effect, as_it_is};
-ghost use Rattle.a64_code.specs.LoadsAndStores.{register_bytes, behind, beside, is_checked, loads, stores, loads_pair, stores_pair};
+ghost use Rattle.a64_code.specs.LoadsAndStores.{behind, beside, is_checked, loads, stores, loads_pair, stores_pair};
 ghost use Rattle.mte_machine.specs.Groups.{IsLoad, IsStore};
 ghost use Rattle.mte_machine.specs.Written.{base_is_sp, FollowsWrite};
 ghost use Rattle.mte_machine.specs.Machine.{state_of, Executes};
@@ -29,7 +29,13 @@ impl<M: TagMemory> Machine<M> {
                 imm12,
                 rn,
                 rt,
-            } => self.load_register(register_bytes(wide), imm12, rn, rt),
+            } => {
+                if wide {
+                    self.load_register(8, imm12, rn, rt)
+                } else {
+                    self.load_register(4, imm12, rn, rt)
+                }
+            }
             Ldrb { imm12, rn, rt } => self.load_register(1, imm12, rn, rt),
             Ldrh { imm12, rn, rt } => self.load_register(2, imm12, rn, rt),
             Ldrsw { imm12, rn, rt } => self.load_signed(4, imm12, rn, rt),
@@ -52,7 +58,13 @@ impl<M: TagMemory> Machine<M> {
                 imm12,
                 rn,
                 rt,
-            } => self.store_register(register_bytes(wide), imm12, rn, rt),
+            } => {
+                if wide {
+                    self.store_register(8, imm12, rn, rt)
+                } else {
+                    self.store_register(4, imm12, rn, rt)
+                }
+            }
             Strb { imm12, rn, rt } => self.store_register(1, imm12, rn, rt),
             Strh { imm12, rn, rt } => self.store_register(2, imm12, rn, rt),
             Stp { imm7, rt2, rn, rt } => self.store_two_registers(imm7, rt2, rn, rt),
@@ -61,6 +73,7 @@ impl<M: TagMemory> Machine<M> {
     }
 
     // LDR, LDRH and LDRB: a number of so many bytes goes into a register.
+    #[inline(always)]
     pub(crate) fn load_register(&mut self, bytes: u8, imm12: u16, rn: Reg, rt: Reg) -> Step
         requires some { 0 < bytes }
         requires few { bytes ≤ 8 }
@@ -88,6 +101,7 @@ impl<M: TagMemory> Machine<M> {
     }
 
     // STR, STRH and STRB: the low bytes of a register go to memory.
+    #[inline(always)]
     pub(crate) fn store_register(&mut self, bytes: u8, imm12: u16, rn: Reg, rt: Reg) -> Step
         requires some { 0 < bytes }
         requires few { bytes ≤ 8 }
@@ -164,13 +178,4 @@ fn is_checked(base: Reg) -> bool
     ensures { result ≡ is_checked base_is_sp base }
 {
     base.0 < 31
-}
-
-// The bytes of a register of 64 bits, or of 32.
-pub(crate) fn register_bytes(wide: bool) -> u8
-    ensures value { result ≡ register_bytes wide }
-    ensures some { 0 < result }
-    ensures few { result ≤ 8 }
-{
-    if wide { 8 } else { 4 }
 }

@@ -1,6 +1,7 @@
 // The machine and how it starts.
 ghost use Rattle.std.specs.Prelude.{◌≡◌, ◌≢◌, ◌<◌, [], vec_len};
 
+use crate::decoder::Decoder;
 use crate::step::Step;
 use a64_alu::Flags;
 use a64_code::{Instr, MachineEnd, decode};
@@ -62,11 +63,8 @@ impl<M: TagMemory> Machine<M> {
             (λ w. step (state_of M.TagMemory self.old w)) (λ w. state_of M.TagMemory self.old w) (λ w. state_of M.TagMemory self.new w)
             (objects S.Source K.Sink source.old sink.old) (objects S.Source K.Sink source.new sink.new) result }
     {
-        match self.fetch() {
-            None => Step::Ended(MachineEnd::BadCode { at: self.pc }),
-            Some(Instr::Svc { imm16 }) => self.serve(imm16, source, sink),
-            Some(instr) => self.carry_out(instr),
-        }
+        let found = self.fetch();
+        self.execute(found, source, sink)
     }
 
     /// Executes instructions until one of them ends the run, at most `n` of them.
@@ -74,8 +72,10 @@ impl<M: TagMemory> Machine<M> {
         ensures { RunAnswers n (λ w. state_of M.TagMemory self.old w) (λ w. state_of M.TagMemory self.new w)
             (objects S.Source K.Sink source.old sink.old) (objects S.Source K.Sink source.new sink.new) result }
     {
+        let mut decoder = Decoder::new();
         for ran in 0..n {
-            if let Step::Ended(end) = self.step(source, sink) {
+            let found = self.fetch_by(&mut decoder);
+            if let Step::Ended(end) = self.execute(found, source, sink) {
                 return end;
             }
         }
@@ -88,5 +88,35 @@ impl<M: TagMemory> Machine<M> {
         ensures fields { IfSome result (λ instr. AllFit (encoding instr).fields) }
     {
         decode(self.memory.fetch(self.pc)?)
+    }
+
+    // The same by a decoder.
+    #[inline(always)]
+    fn fetch_by(&self, decoder: &mut Decoder) -> Option<Instr>
+        ensures instr { (w : Outside) → result ≡ fetched (state_of M.TagMemory self.now w) }
+        ensures fields { IfSome result (λ instr. AllFit (encoding instr).fields) }
+    {
+        decoder.decode(self.memory.fetch(self.pc)?)
+    }
+
+    // Executes the instruction that was fetched at PC.
+    #[inline(always)]
+    fn execute<S: Source, K: Sink>(
+        &mut self,
+        found: Option<Instr>,
+        source: &mut S,
+        sink: &mut K,
+    ) -> Step
+        requires instr { (w : Outside) → found ≡ fetched (state_of M.TagMemory self.old w) }
+        requires fields { IfSome found (λ instr. AllFit (encoding instr).fields) }
+        ensures { StepAnswers
+            (λ w. step (state_of M.TagMemory self.old w)) (λ w. state_of M.TagMemory self.old w) (λ w. state_of M.TagMemory self.new w)
+            (objects S.Source K.Sink source.old sink.old) (objects S.Source K.Sink source.new sink.new) result }
+    {
+        match found {
+            None => Step::Ended(MachineEnd::BadCode { at: self.pc }),
+            Some(Instr::Svc { imm16 }) => self.serve(imm16, source, sink),
+            Some(instr) => self.carry_out(instr),
+        }
     }
 }

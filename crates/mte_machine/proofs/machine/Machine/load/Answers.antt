@@ -1,7 +1,10 @@
 use Rattle.mte_machine.proofs.machine.Machine.load.Goals as goal
 
-pub returns-in-Ldr : goal.returns-in-Ldr
-returns-in-Ldr g c = λ w. rw (c.in-Ldr.is, ← c.register_bytes.ensures.value) (c.load_register.ensures w)
+pub returns-then-wide : goal.returns-then-wide
+returns-then-wide g c = λ w. rw (c.in-Ldr.is, c.if-wide.true) (c.load_register.ensures w)
+
+pub returns-else-wide : goal.returns-else-wide
+returns-else-wide g c = λ w. rw (c.in-Ldr.is, c.if-wide.false) (c.load_register-else-wide.ensures w)
 
 pub returns-in-Ldrb : goal.returns-in-Ldrb
 returns-in-Ldrb g c = λ w. rw c.in-Ldrb.is (c.load_register-in-Ldrb.ensures w)

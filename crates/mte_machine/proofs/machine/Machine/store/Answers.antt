@@ -1,7 +1,10 @@
 use Rattle.mte_machine.proofs.machine.Machine.store.Goals as goal
 
-pub returns-in-Str : goal.returns-in-Str
-returns-in-Str g c = λ w. rw (c.in-Str.is, ← c.register_bytes.ensures.value) (c.store_register.ensures w)
+pub returns-then-wide : goal.returns-then-wide
+returns-then-wide g c = λ w. rw (c.in-Str.is, c.if-wide.true) (c.store_register.ensures w)
+
+pub returns-else-wide : goal.returns-else-wide
+returns-else-wide g c = λ w. rw (c.in-Str.is, c.if-wide.false) (c.store_register-else-wide.ensures w)
 
 pub returns-in-Strb : goal.returns-in-Strb
 returns-in-Strb g c = λ w. rw c.in-Strb.is (c.store_register-in-Strb.ensures w)
