@@ -24,6 +24,7 @@ unfolding fetched
 fetched_there s can = rw can refl
 
 -- the instruction of a word has fields that fit
-pub instruction_fits : (word : ℕ) (found : Option Instr) → found ≡ instruction_of word → IfSome found (λ instr. AllFit (encoding instr).fields)
+pub instruction_fits : (word : ℕ) (found : Option Instr) → found ≡ instruction_of word →
+    IfSome found (λ instr. AllFit (encoding instr).fields)
 instruction_fits word None is = tt
 instruction_fits word (Some instr) is = ((instruction_of-Row word instr).0 (sym is)).within
