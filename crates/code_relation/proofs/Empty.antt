@@ -59,6 +59,10 @@ null_alone : (number : ℕ) (b : Block) → slice_get (null_block ∷ []) number
 null_alone zero b is = cc
 null_alone (suc number) b is = absurd (cc)
 
+first_alone : (number : ℕ) (b : Block) → slice_get (null_block ∷ []) number ≡ Some b → number ≡ 0
+first_alone zero b is = refl
+first_alone (suc number) b is = absurd (cc)
+
 no_file_block : (number : ℕ) (b : Block) → IsFileBlock given number b → ⊥
 no_file_block number b block =
     let null : null_block ≡ b = null_alone number b block.is in
@@ -146,6 +150,7 @@ files = record {
   texts_whole = λ number b block text. absurd (no_file_block number b block);
   objects_writable = λ number b block object. absurd (no_file_block number b block);
   texts_constant = λ number b block text. absurd (no_file_block number b block);
+  tags = λ number b block. absurd (no_file_block number b block);
   untagged = λ number b block other. absurd (no_file_block number b block);
 }
 
@@ -157,7 +162,9 @@ stands = record {
   calls = tt;
   unit_is = λ c none. absurd (cc);
   scope = λ k number none. absurd (cc);
+  in_scope = λ c number b k none lives local. absurd (cc);
   null_is = refl;
+  null_alone = λ number b is of_null. first_alone number b is;
   opened = as_opened;
   of_files = λ number b is of. absurd (no_file_block number b (record { is = is; of_file = of }));
   locals = λ number b call k is local. absurd (no_local number b call k is local);
