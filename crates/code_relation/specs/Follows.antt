@@ -1,7 +1,7 @@
 -- Code follows a tree: from each pair of states that are related it does what the tree means, within bounds on its steps from below and
 -- from above, and keeps what is kept (this project's own). Of u units at least u steps are taken, and at most `per * u`; `Bounded` of
 -- code_runs tells it without subtraction, with the work that is left.
-use Rattle.std.specs.Prelude.{◌≡◌, ℕ, suc, ◌≤◌, List, [], ◌∷◌, length, Option, Some, None}
+use Rattle.std.specs.Prelude.{◌≡◌, ℕ, suc, ◌<◌, ◌≤◌, List, [], ◌∷◌, length, Option, Some, None}
 use Rattle.c_type_base.specs.declared.ty.Ty.{Ty}
 use Rattle.c_type_base.specs.declared.typed.TFunction.{TFunction}
 use Rattle.a64_code.specs.State.{State}
@@ -110,11 +110,12 @@ call_item g call span = record {
   Completes = Returns g span.to;
 }
 
--- The words of a function, which stand at an address, entered by a step that counts. They come back to the address in X30.
+-- The words of a function, which stand at an address. They come back to the address in X30. A unit of work is left where they begin, since
+-- the step that entered them counts.
 abbrev pub function_words : Given → Called → ℕ → Tree Value
 function_words g call from = record {
   run = call.run;
-  Begins = λ here now s. (s.pc ≡ from) × HasArguments g now s 0 call.parameters call.arguments;
+  Begins = λ here now s. (0 < now.work) × (s.pc ≡ from) × HasArguments g now s 0 call.parameters call.arguments;
   before = 1;
   Uncounted = None_uncounted;
   room = λ extra v. call_room call.arguments;
