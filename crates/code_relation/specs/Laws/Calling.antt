@@ -133,7 +133,6 @@ Calls-words c f n from way has reach fits few words = record {
         ) in
         record {
           extra = 0;
-          uncounted = refl;
           bounded = subst
               (λ q. Bounded (setting c) (later 0 (opened (setting c) now.work)) (λ v. call_room vs) s (Returns c.given (from + 4) here s)
               (outcome_of q))
@@ -157,7 +156,6 @@ Calls-words c f n from way has reach fits few words = record {
         now.work ≡ work → Does c (item_of around vs) here now s
     by_work bound around vs of_calls here now s within relates begins zero none = record {
       extra = 0;
-      uncounted = refl;
       bounded = does_unit c (call_effect (record around { here = here }) (callee.Function n) vs) now
           (record { least = omega arith; most = omega arith }) relates.outside.output (λ left some. absurd (omega (arith, none, some)));
     }
