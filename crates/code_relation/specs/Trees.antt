@@ -1,6 +1,6 @@
 -- Expressions and statements as trees that code follows (this project's own).
 use Rattle.std.specs.Prelude.{◌≡◌, ℕ, suc, ◌+◌, ◌≤◌, Bool, List, [], ◌∷◌, length, slice_get, Some}
-use Rattle.std.specs.List.{filter}
+use Rattle.std.specs.List.{filter, Contains}
 use Rattle.c_ast.specs.declared.token.Span.{Span as TextSpan}
 use Rattle.c_type_base.specs.declared.expr.TExpr.{TExpr}
 use Rattle.c_type_base.specs.declared.expr.TNode.{out-TNode}
@@ -29,6 +29,7 @@ use Rattle.block_meaning.specs.Statements.{Flow, Next, Broke, Continued, Returne
 use Rattle.code_runs.specs.Bounded.{Room, just, sparing, exceeding}
 use Rattle.code_relation.specs.Calls.{frame_of}
 use Rattle.code_relation.specs.Follows.{Code, Tree, Follows, IsIn, Span}
+use Rattle.code_relation.specs.Fresh.{Fresh, FreshItems}
 use Rattle.code_relation.specs.Items.{Place, StandsAt}
 use Rattle.code_relation.specs.Kept.{KeepsFrom}
 use Rattle.code_relation.specs.Numbers.{Holds, IsNumber}
@@ -127,10 +128,15 @@ ComesBy g part p exits here s extra Continued now t =
     Comes g part.first exits.continued here s now t × LeaveSteps part.items p s t extra
 ComesBy g part p exits here s extra (Returned v) now t = ComesToLeave g part p here s v now t
 
-abbrev pub statement_tree : Given → (Context → Run Flow) → Part → Place → Exits → Tree Flow
-statement_tree g run part p exits = record {
+-- no other local than these has a block
+abbrev pub HasOnly : List ℕ → Context → Type 0
+HasOnly locals here = (k number : ℕ) → here.local k ≡ Some number → Contains locals k
+
+-- in a scope with these locals
+abbrev pub statement_tree : Given → (Context → Run Flow) → Part → Place → List ℕ → Exits → Tree Flow
+statement_tree g run part p locals exits = record {
   run = run;
-  Begins = StartsAt (span_of part p);
+  Begins = λ here now s. StartsAt (span_of part p) here now s × HasOnly locals here;
   before = 0;
   room = statement_room;
   Completes = ComesBy g part p exits;
@@ -177,13 +183,13 @@ pub record FollowsPlace (part : Part) (e : TExpr) (reg : Reg) : Type 1 where
 -- They follow the statement, which leaves its loop by two labels.
 pub record FollowsStatement (part : Part) (broke continued : ℕ) (st : TStmt) : Type 1 where
   pub follows : (c : Code) (p : Place) (scope : Scope) → IsPlaced part c p → IsScope c part.function scope →
-      StatementInOrder scope (out-TStmt st) → (bound depth : ℕ) →
-      Follows c (statement_tree c.given (λ here. (statements_at (calls_at bound) depth).run here st) part p
+      StatementInOrder scope (out-TStmt st) → Fresh scope.locals (out-TStmt st) → (bound depth : ℕ) →
+      Follows c (statement_tree c.given (λ here. (statements_at (calls_at bound) depth).run here st) part p scope.locals
       (record { broke = p.label broke; continued = p.label continued }))
 
 -- the same of what stands in a block, whose locals are in scope: so of the body of a function too
 pub record FollowsItems (part : Part) (broke continued : ℕ) (is : List TItem) : Type 1 where
   pub follows : (c : Code) (p : Place) (scope : Scope) → IsPlaced part c p → IsScope c part.function scope → Items scope is →
-      (bound depth : ℕ) →
-      Follows c (statement_tree c.given (λ here. items (statements_at (calls_at bound) depth) here is) part p
+      FreshItems scope.locals is → (bound depth : ℕ) →
+      Follows c (statement_tree c.given (λ here. items (statements_at (calls_at bound) depth) here is) part p scope.locals
       (record { broke = p.label broke; continued = p.label continued }))
