@@ -15,7 +15,7 @@ use Rattle.block_meaning.specs.declared.kind.Kind.TheVariants.{NullBlock, Local}
 use Rattle.block_meaning.specs.declared.cell.Cell.{Cell}
 use Rattle.block_meaning.specs.Blocks.{Block, null_block}
 use Rattle.block_meaning.specs.Meaning.{outside_of_calls, before}
-use Rattle.block_meaning.specs.Running.{Program, Context, State as MeaningState}
+use Rattle.block_meaning.specs.Running.{Call, Program, Context, State as MeaningState}
 use Rattle.code_relation.specs.Calls.{stack_end}
 use Rattle.code_relation.specs.Injects.{Injects}
 use Rattle.code_relation.specs.Loaded.{IsLoaded, IsFileBlock, FilesLie}
@@ -156,9 +156,13 @@ files = record {
 
 -- ---- the relation
 
+no_call : (number : ℕ) (c : Call) → slice_get [] number ≡ Some c → ⊥
+no_call number c is = absurd (cc)
+
 stands : Stands given here now
 stands = record {
   program_is = refl;
+  numbers = λ number c is. absurd (no_call number c is);
   calls = tt;
   unit_is = λ c none. absurd (cc);
   scope = λ k number none. absurd (cc);

@@ -48,6 +48,10 @@ null_first number b the_null of_null = refl
 null_first number b the_code of_null = absurd (cc)
 null_first number b the_local of_null = absurd (cc)
 
+the_call : (number : ℕ) (c : Call) → slice_get (call ∷ []) number ≡ Some c → c.number ≡ number
+the_call zero c is = ap (λ x. x.number) (let e : c ≡ call = cc in e)
+the_call (suc number) c is = absurd (cc)
+
 as_opened : (number : ℕ) (b : Block) → slice_get (null_block ∷ code_block ∷ []) number ≡ Some b → IsAsOpened now number b
 as_opened zero b is = subst (λ c. IsAsOpened now 0 c) (let e : null_block ≡ b = cc in e)
     (record { block = null_block; lives = record { is = refl; live = refl }; kind_is = refl; size_is = refl })
@@ -181,6 +185,7 @@ module _ (f : TFunction) (has : HasOneSlot f) where
   stands : Stands (given f) (here f) now
   stands = record {
     program_is = refl;
+    numbers = the_call;
     calls = (refl, record { function = f; is = refl }, tt);
     unit_is = λ c is. of_call c is;
     scope = in_scope;

@@ -57,6 +57,8 @@ pub record WasOpened (g : Given) (number : ℕ) (b : Block) : Type 0 where
 -- A state of the meaning, with the context in which something runs there.
 pub record Stands (g : Given) (here : Context) (now : MeaningState) : Type 0 where
   pub program_is : here.program ≡ g.program
+  -- calls are numbered as they were made
+  pub numbers : (number : ℕ) (c : Call) → slice_get now.calls number ≡ Some c → c.number ≡ number
   pub calls : AreCalls (units_of g) now.calls here.open_calls
   pub unit_is : (c : Call) → latest here.open_calls ≡ Some c → here.unit ≡ c.function.unit
   pub scope : (k number : ℕ) → here.local k ≡ Some number → IsInScope now (latest here.open_calls) k number

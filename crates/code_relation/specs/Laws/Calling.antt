@@ -27,7 +27,7 @@ use Rattle.code_relation.specs.Numbers.{Holds}
 use Rattle.code_relation.specs.Outcomes.{outcome_of}
 use Rattle.code_relation.specs.Relates.{Relates}
 use Rattle.code_relation.specs.Sites.{Given, units_of}
-use Rattle.code_relation.specs.Laws.Follows.{does_unit}
+use Rattle.code_relation.specs.Laws.Follows.{without_work}
 use Rattle.code_relation.specs.Laws.Keeps.{KeepsAll-bytes, KeepsAll-then}
 use Rattle.code_relation.specs.Laws.Kept.{SameInjected, Injects-same}
 
@@ -156,8 +156,8 @@ Calls-words c f n from way has reach fits few words = record {
         now.work ≡ work → Does c (item_of around vs) here now s
     by_work bound around vs of_calls here now s within relates begins zero none = record {
       extra = 0;
-      bounded = does_unit c (call_effect (record around { here = here }) (callee.Function n) vs) now
-          (record { least = omega arith; most = omega arith }) relates.outside.output (λ left some. absurd (omega (arith, none, some)));
+      bounded = without_work c (call_effect (record around { here = here }) (callee.Function n) vs) now none
+          (record { least = omega arith; most = omega arith }) relates.outside.output;
     }
     by_work bound around vs of_calls here now s within relates begins (suc left) some =
         by_step bound around vs of_calls here now s within relates (omega (arith, some)) begins.0.3 begins.1 begins.2

@@ -142,6 +142,7 @@ pub Stands-changed : {g : Given} {here : Context} {now : MeaningState} (x : Chan
     slice_get (changed x).blocks 0 ≡ Some null_block → Stands g here now → Stands g here (changed x)
 Stands-changed {g} {here} {now} x whole null stands = record {
   program_is = stands.program_is;
+  numbers = stands.numbers;
   calls = stands.calls;
   unit_is = stands.unit_is;
   scope = λ k number is. in_scope (stands.scope k number is);

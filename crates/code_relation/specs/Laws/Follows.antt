@@ -30,6 +30,12 @@ does_unit c {a} {room} {s} {Q} m now bounds output more =
     subst (λ r. Bounded (setting c) a room s Q r) (sym (outcome_of-unit m now))
     (ticks spent (λ then. outcome_of (m then)) bounds output more)
 
+-- With no work left, what begins with a unit of work is followed by no step.
+pub without_work : {A : Type 0} (c : Code) {a : Account} {room : A → Room} {s : State} {Q : A → MeaningState → State → Type 0} (m : Run A)
+    (now : MeaningState) → now.work ≡ 0 → Stands (setting c) a just now → s.outside.output ≡ now.output →
+    Bounded (setting c) a room s Q (outcome_of (unit_then m now))
+without_work c m now none bounds output = does_unit c m now bounds output (λ left some. absurd (omega (arith, none, some)))
+
 -- ---- following
 
 -- the code follows the tree as far as less work reaches

@@ -59,6 +59,7 @@ AreTwo-without r two =
 Stands-with : {g : Given} {here : Context} {now : MeaningState} (r : Rest) → Stands g here now → Stands g here (with_rest r now)
 Stands-with {g} {now = now} r stands = record {
   program_is = stands.program_is;
+  numbers = stands.numbers;
   calls = stands.calls;
   unit_is = stands.unit_is;
   scope = λ k number is. in_scope (stands.scope k number is);
