@@ -64,7 +64,7 @@ pub LeaveSteps-front : {p : Place} {s t : State} {extra : ℕ} (xs ys : List Sym
 LeaveSteps-front xs ys no_scope = no_scope
 LeaveSteps-front xs ys (scope k first last n before jump r there behind to steps pc led few) =
     scope k first last n before jump r (get_front xs ys k (item.LeaveScope first last) there)
-        (get_front xs ys (suc k) (item.Jump n) behind) to steps pc led few
+    (get_front xs ys (suc k) (item.Jump n) behind) to steps pc led few
 
 -- in the second part, to which steps have led
 pub LeaveSteps-back : {p : Place} {s t u : State} {made : ℕ} (xs ys : List SymItem) {extra : ℕ} → Steps made s t →
@@ -72,8 +72,8 @@ pub LeaveSteps-back : {p : Place} {s t u : State} {made : ℕ} (xs ys : List Sym
 LeaveSteps-back xs ys first_led no_scope = no_scope
 LeaveSteps-back {made = made} xs ys first_led (scope k first last n before jump r there behind to steps pc led few) =
     scope (length xs + k) first last n (made + before) jump r (get_back xs ys k (item.LeaveScope first last) there)
-        (get_at (xs ++ ys) (length xs + suc k) (suc (length xs + k)) (item.Jump n) (omega arith)
-        (get_back xs ys (suc k) (item.Jump n) behind)) to (Steps-add first_led steps) pc led few
+    (get_at (xs ++ ys) (length xs + suc k) (suc (length xs + k)) (item.Jump n) (omega arith)
+    (get_back xs ys (suc k) (item.Jump n) behind)) to (Steps-add first_led steps) pc led few
 
 -- ---- an item where the function ends
 
