@@ -15,7 +15,7 @@ use Rattle.block_meaning.specs.declared.kind.Kind.TheVariants.{NullBlock, Local}
 use Rattle.block_meaning.specs.declared.cell.Cell.{Cell}
 use Rattle.block_meaning.specs.Blocks.{Block, null_block}
 use Rattle.block_meaning.specs.Meaning.{outside_of_calls, before}
-use Rattle.block_meaning.specs.Running.{Program, Context, State as MeaningState}
+use Rattle.block_meaning.specs.Running.{Call, Program, Context, State as MeaningState}
 use Rattle.code_relation.specs.Calls.{stack_end}
 use Rattle.code_relation.specs.Injects.{Injects}
 use Rattle.code_relation.specs.Loaded.{IsLoaded, IsFileBlock, FilesLie}
@@ -58,6 +58,10 @@ now = before program [] 0
 null_alone : (number : ℕ) (b : Block) → slice_get (null_block ∷ []) number ≡ Some b → null_block ≡ b
 null_alone zero b is = cc
 null_alone (suc number) b is = absurd (cc)
+
+first_alone : (number : ℕ) (b : Block) → slice_get (null_block ∷ []) number ≡ Some b → number ≡ 0
+first_alone zero b is = refl
+first_alone (suc number) b is = absurd (cc)
 
 no_file_block : (number : ℕ) (b : Block) → IsFileBlock given number b → ⊥
 no_file_block number b block =
@@ -146,18 +150,25 @@ files = record {
   texts_whole = λ number b block text. absurd (no_file_block number b block);
   objects_writable = λ number b block object. absurd (no_file_block number b block);
   texts_constant = λ number b block text. absurd (no_file_block number b block);
+  tags = λ number b block. absurd (no_file_block number b block);
   untagged = λ number b block other. absurd (no_file_block number b block);
 }
 
 -- ---- the relation
 
+no_call : (number : ℕ) (c : Call) → slice_get [] number ≡ Some c → ⊥
+no_call number c is = absurd (cc)
+
 stands : Stands given here now
 stands = record {
   program_is = refl;
+  numbers = λ number c is. absurd (no_call number c is);
   calls = tt;
   unit_is = λ c none. absurd (cc);
   scope = λ k number none. absurd (cc);
+  in_scope = λ c number b k none lives local. absurd (cc);
   null_is = refl;
+  null_alone = λ number b is of_null. first_alone number b is;
   opened = as_opened;
   of_files = λ number b is of. absurd (no_file_block number b (record { is = is; of_file = of }));
   locals = λ number b call k is local. absurd (no_local number b call k is local);

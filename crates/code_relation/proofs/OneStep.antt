@@ -15,7 +15,7 @@ use Rattle.code_runs.specs.Laws.Bounded.{done, after}
 use Rattle.code_runs.specs.Laws.Ranges.{IsInRange-Steps}
 use Rattle.code_runs.specs.Laws.Within.{StepsWithin-one}
 use Rattle.sym_code.specs.declared.item.SymItem.TheVariants as item
-use Rattle.code_relation.specs.Follows.{Code, Tree, Does, Follows, None_uncounted}
+use Rattle.code_relation.specs.Follows.{Code, Tree, Does, Follows}
 use Rattle.code_relation.specs.Items.{Place, IsAt, HasInstr, StandsAt}
 use Rattle.code_relation.specs.Relates.{Relates}
 use Rattle.code_relation.specs.Laws.Follows.{does_unit}
@@ -29,9 +29,8 @@ pause c from to = record {
   run = λ here. unit_then (gives tt);
   Begins = λ here now s. s.pc ≡ from;
   before = 0;
-  Uncounted = None_uncounted;
   room = λ extra v. just;
-  Completes = λ here s v now t. Relates c.given here now t × (t.pc ≡ to);
+  Completes = λ here s extra v now t. Relates c.given here now t × (t.pc ≡ to);
 }
 
 passes : (s : State) → SameInjected s (next s)
@@ -87,7 +86,6 @@ pause_follows c f p stands fits pays =
         let steps : Steps 1 s (next s) = Steps-one s (next s) leads in
         record {
           extra = 0;
-          uncounted = refl;
           bounded = does_unit c (gives tt) now (record { least = omega arith; most = omega arith }) relates.outside.output (λ left work.
               after (StepsWithin-one steps (acts.0.inside s is_at))
               (done

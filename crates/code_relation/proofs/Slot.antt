@@ -38,6 +38,20 @@ in_scope zero number is = subst (λ n. IsInScope now (Some call) 0 n) (let e : 2
     (record { of = call; call_is = refl; block = local_block; lives = record { is = refl; live = refl }; kind_is = refl })
 in_scope (suc k) number is = absurd (no_number number is)
 
+has_block : (c : Call) (number : ℕ) (b : Block) (k : ℕ) → Each number b → b.kind ≡ Local c.number k → block_of_number k ≡ Some number
+has_block c number b k the_null local = absurd (cc)
+has_block c number b k the_code local = absurd (cc)
+has_block c number b k the_local local = subst (λ j. block_of_number j ≡ Some 2) (let e : 0 ≡ k = cc in e) refl
+
+null_first : (number : ℕ) (b : Block) → Each number b → b.kind ≡ NullBlock → number ≡ 0
+null_first number b the_null of_null = refl
+null_first number b the_code of_null = absurd (cc)
+null_first number b the_local of_null = absurd (cc)
+
+the_call : (number : ℕ) (c : Call) → slice_get (call ∷ []) number ≡ Some c → c.number ≡ number
+the_call zero c is = ap (λ x. x.number) (let e : c ≡ call = cc in e)
+the_call (suc number) c is = absurd (cc)
+
 as_opened : (number : ℕ) (b : Block) → slice_get (null_block ∷ code_block ∷ []) number ≡ Some b → IsAsOpened now number b
 as_opened zero b is = subst (λ c. IsAsOpened now 0 c) (let e : null_block ≡ b = cc in e)
     (record { block = null_block; lives = record { is = refl; live = refl }; kind_is = refl; size_is = refl })
@@ -137,6 +151,7 @@ module _ (f : TFunction) (has : HasOneSlot f) where
     texts_whole = λ number b block text. refl;
     objects_writable = λ number b block object. absurd (no_object number b block object);
     texts_constant = λ number b block text. absurd (no_text number b block text);
+    tags = λ number b block. omega arith;
     untagged = λ number b block other. refl;
   }
 
@@ -170,10 +185,13 @@ module _ (f : TFunction) (has : HasOneSlot f) where
   stands : Stands (given f) (here f) now
   stands = record {
     program_is = refl;
-    calls = (refl, tt);
+    numbers = the_call;
+    calls = (refl, record { function = f; is = refl }, tt);
     unit_is = λ c is. of_call c is;
     scope = in_scope;
+    in_scope = λ c number b k is lives local. has_block c number b k (each number b lives.is) local;
     null_is = refl;
+    null_alone = λ number b is of_null. null_first number b (each number b is) of_null;
     opened = as_opened;
     of_files = λ number b is of. was_opened number b (each number b is) of;
     locals = λ number b made k is local. of_local number b made k (each number b is) local;

@@ -1,7 +1,7 @@
 -- Code follows a tree: from each pair of states that are related it does what the tree means, within bounds on its steps from below and
 -- from above, and keeps what is kept (this project's own). Of u units at least u steps are taken, and at most `per * u`; `Bounded` of
 -- code_runs tells it without subtraction, with the work that is left.
-use Rattle.std.specs.Prelude.{◌≡◌, ℕ, suc, ◌≤◌, List, [], ◌∷◌, length, Option, Some, None}
+use Rattle.std.specs.Prelude.{◌≡◌, ℕ, suc, ◌<◌, ◌≤◌, List, [], ◌∷◌, length, Option, Some, None}
 use Rattle.c_type_base.specs.declared.ty.Ty.{Ty}
 use Rattle.c_type_base.specs.declared.typed.TFunction.{TFunction}
 use Rattle.a64_code.specs.State.{State}
@@ -41,27 +41,20 @@ pub record Tree (A : Type 0) : Type 1 where
   pub Begins : Context → MeaningState → State → Type 0
   -- the steps that were made before, and count
   pub before : ℕ
-  -- steps that its bound from above does not count
-  pub Uncounted : State → ℕ → Type 0
-  -- what it leaves of the bound from above, by its value, where so many are not counted
+  -- what it leaves of the bound from above, by its value, where so many steps are not counted
   pub room : ℕ → A → Room
-  -- where it completes: the context, the machine's state at the start, the value, and the two states then
-  pub Completes : Context → State → A → MeaningState → State → Type 0
+  -- where it completes: the context, the machine's state at the start, the steps that are not counted, the value, and the two states then
+  pub Completes : Context → State → ℕ → A → MeaningState → State → Type 0
 
 -- the code does what the tree means, with so many steps not counted
 pub record Does {A : Type 0} (c : Code) (t : Tree A) (here : Context) (now : MeaningState) (s : State) : Type 0 where
   pub extra : ℕ
-  pub uncounted : t.Uncounted s extra
-  pub bounded : Bounded (setting c) (later t.before (opened (setting c) now.work)) (t.room extra) s (t.Completes here s)
+  pub bounded : Bounded (setting c) (later t.before (opened (setting c) now.work)) (t.room extra) s (t.Completes here s extra)
       (outcome_of (t.run here now))
 
 pub record Follows {A : Type 0} (c : Code) (t : Tree A) : Type 0 where
   pub does : (here : Context) (now : MeaningState) (s : State) → now.work ≤ c.reach → Relates c.given here now s → t.Begins here now s →
       Does c t here now s
-
--- no step is uncounted
-abbrev pub None_uncounted : State → ℕ → Type 0
-None_uncounted s extra = extra ≡ 0
 
 -- the innermost call is one of a function
 abbrev pub IsIn : Function → Context → Type 0
@@ -105,20 +98,19 @@ call_item g call span = record {
   run = call.run;
   Begins = λ here now s. IsIn span.function here × (s.pc ≡ span.from) × HasArguments g now s 0 call.parameters call.arguments;
   before = 0;
-  Uncounted = None_uncounted;
   room = λ extra v. call_room call.arguments;
-  Completes = Returns g span.to;
+  Completes = λ here s extra v now t. Returns g span.to here s v now t;
 }
 
--- The words of a function, which stand at an address, entered by a step that counts. They come back to the address in X30.
+-- The words of a function, which stand at an address. They come back to the address in X30. A unit of work is left where they begin, since
+-- the step that entered them counts.
 abbrev pub function_words : Given → Called → ℕ → Tree Value
 function_words g call from = record {
   run = call.run;
-  Begins = λ here now s. (s.pc ≡ from) × HasArguments g now s 0 call.parameters call.arguments;
+  Begins = λ here now s. (0 < now.work) × (s.pc ≡ from) × HasArguments g now s 0 call.parameters call.arguments;
   before = 1;
-  Uncounted = None_uncounted;
   room = λ extra v. call_room call.arguments;
-  Completes = λ here s v now t. Returns g (s.register 30) here s v now t;
+  Completes = λ here s extra v now t. Returns g (s.register 30) here s v now t;
 }
 
 abbrev pub types_of : Option TFunction → List Ty

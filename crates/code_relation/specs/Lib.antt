@@ -15,5 +15,6 @@ pub mod Kept
 pub mod Ends
 pub mod Follows
 pub mod Items
+pub mod Fresh
 pub mod Trees
 pub mod Laws

@@ -83,6 +83,7 @@ pub record FilesLie (g : Given) : Type 0 where
   pub texts_whole : (number : ℕ) (b : Block) → IsFileBlock g number b → is_text b.kind ≡ true → start_of g number % 16 ≡ 0
   pub objects_writable : (number : ℕ) (b : Block) → IsFileBlock g number b → is_object b.kind ≡ true → LiesWhere true g number b
   pub texts_constant : (number : ℕ) (b : Block) → IsFileBlock g number b → is_text b.kind ≡ true → LiesWhere false g number b
+  pub tags : (number : ℕ) (b : Block) → IsFileBlock g number b → (g.starts number).tag < 16
   -- texts and functions have tag 0
   pub untagged : (number : ℕ) (b : Block) → IsFileBlock g number b → is_object b.kind ≡ false → (g.starts number).tag ≡ 0
 

@@ -2,19 +2,25 @@
 use Rattle.std.specs.Prelude.{◌≡◌, ℕ, true, List, [], ◌∷◌, length, slice_get, Option, Some}
 use Rattle.c_type_base.specs.declared.typed.LocalInfo.{LocalInfo}
 use Rattle.c_type_base.specs.declared.typed.TFunction.{TFunction}
+use Rattle.c_type_base.specs.declared.typed.Typed.{Typed}
 use Rattle.c_type_base.specs.Sizes.{size}
-use Rattle.block_meaning.specs.declared.kind.Kind.TheVariants.{Local}
+use Rattle.block_meaning.specs.declared.kind.Kind.TheVariants.{NullBlock, Local}
 use Rattle.block_meaning.specs.Blocks.{Block, null_block}
 use Rattle.block_meaning.specs.Linkage.{structs_of, function_named}
 use Rattle.block_meaning.specs.Opening.{opening}
-use Rattle.block_meaning.specs.Running.{Call, Context, State as MeaningState}
+use Rattle.block_meaning.specs.Running.{Function, Call, Context, State as MeaningState}
 use Rattle.block_meaning.specs.Locals.{latest}
 use Rattle.code_relation.specs.Sites.{Given, units_of, Lives, is_of_file}
 
--- the open calls are among all calls, by their numbers
-abbrev pub AreCalls : List Call → List Call → Type 0
-AreCalls calls [] = Unit {0}
-AreCalls calls (c ∷ cs) = (slice_get calls c.number ≡ Some c) × AreCalls calls cs
+-- a function is there
+pub record IsThere (units : List Typed) (f : Function) : Type 0 where
+  pub function : TFunction
+  pub is : function_named units f ≡ Some function
+
+-- the open calls are among all calls, by their numbers, and their functions are there
+abbrev pub AreCalls : List Typed → List Call → List Call → Type 0
+AreCalls units calls [] = Unit {0}
+AreCalls units calls (c ∷ cs) = (slice_get calls c.number ≡ Some c) × IsThere units c.function × AreCalls units calls cs
 
 -- a block is that of a local of some call, and has the bytes of its type
 pub record IsLocal (g : Given) (now : MeaningState) (b : Block) (call k : ℕ) : Type 0 where
@@ -51,10 +57,17 @@ pub record WasOpened (g : Given) (number : ℕ) (b : Block) : Type 0 where
 -- A state of the meaning, with the context in which something runs there.
 pub record Stands (g : Given) (here : Context) (now : MeaningState) : Type 0 where
   pub program_is : here.program ≡ g.program
-  pub calls : AreCalls now.calls here.open_calls
+  -- calls are numbered as they were made
+  pub numbers : (number : ℕ) (c : Call) → slice_get now.calls number ≡ Some c → c.number ≡ number
+  pub calls : AreCalls (units_of g) now.calls here.open_calls
   pub unit_is : (c : Call) → latest here.open_calls ≡ Some c → here.unit ≡ c.function.unit
   pub scope : (k number : ℕ) → here.local k ≡ Some number → IsInScope now (latest here.open_calls) k number
+  -- a local of the latest call lives only while it is in scope
+  pub in_scope : (c : Call) (number : ℕ) (b : Block) (k : ℕ) → latest here.open_calls ≡ Some c → Lives now number b →
+      b.kind ≡ Local c.number k → here.local k ≡ Some number
   pub null_is : slice_get now.blocks 0 ≡ Some null_block
+  -- no other block is one
+  pub null_alone : (number : ℕ) (b : Block) → slice_get now.blocks number ≡ Some b → b.kind ≡ NullBlock → number ≡ 0
   pub opened : (number : ℕ) (b : Block) → slice_get (opening (units_of g)) number ≡ Some b → IsAsOpened now number b
   pub of_files : (number : ℕ) (b : Block) → slice_get now.blocks number ≡ Some b → is_of_file b.kind ≡ true → WasOpened g number b
   pub locals : (number : ℕ) (b : Block) (call k : ℕ) → slice_get now.blocks number ≡ Some b → b.kind ≡ Local call k →

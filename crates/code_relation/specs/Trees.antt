@@ -1,6 +1,6 @@
 -- Expressions and statements as trees that code follows (this project's own).
-use Rattle.std.specs.Prelude.{◌≡◌, ℕ, ◌+◌, ◌≤◌, Bool, List, [], ◌∷◌, length, slice_get, Some}
-use Rattle.std.specs.List.{filter}
+use Rattle.std.specs.Prelude.{◌≡◌, ℕ, suc, ◌+◌, ◌≤◌, Bool, List, [], ◌∷◌, length, slice_get, Some}
+use Rattle.std.specs.List.{filter, Contains}
 use Rattle.c_ast.specs.declared.token.Span.{Span as TextSpan}
 use Rattle.c_type_base.specs.declared.expr.TExpr.{TExpr}
 use Rattle.c_type_base.specs.declared.expr.TNode.{out-TNode}
@@ -28,7 +28,8 @@ use Rattle.block_meaning.specs.Running.{Function, Program, Context, Run, State a
 use Rattle.block_meaning.specs.Statements.{Flow, Next, Broke, Continued, Returned, statements_at, items}
 use Rattle.code_runs.specs.Bounded.{Room, just, sparing, exceeding}
 use Rattle.code_relation.specs.Calls.{frame_of}
-use Rattle.code_relation.specs.Follows.{Code, Tree, Follows, None_uncounted, IsIn, Span}
+use Rattle.code_relation.specs.Follows.{Code, Tree, Follows, IsIn, Span}
+use Rattle.code_relation.specs.Fresh.{Fresh, FreshItems}
 use Rattle.code_relation.specs.Items.{Place, StandsAt}
 use Rattle.code_relation.specs.Kept.{KeepsFrom}
 use Rattle.code_relation.specs.Numbers.{Holds, IsNumber}
@@ -64,9 +65,8 @@ expression_tree g run first span reg = record {
   run = run;
   Begins = StartsAt span;
   before = 0;
-  Uncounted = None_uncounted;
   room = λ extra v. sparing 4;
-  Completes = λ here s v now t. Comes g first span.to here s now t × Holds g now v (t.register reg.0);
+  Completes = λ here s extra v now t. Comes g first span.to here s now t × Holds g now v (t.register reg.0);
 }
 
 -- the same of the place of what an expression designates
@@ -75,9 +75,8 @@ place_tree g run first span reg = record {
   run = run;
   Begins = StartsAt span;
   before = 0;
-  Uncounted = None_uncounted;
   room = λ extra v. sparing 4;
-  Completes = λ here s p now t. Comes g first span.to here s now t × IsNumber g now p (t.register reg.0);
+  Completes = λ here s extra p now t. Comes g first span.to here s now t × IsNumber g now p (t.register reg.0);
 }
 
 -- ---- statements
@@ -87,15 +86,19 @@ pub record Exits : Type 0 where
   pub broke : ℕ
   pub continued : ℕ
 
--- The steps of an item that leaves scopes, through which the code has come on its way; or none.
-pub data LeaveSteps (items : List SymItem) (p : Place) (s : State) : ℕ → Type 0 where
-  no_scope : LeaveSteps items p s 0
-  scope : (k first last before : ℕ) (r : State) → slice_get items k ≡ Some (item.LeaveScope first last) → Steps before s r →
-      r.pc ≡ p.at k → LeaveSteps items p s (p.scope_steps k r)
+-- How many steps are not counted where code has left a loop: those of the item that leaves scopes right before the jump by which it has
+-- left; or none.
+pub data LeaveSteps (items : List SymItem) (p : Place) (s t : State) : ℕ → Type 0 where
+  no_scope : LeaveSteps items p s t 0
+  scope : (k first last n before jump : ℕ) (r : State) → slice_get items k ≡ Some (item.LeaveScope first last) →
+      slice_get items (suc k) ≡ Some (item.Jump n) → p.label n ≡ t.pc → Steps before s r → r.pc ≡ p.at k →
+      Steps (p.scope_steps k r + jump) r t → jump ≤ 2 → LeaveSteps items p s t (p.scope_steps k r)
 
--- A statement that leaves by `break`, `continue` or `return` may take 8 steps more, and those of the item with which it leaves scopes.
+-- A statement that leaves by `break`, `continue` or `return` may take 8 steps more, and those of the item with which it leaves scopes. No
+-- such item stands before a `return`.
 abbrev pub statement_room : ℕ → Flow → Room
 statement_room extra Next = just
+statement_room extra (Returned v) = exceeding 8
 statement_room extra flow = exceeding (8 + extra)
 
 -- the tagged slots of inner scopes
@@ -117,18 +120,24 @@ pub record ComesToLeave (g : Given) (part : Part) (p : Place) (here : Context) (
   pub same : (granule : ℕ) → NoneHas t.sp (inner_tagged (frame_of (units_of g) part.function).slots) granule →
       tags granule ≡ t.tag granule
 
-abbrev pub ComesBy : Given → Part → Place → Exits → Context → State → Flow → MeaningState → State → Type 0
-ComesBy g part p exits here s Next now t = Comes g part.first (span_of part p).to here s now t
-ComesBy g part p exits here s Broke now t = Comes g part.first exits.broke here s now t
-ComesBy g part p exits here s Continued now t = Comes g part.first exits.continued here s now t
-ComesBy g part p exits here s (Returned v) now t = ComesToLeave g part p here s v now t
+abbrev pub ComesBy : Given → Part → Place → Exits → Context → State → ℕ → Flow → MeaningState → State → Type 0
+ComesBy g part p exits here s extra Next now t = Comes g part.first (span_of part p).to here s now t
+ComesBy g part p exits here s extra Broke now t =
+    Comes g part.first exits.broke here s now t × LeaveSteps part.items p s t extra
+ComesBy g part p exits here s extra Continued now t =
+    Comes g part.first exits.continued here s now t × LeaveSteps part.items p s t extra
+ComesBy g part p exits here s extra (Returned v) now t = ComesToLeave g part p here s v now t
 
-abbrev pub statement_tree : Given → (Context → Run Flow) → Part → Place → Exits → Tree Flow
-statement_tree g run part p exits = record {
+-- no other local than these has a block
+abbrev pub HasOnly : List ℕ → Context → Type 0
+HasOnly locals here = (k number : ℕ) → here.local k ≡ Some number → Contains locals k
+
+-- in a scope with these locals
+abbrev pub statement_tree : Given → (Context → Run Flow) → Part → Place → List ℕ → Exits → Tree Flow
+statement_tree g run part p locals exits = record {
   run = run;
-  Begins = StartsAt (span_of part p);
+  Begins = λ here now s. StartsAt (span_of part p) here now s × HasOnly locals here;
   before = 0;
-  Uncounted = LeaveSteps part.items p;
   room = statement_room;
   Completes = ComesBy g part p exits;
 }
@@ -174,13 +183,13 @@ pub record FollowsPlace (part : Part) (e : TExpr) (reg : Reg) : Type 1 where
 -- They follow the statement, which leaves its loop by two labels.
 pub record FollowsStatement (part : Part) (broke continued : ℕ) (st : TStmt) : Type 1 where
   pub follows : (c : Code) (p : Place) (scope : Scope) → IsPlaced part c p → IsScope c part.function scope →
-      StatementInOrder scope (out-TStmt st) → (bound depth : ℕ) →
-      Follows c (statement_tree c.given (λ here. (statements_at (calls_at bound) depth).run here st) part p
+      StatementInOrder scope (out-TStmt st) → Fresh scope.locals (out-TStmt st) → (bound depth : ℕ) →
+      Follows c (statement_tree c.given (λ here. (statements_at (calls_at bound) depth).run here st) part p scope.locals
       (record { broke = p.label broke; continued = p.label continued }))
 
 -- the same of what stands in a block, whose locals are in scope: so of the body of a function too
 pub record FollowsItems (part : Part) (broke continued : ℕ) (is : List TItem) : Type 1 where
   pub follows : (c : Code) (p : Place) (scope : Scope) → IsPlaced part c p → IsScope c part.function scope → Items scope is →
-      (bound depth : ℕ) →
-      Follows c (statement_tree c.given (λ here. items (statements_at (calls_at bound) depth) here is) part p
+      FreshItems scope.locals is → (bound depth : ℕ) →
+      Follows c (statement_tree c.given (λ here. items (statements_at (calls_at bound) depth) here is) part p scope.locals
       (record { broke = p.label broke; continued = p.label continued }))

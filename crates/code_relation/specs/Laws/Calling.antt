@@ -1,5 +1,5 @@
 -- A branch with the link into words that follow a function is a call of it (this project's own).
-use Rattle.std.specs.Prelude.{◌≡◌, ◌≢◌, ℕ, suc, ◌+◌, ◌^◌, ◌<◌, ◌≤◌, List, [], ◌∷◌, length, refl}
+use Rattle.std.specs.Prelude.{◌≡◌, ◌≢◌, ℕ, zero, suc, ◌+◌, ◌^◌, ◌<◌, ◌≤◌, List, [], ◌∷◌, length, refl}
 use Rattle.std.proofs.Common.{arith, ap, sym, subst, ◌∙◌}
 use Rattle.std.proofs.lemmas.Bool.{ne_eqb}
 use Rattle.c_type_base.specs.declared.expr.Callee.TheVariants as callee
@@ -13,7 +13,7 @@ use Rattle.a64_laws.specs.Laws.Branches.{jump-taken}
 use Rattle.mte_machine.specs.Run.{Steps}
 use Rattle.mte_machine.specs.Laws.Steps.{Steps-one}
 use Rattle.block_meaning.specs.declared.value.Value.{Value}
-use Rattle.block_meaning.specs.Expressions.{Site}
+use Rattle.block_meaning.specs.Expressions.{Site, call_effect}
 use Rattle.block_meaning.specs.Linkage.{function_of, function_named}
 use Rattle.block_meaning.specs.Meaning.{calls_at}
 use Rattle.block_meaning.specs.Running.{Function, Context, unit_then, State as MeaningState}
@@ -21,12 +21,13 @@ use Rattle.code_runs.specs.Bounded.{later, Bounded}
 use Rattle.code_runs.specs.Laws.Bounded.{IsWider-same, opened, after, changes}
 use Rattle.code_runs.specs.Laws.Ranges.{IsInRange-Steps}
 use Rattle.code_runs.specs.Laws.Within.{StepsWithin-one}
-use Rattle.code_relation.specs.Follows.{Code, setting, Does, HasArguments, Returns, call_room, call_item, types_of, WordsFollow}
+use Rattle.code_relation.specs.Follows.{Code, setting, Tree, Does, HasArguments, Returns, call_room, call_item, types_of, WordsFollow}
 use Rattle.code_relation.specs.Items.{IsAt, HasInstr, Calls, call_from}
 use Rattle.code_relation.specs.Numbers.{Holds}
 use Rattle.code_relation.specs.Outcomes.{outcome_of}
 use Rattle.code_relation.specs.Relates.{Relates}
 use Rattle.code_relation.specs.Sites.{Given, units_of}
+use Rattle.code_relation.specs.Laws.Follows.{without_work}
 use Rattle.code_relation.specs.Laws.Keeps.{KeepsAll-bytes, KeepsAll-then}
 use Rattle.code_relation.specs.Laws.Kept.{SameInjected, Injects-same}
 
@@ -103,16 +104,19 @@ pub Calls-words : (c : Code) (f : Function) (n from : ℕ) (way : Way) → HasIn
 Calls-words c f n from way has reach fits few words = record {
   follows = λ bound around vs of_calls. record {
     does = λ here now s within relates begins.
-        by_step bound around vs of_calls here now s within relates begins.0.3 begins.1 begins.2;
+        by_work bound around vs of_calls here now s within relates begins now.work refl;
   };
 }
   where
+    item_of : Site → List Value → Tree Value
+    item_of around vs =
+        call_item c.given (call_from c.given f (callee.Function n) around vs) (record { function = f; from = from; to = from + 4 })
+
     by_step : (bound : ℕ) (around : Site) (vs : List Value) → around.calls ≡ calls_at bound → (here : Context) (now : MeaningState)
-        (s : State) → now.work ≤ c.reach → Relates c.given here now s → here.unit ≡ f.unit → s.pc ≡ from →
+        (s : State) → now.work ≤ c.reach → Relates c.given here now s → 0 < now.work → here.unit ≡ f.unit → s.pc ≡ from →
         HasArguments c.given now s 0 (types_of (function_named (units_of c.given) (function_of f.unit n))) vs →
-        Does c (call_item c.given (call_from c.given f (callee.Function n) around vs)
-        (record { function = f; from = from; to = from + 4 })) here now s
-    by_step bound around vs of_calls here now s within relates unit pc arguments =
+        Does c (item_of around vs) here now s
+    by_step bound around vs of_calls here now s within relates some unit pc arguments =
         let is_at : IsAt c from s = record { pc = pc; as_loaded = relates.injects.as_loaded; in_range = relates.injects.in_range } in
         let a : ℕ = goes_to from way in
         let leads : step s ≡ Leads (puts_link a s) =
@@ -122,13 +126,13 @@ Calls-words c f n from way has reach fits few words = record {
         ∙ ap (λ p. Leads (puts_link (goes_to p way) s)) pc in
         let steps : Steps 1 s (puts_link a s) = Steps-one s (puts_link a s) leads in
         let does = (words.follows bound vs).does here now (puts_link a s) within (linked_relates a steps relates) (
+          some,
           linked_pc a s,
           arguments_stay c.given now a s 0 (types_of (function_named (units_of c.given) (function_of f.unit n))) vs
               (omega (arith, few)) arguments,
         ) in
         record {
           extra = 0;
-          uncounted = refl;
           bounded = subst
               (λ q. Bounded (setting c) (later 0 (opened (setting c) now.work)) (λ v. call_room vs) s (Returns c.given (from + 4) here s)
               (outcome_of q))
@@ -145,3 +149,15 @@ Calls-words c f n from way has reach fits few words = record {
         same_run bound around vs of_calls here now unit =
             ap (λ calls. unit_then (calls here (function_of f.unit n) vs) now) (sym of_calls)
             ∙ ap (λ u. unit_then (around.calls here (function_of u n) vs) now) (sym unit)
+
+    -- where no work is left, the call is not made
+    by_work : (bound : ℕ) (around : Site) (vs : List Value) → around.calls ≡ calls_at bound → (here : Context) (now : MeaningState)
+        (s : State) → now.work ≤ c.reach → Relates c.given here now s → (item_of around vs).Begins here now s → (work : ℕ) →
+        now.work ≡ work → Does c (item_of around vs) here now s
+    by_work bound around vs of_calls here now s within relates begins zero none = record {
+      extra = 0;
+      bounded = without_work c (call_effect (record around { here = here }) (callee.Function n) vs) now none
+          (record { least = omega arith; most = omega arith }) relates.outside.output;
+    }
+    by_work bound around vs of_calls here now s within relates begins (suc left) some =
+        by_step bound around vs of_calls here now s within relates (omega (arith, some)) begins.0.3 begins.1 begins.2

@@ -142,10 +142,17 @@ pub Stands-changed : {g : Given} {here : Context} {now : MeaningState} (x : Chan
     slice_get (changed x).blocks 0 ≡ Some null_block → Stands g here now → Stands g here (changed x)
 Stands-changed {g} {here} {now} x whole null stands = record {
   program_is = stands.program_is;
+  numbers = stands.numbers;
   calls = stands.calls;
   unit_is = stands.unit_is;
   scope = λ k number is. in_scope (stands.scope k number is);
+  in_scope = λ c number b k is lives local.
+      let before = lived x lives in
+      stands.in_scope c number before.block k is before.lives (sym before.same.kind ∙ local);
   null_is = null;
+  null_alone = λ number b is of_null.
+      let before = was x number b is in
+      stands.null_alone number before.block before.is (sym before.same.kind ∙ of_null);
   opened = λ number b is. as_opened (stands.opened number b is);
   of_files = λ number b is of. was_opened number b of (was x number b is);
   locals = λ number b call k is local. of_local b call k local (was x number b is);

@@ -30,6 +30,12 @@ does_unit c {a} {room} {s} {Q} m now bounds output more =
     subst (λ r. Bounded (setting c) a room s Q r) (sym (outcome_of-unit m now))
     (ticks spent (λ then. outcome_of (m then)) bounds output more)
 
+-- With no work left, what begins with a unit of work is followed by no step.
+pub without_work : {A : Type 0} (c : Code) {a : Account} {room : A → Room} {s : State} {Q : A → MeaningState → State → Type 0} (m : Run A)
+    (now : MeaningState) → now.work ≡ 0 → Stands (setting c) a just now → s.outside.output ≡ now.output →
+    Bounded (setting c) a room s Q (outcome_of (unit_then m now))
+without_work c m now none bounds output = does_unit c m now bounds output (λ left some. absurd (omega (arith, none, some)))
+
 -- ---- following
 
 -- the code follows the tree as far as less work reaches
@@ -41,17 +47,16 @@ Follows-reach less follows = record {
   where
     again : {A : Type 0} {c : Code} {t : Tree A} {fewer : ℕ} {here : Context} {now : MeaningState} {s : State} → Does c t here now s →
         Does (record c { reach = fewer }) t here now s
-    again does = record { extra = does.extra; uncounted = does.uncounted; bounded = does.bounded }
+    again does = record { extra = does.extra; bounded = does.bounded }
 
 -- One tree asks no more than another: it begins where the other does, leaves no more of its bound, and promises no more.
 pub record AsksLess {A : Type 0} (c : Code) (t u : Tree A) : Type 0 where
   pub run : (here : Context) (now : MeaningState) → u.run here now ≡ t.run here now
   pub begins : (here : Context) (now : MeaningState) (s : State) → u.Begins here now s → t.Begins here now s
   pub before : u.before ≡ t.before
-  pub uncounted : (s : State) (extra : ℕ) → t.Uncounted s extra → u.Uncounted s extra
   pub room : (extra : ℕ) (value : A) → IsWider (t.room extra value) (u.room extra value)
-  pub completes : (here : Context) (s : State) (value : A) (then : MeaningState) (last : State) →
-      t.Completes here s value then last → u.Completes here s value then last
+  pub completes : (here : Context) (s : State) (extra : ℕ) (value : A) (then : MeaningState) (last : State) →
+      t.Completes here s extra value then last → u.Completes here s extra value then last
 
 -- code that follows a tree follows one that asks less
 pub Follows-less : {A : Type 0} {c : Code} {t u : Tree A} → AsksLess c t u → Follows c t → Follows c u
@@ -63,11 +68,11 @@ Follows-less {A} {c} {t} {u} less follows = record {
     weaker : (here : Context) (now : MeaningState) (s : State) → Does c t here now s → Does c u here now s
     weaker here now s does = record {
       extra = does.extra;
-      uncounted = less.uncounted s does.extra does.uncounted;
       bounded =
-          subst (λ r. Bounded (setting c) (later u.before (opened (setting c) now.work)) (u.room does.extra) s (u.Completes here s)
+          subst (λ r. Bounded (setting c) (later u.before (opened (setting c) now.work)) (u.room does.extra) s
+          (u.Completes here s does.extra)
           (outcome_of r))
           (sym (less.run here now))
           (changes (record { least = omega (arith, less.before); most = omega (arith, less.before) }) (less.room does.extra)
-          (less.completes here s) does.bounded);
+          (less.completes here s does.extra) does.bounded);
     }

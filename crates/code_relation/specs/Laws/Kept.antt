@@ -59,10 +59,13 @@ AreTwo-without r two =
 Stands-with : {g : Given} {here : Context} {now : MeaningState} (r : Rest) → Stands g here now → Stands g here (with_rest r now)
 Stands-with {g} {now = now} r stands = record {
   program_is = stands.program_is;
+  numbers = stands.numbers;
   calls = stands.calls;
   unit_is = stands.unit_is;
   scope = λ k number is. in_scope (stands.scope k number is);
+  in_scope = λ c number b k is lives local. stands.in_scope c number b k is (Lives-without r lives) local;
   null_is = stands.null_is;
+  null_alone = stands.null_alone;
   opened = λ number b is. as_opened (stands.opened number b is);
   of_files = stands.of_files;
   locals = λ number b call k is local. of_local (stands.locals number b call k is local);

@@ -59,18 +59,21 @@ StandsAt-back {c} {f} {p} xs ys stands = record {
 
 -- ---- what is not counted
 
-pub LeaveSteps-front : {p : Place} {s : State} {extra : ℕ} (xs ys : List SymItem) → LeaveSteps xs p s extra →
-    LeaveSteps (xs ++ ys) p s extra
+pub LeaveSteps-front : {p : Place} {s t : State} {extra : ℕ} (xs ys : List SymItem) → LeaveSteps xs p s t extra →
+    LeaveSteps (xs ++ ys) p s t extra
 LeaveSteps-front xs ys no_scope = no_scope
-LeaveSteps-front xs ys (scope k first last before r there steps pc) =
-    scope k first last before r (get_front xs ys k (item.LeaveScope first last) there) steps pc
+LeaveSteps-front xs ys (scope k first last n before jump r there behind to steps pc led few) =
+    scope k first last n before jump r (get_front xs ys k (item.LeaveScope first last) there)
+    (get_front xs ys (suc k) (item.Jump n) behind) to steps pc led few
 
 -- in the second part, to which steps have led
-pub LeaveSteps-back : {p : Place} {s t : State} {n : ℕ} (xs ys : List SymItem) {extra : ℕ} → Steps n s t →
-    LeaveSteps ys (from_item (length xs) p) t extra → LeaveSteps (xs ++ ys) p s extra
-LeaveSteps-back xs ys led no_scope = no_scope
-LeaveSteps-back {n = n} xs ys led (scope k first last before r there steps pc) =
-    scope (length xs + k) first last (n + before) r (get_back xs ys k (item.LeaveScope first last) there) (Steps-add led steps) pc
+pub LeaveSteps-back : {p : Place} {s t u : State} {made : ℕ} (xs ys : List SymItem) {extra : ℕ} → Steps made s t →
+    LeaveSteps ys (from_item (length xs) p) t u extra → LeaveSteps (xs ++ ys) p s u extra
+LeaveSteps-back xs ys first_led no_scope = no_scope
+LeaveSteps-back {made = made} xs ys first_led (scope k first last n before jump r there behind to steps pc led few) =
+    scope (length xs + k) first last n (made + before) jump r (get_back xs ys k (item.LeaveScope first last) there)
+    (get_at (xs ++ ys) (length xs + suc k) (suc (length xs + k)) (item.Jump n) (omega arith)
+    (get_back xs ys (suc k) (item.Jump n) behind)) to (Steps-add first_led steps) pc led few
 
 -- ---- an item where the function ends
 

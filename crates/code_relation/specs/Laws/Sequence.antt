@@ -24,15 +24,14 @@ pub record Joins {A B : Type 0} (c : Code) (first : Tree A) (rest : A → Tree B
   pub begins : (here : Context) (now : MeaningState) (s : State) → whole.Begins here now s → first.Begins here now s
   pub before : whole.before ≡ first.before
   pub before_rest : (a : A) → (rest a).before ≡ 0
-  pub meets : (here : Context) (s : State) (a : A) (then : MeaningState) (t : State) → first.Completes here s a then t →
-      Meets c rest here a then t
+  pub meets : (here : Context) (s : State) (a : A) (then : MeaningState) (t : State) (extra : ℕ) →
+      first.Completes here s extra a then t → Meets c rest here a then t
   -- the first leaves nothing over, and the whole no more than the second
   pub room_first : (extra : ℕ) (a : A) → IsWider (first.room extra a) just
   pub room_rest : (extra : ℕ) (a : A) (b : B) → IsWider ((rest a).room extra b) (whole.room extra b)
-  pub uncounted_first : (s : State) (extra : ℕ) → first.Uncounted s extra → whole.Uncounted s extra
-  pub uncounted_rest : (a : A) (n extra : ℕ) (s t : State) → Steps n s t → (rest a).Uncounted t extra → whole.Uncounted s extra
-  pub completes : (here : Context) (s : State) (a : A) (then : MeaningState) (t : State) (b : B) (last : MeaningState) (u : State) →
-      first.Completes here s a then t → (rest a).Completes here t b last u → whole.Completes here s b last u
+  pub completes : (here : Context) (s : State) (a : A) (then : MeaningState) (t : State) (b : B) (last : MeaningState) (u : State)
+      (before extra : ℕ) → first.Completes here s before a then t → (rest a).Completes here t extra b last u →
+      whole.Completes here s extra b last u
 
 abbrev outcome_at : (X : Type 0) → Stop → MeaningState → Outcome MeaningState Stop X
 outcome_at X why then = outcome_of (Stops why then)
@@ -42,14 +41,13 @@ module _ {A B : Type 0} {c : Code} {first : Tree A} {rest : A → Tree B} {whole
   -- the first has completed, in a state from which the second goes on
   second_does : (a : A) (then : MeaningState) (extra : ℕ) → first.run here now ≡ Goes a then →
       (r : Reaches (setting c) (later first.before (opened (setting c) now.work)) (first.room extra a) then.work s
-      (first.Completes here s a then)) →
+      (first.Completes here s extra a then)) →
       Does c (rest a) here then r.to → Does c whole here now s
   second_does a then extra is r does = record {
     extra = does.extra;
-    uncounted = joins.uncounted_rest a r.steps does.extra s r.to r.led.steps does.uncounted;
     bounded =
         subst (λ q. Bounded (setting c) (later whole.before (opened (setting c) now.work)) (whole.room does.extra) s
-        (whole.Completes here s) (outcome_of q))
+        (whole.Completes here s does.extra) (outcome_of q))
         (sym (joins.run here now ∙ ap (λ q. goes_on q (λ a. (rest a).run here)) is))
         (after r.led
         (changes
@@ -58,7 +56,7 @@ module _ {A B : Type 0} {c : Code} {first : Tree A} {rest : A → Tree B} {whole
           most = omega (arith, r.most, (joins.room_first extra a).wider, joins.before, joins.before_rest a);
         })
         (joins.room_rest does.extra a)
-        (λ b last u. joins.completes here s a then r.to b last u r.there)
+        (λ b last u. joins.completes here s a then r.to b last u extra does.extra r.there)
         does.bounded));
   }
 
@@ -66,14 +64,13 @@ module _ {A B : Type 0} {c : Code} {first : Tree A} {rest : A → Tree B} {whole
   stops_too : (why : Stop) (then : MeaningState) → first.run here now ≡ Stops why then → Does c first here now s → Does c whole here now s
   stops_too why then is does = record {
     extra = does.extra;
-    uncounted = joins.uncounted_first s does.extra does.uncounted;
     bounded =
         subst (λ q. Bounded (setting c) (later whole.before (opened (setting c) now.work)) (whole.room does.extra) s
-        (whole.Completes here s) (outcome_of q))
+        (whole.Completes here s does.extra) (outcome_of q))
         (sym (joins.run here now ∙ ap (λ q. goes_on q (λ a. (rest a).run here)) is))
         (by_stop why
         (subst (λ q. Bounded (setting c) (later first.before (opened (setting c) now.work)) (first.room does.extra) s
-        (first.Completes here s) (outcome_of q)) is does.bounded));
+        (first.Completes here s does.extra) (outcome_of q)) is does.bounded));
   }
     where
       account : Account
@@ -90,9 +87,9 @@ module _ {A B : Type 0} {c : Code} {first : Tree A} {rest : A → Tree B} {whole
           (λ u p. p) r
 
       by_stop : (why : Stop) →
-          Bounded (setting c) account (first.room does.extra) s (first.Completes here s) (outcome_at A why then) →
-          Bounded (setting c) (later whole.before (opened (setting c) now.work)) (whole.room does.extra) s (whole.Completes here s)
-          (outcome_at B why then)
+          Bounded (setting c) account (first.room does.extra) s (first.Completes here s does.extra) (outcome_at A why then) →
+          Bounded (setting c) (later whole.before (opened (setting c) now.work)) (whole.room does.extra) s
+          (whole.Completes here s does.extra) (outcome_at B why then)
       by_stop Divide bounded = record { does = over bounded.does }
       by_stop Deep bounded = record { does = over bounded.does }
       by_stop More bounded = record { does = wants bounded.does }
@@ -111,11 +108,11 @@ Follows-then {A} {B} {c} {first} {rest} {whole} joins pays one two =
     completed : (here : Context) (now : MeaningState) (s : State) → now.work ≤ c.reach → (a : A) (then : MeaningState) (extra : ℕ) →
         first.run here now ≡ Goes a then →
         (r : Reaches (setting c) (later first.before (opened (setting c) now.work)) (first.room extra a) then.work s
-        (first.Completes here s a then)) → Does c whole here now s
+        (first.Completes here s extra a then)) → Does c whole here now s
     completed here now s within a then extra is r =
         let less : then.work ≤ now.work =
         less_work c.per then.work now.work pays (omega (arith, r.most, (joins.room_first extra a).wider)) in
-        let meets = joins.meets here s a then r.to r.there in
+        let meets = joins.meets here s a then r.to extra r.there in
         second_does joins here now s a then extra is r
         ((two a).does here then r.to (omega (arith, less, within)) meets.relates meets.begins)
 
@@ -123,8 +120,8 @@ Follows-then {A} {B} {c} {first} {rest} {whole} joins pays one two =
         Does c first here now s → Does c whole here now s
     by_result here now s within (Goes a then) is does =
         let bounded : Bounded (setting c) (later first.before (opened (setting c) now.work)) (first.room does.extra) s
-        (first.Completes here s) (Completes a then) =
+        (first.Completes here s does.extra) (Completes a then) =
         subst (λ q. Bounded (setting c) (later first.before (opened (setting c) now.work)) (first.room does.extra) s
-        (first.Completes here s) (outcome_of q)) is does.bounded in
+        (first.Completes here s does.extra) (outcome_of q)) is does.bounded in
         completed here now s within a then does.extra is bounded.does
     by_result here now s within (Stops why then) is does = stops_too joins here now s why then is does

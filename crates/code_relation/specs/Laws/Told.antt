@@ -31,30 +31,28 @@ less_work per (suc left) (suc work) some less =
 pub record Completed {A : Type 0} (c : Code) (t : Tree A) (here : Context) (s : State) (a : A) (units : ℕ) (then : MeaningState) : Type 0
   where
     pub extra : ℕ
-    pub uncounted : t.Uncounted s extra
     pub steps : ℕ
     pub to : State
     pub led : StepsWithin c.Inside steps s to
     -- as many steps as units at least, and at most those that they pay for
     pub least : units ≤ t.before + steps
     pub most : t.before + steps + (t.room extra a).spare ≤ c.per * units + (t.room extra a).over
-    pub completes : t.Completes here s a then to
+    pub completes : t.Completes here s extra a then to
 
 pub Does-completed : {A : Type 0} {c : Code} {t : Tree A} {here : Context} {now : MeaningState} {s : State} (a : A) (units : ℕ)
     (then : MeaningState) → t.run here now ≡ Goes a then → now.work ≡ then.work + units → Does c t here now s →
     Completed c t here s a units then
 Does-completed {A} {c} {t} {here} {now} {s} a units then is work does =
-    let bounded : Bounded (setting c) (later t.before (opened (setting c) now.work)) (t.room does.extra) s (t.Completes here s)
+    let bounded : Bounded (setting c) (later t.before (opened (setting c) now.work)) (t.room does.extra) s (t.Completes here s does.extra)
     (Completes a then) =
-    subst (λ r. Bounded (setting c) (later t.before (opened (setting c) now.work)) (t.room does.extra) s (t.Completes here s)
+    subst (λ r. Bounded (setting c) (later t.before (opened (setting c) now.work)) (t.room does.extra) s (t.Completes here s does.extra)
     (outcome_of r)) is does.bounded in
     told bounded.does
   where
     told : Reaches (setting c) (later t.before (opened (setting c) now.work)) (t.room does.extra a) then.work s
-        (t.Completes here s a then) → Completed c t here s a units then
+        (t.Completes here s does.extra a then) → Completed c t here s a units then
     told r = record {
       extra = does.extra;
-      uncounted = does.uncounted;
       steps = r.steps;
       to = r.to;
       led = r.led;
@@ -79,6 +77,6 @@ pub more-runs : {A : Type 0} {c : Code} {t : Tree A} {here : Context} {now : Mea
     t.run here now ≡ Stops More then → t.before ≡ 0 → Does c t here now s → RunsOn (setting c) now.work s then
 more-runs {A} {c} {t} {here} {now} {s} then is none does =
     runs_on now.work (omega arith)
-    (subst (λ r. Bounded (setting c) (opened (setting c) now.work) (t.room does.extra) s (t.Completes here s) (outcome_of r)) is
-    (subst (λ before. Bounded (setting c) (later before (opened (setting c) now.work)) (t.room does.extra) s (t.Completes here s)
+    (subst (λ r. Bounded (setting c) (opened (setting c) now.work) (t.room does.extra) s (t.Completes here s does.extra) (outcome_of r)) is
+    (subst (λ before. Bounded (setting c) (later before (opened (setting c) now.work)) (t.room does.extra) s (t.Completes here s does.extra)
     (outcome_of (t.run here now))) none does.bounded))
