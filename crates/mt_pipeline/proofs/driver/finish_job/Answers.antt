@@ -95,7 +95,7 @@ returns-in-Mean-clause-answers g c =
     (objects g.S.Source g.K.Sink c.mean_sources.new.input c.mean_sources.new.out) in
     let options = mean_options c.in-Mean.options in
     let done = subst (λ (xs : List (Bor (List ℕ))). MeanAnswers (names_of xs) options before after (ended_of c.mean_sources.result))
-    c.deref-in-Mean.ensures.value c.mean_sources.ensures in
+    c.deref-in-Mean-2.ensures.value c.mean_sources.ensures in
     subst (λ (j : JobValue). Answers (job_is j) before after c.finish-in-Mean.result) (sym c.in-Mean.is)
     (subst (λ (e : Ended). MeanAnswers (names_of c.in-Mean.names.items) options before after e) (sym c.finish-in-Mean.ensures.ended) done)
 
