@@ -1,5 +1,5 @@
 -- What the four lists leave of the tags of live slots, as the injection has them (this project's own).
-use Rattle.std.specs.Prelude.{◌≡◌, ◌≢◌, ℕ, zero, suc, ◌+◌, ◌-◌, ◌*◌, ◌/◌, ◌%◌, ◌<◌, ◌≤◌, Bool, true, false, List, [], ◌∷◌, ◌++◌}
+use Rattle.std.specs.Prelude.{◌≡◌, ℕ, suc, ◌+◌, ◌*◌, ◌/◌, ◌<◌, ◌≤◌, true, List, [], ◌∷◌, ◌++◌}
 use Rattle.std.specs.Prelude.{slice_get, Some, refl}
 use Rattle.std.proofs.Common.{arith, ap, ◌∙◌, subst, inl, inr}
 use Rattle.std.proofs.lemmas.Bool.{cases_Bool}
@@ -14,7 +14,7 @@ use Rattle.a64_laws.specs.Laws.Effects.Stores.{tagged_outside}
 use Rattle.frame_layout.specs.declared.frame.Frame.{Frame}
 use Rattle.frame_layout.specs.declared.frame.Slot.{Slot}
 use Rattle.frame_layout.specs.WellFormed.{IsWellFormed}
-use Rattle.tag_plan.specs.Effects.{IsFrame, Entered, Exited, TagsSlots, LeavesSlots, HaveSlotTags, HaveNoTags, NoneHas}
+use Rattle.tag_plan.specs.Effects.{IsFrame, Entered, Exited, TagsSlots, LeavesSlots, HaveSlotTags, NoneHas}
 use Rattle.tag_plan.specs.Effects.{has_granule, AreNumbers}
 use Rattle.tag_plan.specs.Lists.{outer_tagged, listed, tagged_base}
 use Rattle.tag_plan.specs.Live.{HaveTheirs, LiveTags, AreApart}
