@@ -2,3 +2,4 @@ pub mod Empty
 mod OneStep
 pub mod SlotStates
 mod Slot
+mod Words
