@@ -3,3 +3,4 @@ mod OneStep
 pub mod SlotStates
 mod Slot
 mod Words
+mod Leaving

@@ -23,7 +23,7 @@ use Rattle.block_meaning.specs.declared.value.Value.TheVariants.{NoValue}
 use Rattle.block_meaning.specs.Blocks.{Block, ended}
 use Rattle.block_meaning.specs.Linkage.{function_named, type_of_local}
 use Rattle.block_meaning.specs.Meaning.{calls_at, frame_bytes, open_bytes, is_of_call, end_call}
-use Rattle.block_meaning.specs.Running.{Function, Call, Program, Context, Result, Goes, Stops, Stuck, Run, one_of, unit_then, stuck}
+use Rattle.block_meaning.specs.Running.{Function, Call, Program, Context, Goes, Run, one_of, unit_then}
 use Rattle.block_meaning.specs.Running.{State as MeaningState}
 use Rattle.code_runs.specs.Bounded.{later, Bounded}
 use Rattle.code_runs.specs.Laws.Bounded.{opened, done, after, unsaid}
@@ -105,7 +105,8 @@ pc_back : (s : State) → (puts_pc (s.register 30) s).pc ≡ s.register 30
 unfolding puts_pc
 pc_back s = refl
 
-no_arguments : (g : Given) (now : MeaningState) (s : State) (ts : List Ty) (vs : List Value) → ts ≡ [] → HasArguments g now s 0 ts vs → [] ≡ vs
+no_arguments : (g : Given) (now : MeaningState) (s : State) (ts : List Ty) (vs : List Value) → ts ≡ [] → HasArguments g now s 0 ts vs →
+    [] ≡ vs
 no_arguments g now s [] [] none has = refl
 no_arguments g now s [] (v ∷ vs) none has = absurd has
 no_arguments g now s (t ∷ ts) vs none has = absurd (cc)
