@@ -2,3 +2,5 @@ pub mod Empty
 mod OneStep
 pub mod SlotStates
 mod Slot
+mod Words
+mod Leaving

@@ -1,5 +1,5 @@
--- Declarations whose locals are new: what a scope declares is not in scope round it, and each only once (this project's own). The types of
--- the profile number each declaration anew.
+-- Declarations whose locals are new: what a scope declares is not in scope round it, and each only once (this project's own). No law says
+-- yet that typed trees are so.
 use Rattle.std.specs.Prelude.{◌≢◌, ℕ, List, [], ◌∷◌, ◌++◌, map, Option, Some, None}
 use Rattle.std.specs.List.{AllPairs, Contains}
 use Rattle.c_ast.specs.declared.token.Span.{Span}

@@ -9,5 +9,6 @@ pub mod Changing
 pub mod Writing
 pub mod Storing
 pub mod Keeps
+pub mod Called
 pub mod Calling
 pub mod Placing

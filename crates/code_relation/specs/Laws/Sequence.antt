@@ -11,7 +11,6 @@ use Rattle.code_relation.specs.Follows.{Code, setting, Tree, Does, Follows}
 use Rattle.code_relation.specs.Outcomes.{outcome_of}
 use Rattle.code_relation.specs.Relates.{Relates}
 use Rattle.code_relation.specs.Laws.Told.{less_work}
-use Rattle.mte_machine.specs.Run.{Steps}
 
 -- where the first has completed, the second begins, of states that are related
 pub record Meets {A B : Type 0} (c : Code) (rest : A → Tree B) (here : Context) (a : A) (then : MeaningState) (t : State) : Type 0 where
