@@ -7,3 +7,4 @@ pub mod Scopes
 pub mod Entering
 pub mod Pointers
 pub mod Lengths
+pub mod Live

@@ -1,4 +1,5 @@
 pub mod Lists
 pub mod Effects
+pub mod Live
 pub mod Stretches
 pub mod Laws
