@@ -6,7 +6,7 @@
 
 It needs Debian's gcc-aarch64-linux-gnu and qemu-user. The frames are those of C functions: some at the edges, and others
 drawn from a seed. The words of their lists come from `tag_plan`, by `rt try` of plan_rows; what they leave comes from
-run.c under qemu-aarch64 -cpu max, tags, registers and bytes.
+run.c under qemu-aarch64 -cpu max, tags, registers and bytes. The tags are compared with those that the rules give.
 """
 import random
 import subprocess
@@ -27,7 +27,8 @@ class Frame:
     """A function with its locals, and the calls to make for it. Slot 0 is the parameter, which is safe."""
 
     def __init__(self):
-        self.text, self.calls, self.slots, self.scopes = "", ["entry"], [False], []
+        self.text, self.calls, self.scopes = "", ["entry"], []
+        self.slots = [(0, False)]  # of each slot the bytes, 0 where it is safe, and whether it is of an inner scope
 
     def tagged(self, size):
         name = f"a{len(self.slots)}"
@@ -35,11 +36,11 @@ class Frame:
         if self.scopes:
             self.scopes[-1].append(len(self.slots))
             self.calls.append(f"enter:{len(self.slots)}")
-        self.slots.append(True)
+        self.slots.append((size, bool(self.scopes)))
 
     def safe(self, kind):
         self.text += f"{kind} s{len(self.slots)};"
-        self.slots.append(False)
+        self.slots.append((0, False))
 
     def open(self):
         self.text += "{"
@@ -168,11 +169,53 @@ def states_of(listed):
     return states
 
 
+def runs(tags):
+    """Tags of granules as rows have them."""
+    told, last, count = [], None, 0
+    for tag in [*tags, None]:
+        if tag != last and count:
+            told.append(f"{last:X}x{count:X}")
+            count = 0
+        last, count = tag, count + 1
+    return ",".join(told)
+
+
+def tags_by_the_rules(frame, size, base):
+    """The tags after each call, by docs/TAGGING.md: the tagged slots end where the frame does, and 0 is left out."""
+    granules = [-(-slot_bytes // 16) for slot_bytes, _ in frame.slots]
+    numbers = [number for number, count in enumerate(granules) if count]
+    place = size // 16 - sum(granules)
+    where = {}
+    for index, number in enumerate(numbers):
+        where[number] = (place, granules[number], (base - 1 + index % 15) % 15 + 1)
+        place += granules[number]
+    live, found = set(), []
+    for call in frame.calls:
+        name, *rest = call.split(":")
+        if name == "entry":
+            live = {number for number in numbers if not frame.slots[number][1]}
+        elif name == "enter":
+            live.add(int(rest[0]))
+        elif name == "leave":
+            live -= set(range(int(rest[0]), int(rest[1]) + 1))
+        elif name == "exit":
+            live = set()
+        tags = [0] * (size // 16)
+        for number in live:
+            start, count, tag = where[number]
+            tags[start:start + count] = [tag] * count
+        found.append(runs([3] * 16 + tags + [3] * 16))
+    return found
+
+
 def rows():
     source = random.Random(SEED)
     frames = edges() + [drawn(source) for _ in range(FRAMES)]
     text = HEAD
-    for frame, (tag, states) in zip(frames, states_of(words_of(frames))):
+    listed = words_of(frames)
+    for frame, (size, _), (tag, states) in zip(frames, listed, states_of(listed)):
+        for call, state, tags in zip(frame.calls, states, tags_by_the_rules(frame, size, tag or 1)):
+            assert f" tags={tags} " in f" {state}", (frame.question(f"{tag:X}"), call, state, tags)
         text += f"{frame.question(f'{tag:X}')} => {' / '.join(states)}\n"
     return text
 
@@ -187,4 +230,5 @@ def main():
         sys.exit(f"{path} has other rows: {sys.argv[0]} --write")
 
 
-main()
+if __name__ == "__main__":
+    main()
