@@ -17,7 +17,7 @@ from pathlib import Path
 FOLDER = Path(__file__).parent
 CRATE = FOLDER.parent.parent / "crates/plan_rows"
 SEED = 20261202
-FRAMES = 120
+FRAMES = 80
 HEAD = """# What the code that tags a frame leaves after each of its calls, run under qemu (`-cpu max`). Made by
 # `tools/plan-vectors/make.py`.
 """
@@ -216,7 +216,8 @@ def rows():
     for frame, (size, _), (tag, states) in zip(frames, listed, states_of(listed)):
         for call, state, tags in zip(frame.calls, states, tags_by_the_rules(frame, size, tag or 1)):
             assert f" tags={tags} " in f" {state}", (frame.question(f"{tag:X}"), call, state, tags)
-        text += f"{frame.question(f'{tag:X}')} => {' / '.join(states)}\n"
+        shown = [state for call, state in zip(frame.calls, states) if not call.startswith("at:")]
+        text += f"{frame.question(f'{tag:X}')} => {' / '.join(shown)}\n"
     return text
 
 

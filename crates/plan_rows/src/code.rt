@@ -11,7 +11,9 @@ pub const FACTOR: u64 = 0x9E37_79B9_7F4A_7C15;
 
 /// Stores X0 to X30 and SP at 4,096 bytes below SP.
 const BELOW_SP: u32 = 0xD140_07FF; // sub sp, sp, #1, lsl #12
+
 const STORE_X0: u32 = 0xF900_03E0; // str x0, [sp]
+
 const STORE_SP: [u32; 2] = [
     0x9100_03E0, // add x0, sp, #0
     0xF900_7FE0, // str x0, [sp, #248]

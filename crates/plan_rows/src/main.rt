@@ -1,6 +1,6 @@
 //! Compares rows of frames with what the code that tags them does on the machine. A row is
 //!
-//!     "SOURCE" TAG CALLS => STATE / STATE ..     what stands after each call, by a processor
+//!     "SOURCE" TAG CALLS => STATE / STATE ..     what stands after each call but `at`, by a processor
 //!     "SOURCE" TAG CALLS => words                asks for the bytes of the frame and the words of each call's list
 //!
 //! SOURCE is a C source with one function, TAG the tag that is drawn, a hexadecimal digit, and a call is one of

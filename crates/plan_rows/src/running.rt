@@ -24,12 +24,7 @@ const AROUND: u64 = 256;
 const MOST: u64 = 10_000_000;
 
 /// A region of as many bytes of zero, which may be written and executed as is said.
-fn region(
-    alloc: Global,
-    start: u64,
-    count: usize,
-    executable: bool,
-) -> Result<Region, AllocError>
+fn region(alloc: Global, start: u64, count: usize, executable: bool) -> Result<Region, AllocError>
     ensures { IfOk result (λ r. extent_of r ≡ record { start = start; bytes = count; writable = true; executable = executable }) }
 {
     Ok(Region {
@@ -82,13 +77,7 @@ pub fn state_after(
     let from = sp.saturating_sub(AROUND);
     let granules = (TOP + AROUND).saturating_sub(from) / 16;
     let code = around(alloc, words, from, granules)?;
-    let mut machine = Machine::new(
-        memory(alloc, &code, sp)?,
-        CODE,
-        sp,
-        vec![in alloc; tag]?,
-        0,
-    );
+    let mut machine = Machine::new(memory(alloc, &code, sp)?, CODE, sp, vec![in alloc; tag]?, 0);
     let mut source = MemSource::new(Vec::new(alloc), Vec::new(alloc));
     let mut sink = MemSink::new(alloc, MOST, Vec::new(alloc))?;
     match machine.run(&mut source, &mut sink, MOST) {

@@ -127,9 +127,9 @@ exited-live low choice f live s t well frame lowest left rising before = record 
     | inl here ↦ exited-clear f s t well frame left cleared granule here
     | inr elsewhere ↦ ap (λ (tags : ℕ → ℕ). tags granule) left.tags
         ∙ tagged_outside (granules_from well.first f) s.tag (s.sp + well.first) 0 granule
-            (grind (arith, nat_tests, frame.aligned, well.first_whole, well.whole, reaches, below, elsewhere))
+        (grind (arith, nat_tests, frame.aligned, well.first_whole, well.whole, reaches, below, elsewhere))
         ∙ before.outside granule there below
-            (first granule (grind (arith, nat_tests, frame.aligned, well.first_least, well.whole, below, elsewhere)))
+        (first granule (grind (arith, nat_tests, frame.aligned, well.first_least, well.whole, below, elsewhere)))
   ];
 }
   where
