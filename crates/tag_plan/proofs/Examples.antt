@@ -1,8 +1,8 @@
--- The lists of a small frame: `a` and `b` of 16 bytes at 48 and 64 are tagged, `i` at 40 is not, and `c` of 160 bytes at 80 is of an inner scope.
-use Rattle.std.specs.Prelude.{ℕ, ◌-◌, ◌^◌, List, [], ◌∷◌}
+-- The lists of a small frame: `a` and `b` of 16 bytes at 48 and 64 are tagged, `i` at 40 is not, and `c` of 160 bytes
+-- at 80 is of an inner scope.
+use Rattle.std.specs.Prelude.{ℕ, ◌-◌, ◌^◌, [], ◌∷◌}
 use Rattle.std.proofs.Common.{◌≡◌, refl, true, false}
 use Rattle.slot_safety.specs.declared.kind.Kind.TheVariants.{Safe, Tagged}
-use Rattle.a64_code.specs.declared.instr.Instr.{Instr}
 use Rattle.a64_code.specs.declared.instr.Instr.TheVariants.{AddImm, Addg, Cbnz, Irg, Ldr, Movz, Stg, St2g, Str, SubImm}
 use Rattle.a64_code.specs.declared.instr.Reg.{Reg}
 use Rattle.frame_layout.specs.declared.frame.Frame.{Frame}

@@ -1,5 +1,5 @@
--- The tags of a frame whose locals come and go, as the injection has them (this project's own): the granules of a live tagged slot have its
--- tag, and all other granules of the stack have tag 0, below SP too.
+-- The tags of a frame whose locals come and go, as the injection has them (this project's own): the granules of a live tagged slot have
+-- its tag, and all other granules of the stack have tag 0, below SP too.
 use Rattle.std.specs.Prelude.{◌≡◌, ℕ, ◌+◌, ◌*◌, ◌<◌, ◌≤◌, true, List, [], ◌∷◌}
 use Rattle.mt_base.specs.Tags.{slot_tag}
 use Rattle.frame_layout.specs.declared.frame.Slot.{Slot}

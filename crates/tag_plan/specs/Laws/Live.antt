@@ -1,5 +1,5 @@
 -- What the four lists leave of the tags of live slots, as the injection has them (this project's own).
-use Rattle.std.specs.Prelude.{◌≡◌, ◌≢◌, ℕ, zero, suc, ◌+◌, ◌-◌, ◌*◌, ◌/◌, ◌%◌, ◌<◌, ◌≤◌, Bool, true, false, List, [], ◌∷◌, ◌++◌}
+use Rattle.std.specs.Prelude.{◌≡◌, ℕ, suc, ◌+◌, ◌*◌, ◌/◌, ◌<◌, ◌≤◌, true, List, [], ◌∷◌, ◌++◌}
 use Rattle.std.specs.Prelude.{slice_get, Some, refl}
 use Rattle.std.proofs.Common.{arith, ap, ◌∙◌, subst, inl, inr}
 use Rattle.std.proofs.lemmas.Bool.{cases_Bool}
@@ -14,7 +14,8 @@ use Rattle.a64_laws.specs.Laws.Effects.Stores.{tagged_outside}
 use Rattle.frame_layout.specs.declared.frame.Frame.{Frame}
 use Rattle.frame_layout.specs.declared.frame.Slot.{Slot}
 use Rattle.frame_layout.specs.WellFormed.{IsWellFormed}
-use Rattle.tag_plan.specs.Effects.{IsFrame, Entered, Exited, TagsSlots, LeavesSlots, HaveSlotTags, HaveNoTags, NoneHas, has_granule, AreNumbers}
+use Rattle.tag_plan.specs.Effects.{IsFrame, Entered, Exited, TagsSlots, LeavesSlots, HaveSlotTags, NoneHas}
+use Rattle.tag_plan.specs.Effects.{has_granule, AreNumbers}
 use Rattle.tag_plan.specs.Lists.{outer_tagged, listed, tagged_base}
 use Rattle.tag_plan.specs.Live.{HaveTheirs, LiveTags, AreApart}
 use Rattle.tag_plan.specs.Laws.Frames.{entered-tags, exited-clear, granules_from}
@@ -50,7 +51,8 @@ theirs-each : (sp choice : ℕ) (ss : List Slot) (tags : ℕ → ℕ) →
     tags granule ≡ slot_tag choice s.index) → HaveTheirs sp choice ss tags
 theirs-each sp choice [] tags each = tt
 theirs-each sp choice (s ∷ ss) tags each =
-    (λ granule inside. each 0 s granule refl inside, theirs-each sp choice ss tags (λ k x granule is inside. each (suc k) x granule is inside))
+    let rest = theirs-each sp choice ss tags (λ k x granule is inside. each (suc k) x granule is inside) in
+    (λ granule inside. each 0 s granule refl inside, rest)
 
 -- what changes no granule of the slots keeps their tags
 theirs-kept : (sp choice : ℕ) (ss others : List Slot) (before after : ℕ → ℕ) → AreApart sp ss others →
@@ -79,7 +81,8 @@ entered-live low f s t well frame entered before = record {
 
 -- its slots are entered, where X28 has the base tag
 pub entering-live : (low choice number : ℕ) (f : Frame) (live : List Slot) (ks : List ℕ) (s t : State) → IsWellFormed f →
-    AreNumbers f.slots number ks → IsFrame f.bytes s → TagsSlots (listed f.slots ks) s t → tag_of (s.register tagged_base.0) ≡ base choice →
+    AreNumbers f.slots number ks → IsFrame f.bytes s → TagsSlots (listed f.slots ks) s t →
+    tag_of (s.register tagged_base.0) ≡ base choice →
     AreApart s.sp live (listed f.slots ks) → LiveTags low s.sp f.bytes choice live s.tag →
     LiveTags low s.sp f.bytes choice (live ++ listed f.slots ks) t.tag
 entering-live low choice number f live ks s t well numbers frame entered drawn apart before = record {
@@ -92,7 +95,8 @@ entering-live low choice number f live ks s t well numbers frame entered drawn a
 }
   where
     have : HaveSlotTags s.sp (base choice) (listed f.slots ks) s.tag t.tag
-    have = subst (λ tag. HaveSlotTags s.sp tag (listed f.slots ks) s.tag t.tag) drawn (entering-tags f number ks s t well numbers frame entered)
+    have = subst (λ tag. HaveSlotTags s.sp tag (listed f.slots ks) s.tag t.tag) drawn
+        (entering-tags f number ks s t well numbers frame entered)
 
 -- a granule that one of some slots has, or none
 gone_tag : (sp granule : ℕ) (gone : List Slot) (tags : ℕ → ℕ) →
@@ -119,7 +123,8 @@ leaving-live low bytes choice live gone s t left apart before = record {
 
 -- no granule of the frame has a tag after it, nor one below SP, whichever of the tagged slots were live
 pub exited-live : (low choice : ℕ) (f : Frame) (live : List Slot) (s t : State) (well : IsWellFormed f) → IsFrame f.bytes s →
-    16 * low ≤ s.sp → Exited well.first (granules_from well.first f) s t → Rising well.first live f.bytes → LiveTags low s.sp f.bytes choice live s.tag →
+    16 * low ≤ s.sp → Exited well.first (granules_from well.first f) s t → Rising well.first live f.bytes →
+    LiveTags low s.sp f.bytes choice live s.tag →
     LiveTags low s.sp f.bytes choice [] t.tag
 exited-live low choice f live s t well frame lowest left rising before = record {
   inside = tt;
@@ -142,4 +147,5 @@ exited-live low choice f live s t well frame lowest left rising before = record 
     cleared : (g : ℕ) → is_between (granule_of s.sp) (well.first / 16) g ≡ true → s.tag g ≡ 0
     cleared g inside =
         let before_first : 16 * g < s.sp + well.first = grind (arith, nat_tests, frame.aligned, well.first_whole, inside) in
-        before.outside g (grind (arith, nat_tests, frame.aligned, lowest, inside)) (omega (arith, before_first, reaches)) (first g before_first)
+        before.outside g (grind (arith, nat_tests, frame.aligned, lowest, inside)) (omega (arith, before_first, reaches))
+        (first g before_first)
