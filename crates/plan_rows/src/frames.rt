@@ -45,10 +45,11 @@ fn of_typed(alloc: Global, typed: &Typed) -> Option<Frame>
     requires bytes { HaveBytes typed.now.structs }
     ensures { IfSome result IsWellFormed }
 {
-    let [function] = typed.functions.as_slice() else {
+    let functions = typed.functions.as_slice();
+    if functions.len() != 1 {
         return None;
-    };
-    match layout(alloc, function, typed.structs.as_slice()) {
+    }
+    match layout(alloc, &functions[0], typed.structs.as_slice()) {
         Ok(frame) => Some(frame),
         Err(_) => None,
     }
