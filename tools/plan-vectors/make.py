@@ -5,8 +5,8 @@
     tools/plan-vectors/make.py --write   writes the rows
 
 It needs Debian's gcc-aarch64-linux-gnu and qemu-user. The frames are those of C functions: some at the edges, and others
-drawn from a seed. The words of their lists come from `tag_plan`, by `rt try` of plan_rows; what they leave comes from
-run.c under qemu-aarch64 -cpu max, tags, registers and bytes. The tags are compared with those that the rules give.
+drawn from a seed. The words of their lists come from `tag_plan`, by the program plan_rows as `rt ci` built it, or by `rt try`
+where it did not; what they leave comes from run.c under qemu-aarch64 -cpu max, tags, registers and bytes. The tags are compared with those that the rules give.
 """
 import random
 import subprocess
@@ -132,7 +132,8 @@ def drawn(source):
 def words_of(frames):
     """For each frame its bytes and the words of its lists."""
     questions = "".join(f"{frame.question('1')} => words\n" for frame in frames)
-    command = ["rt", "try", "plan_rows"]
+    built = CRATE / "out/plan_rows"
+    command = [built] if built.exists() else ["rt", "try", "plan_rows"]
     done = subprocess.run(command, input=questions, capture_output=True, text=True, cwd=CRATE)
     answers = [line for line in done.stdout.splitlines() if line.endswith(", not words")]
     assert len(answers) == len(frames), done.stdout[-2000:] + done.stderr[-2000:]
