@@ -138,10 +138,12 @@ pub fn are_same(alloc: Global, files: &mut MemFiles, row: &str) -> Result<String
     let [first, second] = words.as_slice() else {
         return String::from_str(alloc, "no names");
     };
-    let answer = match (files.read(alloc, first), files.read(alloc, second)) {
-        (ReadAnswer::Got(bytes), ReadAnswer::Got(others)) if bytes == others => "yes",
-        (ReadAnswer::Got(_), ReadAnswer::Got(_)) => "no",
-        _ => "not read",
+    let ReadAnswer::Got(bytes) = files.read(alloc, first) else {
+        return String::from_str(alloc, "not read");
     };
+    let ReadAnswer::Got(others) = files.read(alloc, second) else {
+        return String::from_str(alloc, "not read");
+    };
+    let answer = if bytes == others { "yes" } else { "no" };
     String::from_str(alloc, answer)
 }
