@@ -1,0 +1,2 @@
+//! The symbolic code of statements.
+#![tactic(auto)]
