@@ -1,6 +1,7 @@
 -- The words of symbolic items where they stand: instructions, some of which wait for the address of a symbol (ELF for the Arm 64-bit
 -- architecture). Places are counted in words from the function's start.
-use Rattle.std.specs.Prelude.{ℕ, ◌+◌, ◌-◌, nat_le, Bool, true, false, List, [], ◌∷◌, length, map, Option, Some, None, slice_get, if◌then◌else◌}
+use Rattle.std.specs.Prelude.{ℕ, ◌+◌, ◌-◌, nat_le, Bool, true, false, List, [], ◌∷◌, length, map, Option, Some, None}
+use Rattle.std.specs.Prelude.{slice_get, if◌then◌else◌}
 use Rattle.a64_code.specs.declared.instr.Instr.{Instr}
 use Rattle.a64_code.specs.declared.instr.Instr.TheVariants.{AddImm, Adrp, Bl, Ldr}
 use Rattle.a64_code.specs.declared.instr.Reg.{Reg}
