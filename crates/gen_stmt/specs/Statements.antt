@@ -11,6 +11,7 @@ use Rattle.c_type_base.specs.declared.statement.TItem.TheOpen.{TItem-F, TStmt-F}
 use Rattle.c_type_base.specs.declared.statement.TItem.TheFolds.{fold-TItem, fold-TStmt}
 use Rattle.c_type_base.specs.declared.typed.StructInfo.{StructInfo}
 use Rattle.a64_code.specs.declared.instr.Instr.TheVariants.{Nop}
+use Rattle.a64_code.specs.declared.instr.Reg.{Reg}
 use Rattle.a64_laws.specs.Constants.{constant_moves}
 use Rattle.block_meaning.specs.Statements.{local_of}
 use Rattle.frame_layout.specs.declared.frame.Frame.{Frame}
@@ -38,15 +39,15 @@ condition structs f (Some e) = Some (value structs f e)
 
 -- ---- declarations
 
--- the value is stored in a local: through its place where it is out of reach from SP
-abbrev pub store_local : ℕ → Ty → Option ℕ → Code
-store_local k ty (Some start) = plain (store_scalar ty (OnStack start) result ∷ [])
-store_local k ty None = in_turn (only (item.SlotAddress k scratch) ∷ plain (store_scalar ty (Behind scratch) result ∷ []) ∷ [])
+-- a register is stored in a local: through its place where it is out of reach from SP
+abbrev pub store_local : ℕ → Ty → Option ℕ → Reg → Code
+store_local k ty (Some start) r = plain (store_scalar ty (OnStack start) r ∷ [])
+store_local k ty None r = in_turn (only (item.SlotAddress k scratch) ∷ plain (store_scalar ty (Behind scratch) r ∷ []) ∷ [])
 
 -- an initialiser spends a unit of work first
 abbrev pub one_init : List StructInfo → Frame → ℕ → TExpr → Code
 one_init structs f k e =
-    in_turn (plain (Nop ∷ []) ∷ value structs f e ∷ store_local k e.ty (reached e.ty (slice_get f.slots k)) ∷ [])
+    in_turn (plain (Nop ∷ []) ∷ value structs f e ∷ store_local k e.ty (reached e.ty (slice_get f.slots k)) result ∷ [])
 
 abbrev pub init_code : List StructInfo → Frame → ℕ → TInit-F TInit → Code
 init_code structs f k (TInit-F.One e) = one_init structs f k e

@@ -1,0 +1,4 @@
+pub mod Words
+pub mod Labels
+pub mod Functions
+pub mod Units

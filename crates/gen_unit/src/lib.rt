@@ -1,0 +1,6 @@
+//! The code of a translation unit: the words of its functions, and what they want of the linker.
+#![tactic(auto)]
+
+mod parts;
+
+pub use parts::{CodeReloc, CodeTarget, Place, UnitCode};
