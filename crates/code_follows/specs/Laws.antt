@@ -4,6 +4,5 @@ pub mod Walking
 pub mod Coming
 pub mod Going
 pub mod Computing
-pub mod Wrapping
 pub mod Nodes
 pub mod Whole
