@@ -1,0 +1,3 @@
+pub mod Computing
+pub mod Numbers
+pub mod Arithmetic
