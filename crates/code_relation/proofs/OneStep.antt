@@ -67,9 +67,9 @@ paid : (per work left : ℕ) → work ≡ suc left → 1 ≤ per → 1 + per * o
 paid per zero left is pays = absurd (omega (arith, is))
 paid per (suc work) left is pays = omega (arith, pays, product_split per work 1)
 
-pause_follows : (c : Code) (f : Function) (p : Place) → StandsAt c f p (item.Plain Nop ∷ []) → p.at 0 + 4 < 2 ^ 64 → 1 ≤ c.per →
+pause_follows : (c : Code) (f : Function) (p : Place) → StandsAt c f p (item.Plain Nop ∷ []) → 1 ≤ c.per →
     Follows c (pause c (p.at 0) (p.at 1))
-pause_follows c f p stands fits pays =
+pause_follows c f p stands pays =
     record { does = λ here now s within relates begins. by_instr (stands.acts 0 (item.Plain Nop) refl) here now s relates begins }
   where
     one : HasInstr c (p.at 0) Nop → (here : Context) (now : MeaningState) (s : State) → Relates c.given here now s → s.pc ≡ p.at 0 →
@@ -93,5 +93,5 @@ pause_follows c f p stands fits pays =
                 least = omega (arith, rest now.work left work, work);
                 most = omega (arith, paid c.per now.work left work pays);
               })
-              (related c steps relates, next_pc s (p.at 0) begins fits ∙ sym acts.1)));
+              (related c steps relates, next_pc s (p.at 0) begins (omega (arith, acts.0.below)) ∙ sym acts.1)));
         }

@@ -1,6 +1,6 @@
 -- Symbolic code where it stands: what each item does there, in however many instructions (this project's own). What is said of code is
 -- said of each way in which it may stand.
-use Rattle.std.specs.Prelude.{◌≡◌, ◌≢◌, ℕ, suc, ◌+◌, ◌*◌, ◌/◌, ◌≤◌, List, [], slice_get, Option, Some, None}
+use Rattle.std.specs.Prelude.{◌≡◌, ◌≢◌, ℕ, suc, ◌+◌, ◌*◌, ◌/◌, ◌^◌, ◌<◌, ◌≤◌, List, [], slice_get, Option, Some, None}
 use Rattle.a64_code.specs.declared.instr.Instr.{Instr}
 use Rattle.a64_code.specs.declared.instr.Reg.{Reg}
 use Rattle.a64_code.specs.State.{State, general, at_pc}
@@ -59,8 +59,9 @@ pub record IsAt (c : Code) (at : ℕ) (s : State) : Type 0 where
 
 -- ---- instructions and jumps
 
--- an instruction stands there, and its effect is the next step
+-- an instruction stands there, at an address of 56 bits, and its effect is the next step
 pub record HasInstr (c : Code) (at : ℕ) (instr : Instr) : Type 0 where
+  pub below : at < 2 ^ 56
   pub inside : (s : State) → IsAt c at s → c.Inside s
   pub is : (s : State) → IsAt c at s → fetched s ≡ Some instr
 

@@ -1,5 +1,7 @@
 -- Lists of instructions that compute a number into a register (this project's own).
 use Rattle.std.specs.Prelude.{◌≡◌, ◌≢◌, ℕ, ◌^◌, ◌<◌, ◌≤◌, List, length}
+use Rattle.c_ast.specs.declared.int_type.IntType.{IntType}
+use Rattle.c_type_base.specs.Conversions.{promoted, wrap}
 use Rattle.a64_code.specs.declared.instr.Instr.{Instr}
 use Rattle.a64_code.specs.declared.instr.Reg.{Reg}
 use Rattle.a64_code.specs.State.{State}
@@ -44,3 +46,11 @@ pub record Operands (r : Reg) (a b : ℕ) (s : State) : Type 0 where
   pub second : s.register r.0 ≡ b
   pub first_fits : a < 2 ^ 64
   pub second_fits : b < 2 ^ 64
+
+-- a number is a value of a type
+abbrev pub IsOf : IntType → ℕ → Type 0
+IsOf t n = n ≡ wrap t n
+
+-- a type in which operators compute: int, long, and the unsigned ones
+abbrev pub IsPromoted : IntType → Type 0
+IsPromoted t = promoted t ≡ t

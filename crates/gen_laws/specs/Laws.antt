@@ -1,3 +1,6 @@
 pub mod Computing
 pub mod Numbers
 pub mod Arithmetic
+pub mod Bitwise
+pub mod Comparisons
+pub mod Shifts

@@ -99,9 +99,9 @@ returns_behind {g} {here} {s} {v} {then} {u} a from is fits returns = record {
 -- Where a branch with the link stands, and the words of a function that is defined in the same file stand where it goes and follow it, the
 -- branch is a call of that function.
 pub Calls-words : (c : Code) (f : Function) (n from : ℕ) (way : Way) → HasInstr c from (jump_instr Linked way) → IsInReach 26 from way →
-    from + 4 < 2 ^ 64 → length (types_of (function_named (units_of c.given) (function_of f.unit n))) ≤ 30 →
+    length (types_of (function_named (units_of c.given) (function_of f.unit n))) ≤ 30 →
     WordsFollow c (function_of f.unit n) (goes_to from way) → Calls c f from (from + 4) (callee.Function n)
-Calls-words c f n from way has reach fits few words = record {
+Calls-words c f n from way has reach few words = record {
   follows = λ bound around vs of_calls. record {
     does = λ here now s within relates begins.
         by_work bound around vs of_calls here now s within relates begins now.work refl;
@@ -139,7 +139,7 @@ Calls-words c f n from way has reach fits few words = record {
               (same_run bound around vs of_calls here now unit)
               (after (StepsWithin-one steps (has.inside s is_at))
               (changes (record { least = omega arith; most = omega arith }) (λ v. IsWider-same (call_room vs))
-              (λ v then u. returns_behind a from pc fits) does.bounded));
+              (λ v then u. returns_behind a from pc (omega (arith, has.below))) does.bounded));
         }
       where
         same_run : (bound : ℕ) (around : Site) (vs : List Value) → around.calls ≡ calls_at bound → (here : Context) (now : MeaningState) →

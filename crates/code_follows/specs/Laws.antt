@@ -1,0 +1,9 @@
+pub mod Layers
+pub mod Lying
+pub mod Walking
+pub mod Coming
+pub mod Going
+pub mod Computing
+pub mod Wrapping
+pub mod Nodes
+pub mod Whole

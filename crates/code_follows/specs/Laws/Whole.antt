@@ -1,0 +1,158 @@
+-- The code of each expression that is covered does what it means, where that of each node does (this project's own). By the number of
+-- levels, and the derivation that the expression is in order.
+use Rattle.std.specs.Prelude.{◌≡◌, ℕ, zero, suc, Bool, true, false, ◌&&◌, not, List, map, refl}
+use Rattle.std.proofs.Common.{ap, sym, subst, ◌∙◌}
+use Rattle.std.proofs.lemmas.Bool.{eqb-true}
+use Rattle.c_type_base.specs.Laws.Opened.{given_typed}
+use Rattle.c_type_base.specs.Types.{is_struct}
+use Rattle.c_type_base.specs.declared.expr.TExpr.{TExpr}
+use Rattle.c_type_base.specs.declared.expr.TNode.{out-TNode}
+use Rattle.c_type_base.specs.declared.expr.TNode.TheFolds.{fold_out-TNode, fold_out-TExpr}
+use Rattle.c_type_base.specs.declared.ty.Ty.{Ty}
+use Rattle.frame_layout.specs.Needs.{need}
+use Rattle.block_meaning.specs.Running.{stuck}
+use Rattle.gen_expr.specs.Coded.{Emits}
+use Rattle.block_meaning.specs.Expressions.{NodeLayer, parts_at}
+use Rattle.block_meaning.specs.ExpressionsInOrder as order
+use Rattle.block_meaning.specs.ExpressionsInOrder.{HasValue, Designates, Arguments}
+use Rattle.code_follows.specs.Covered.{NodeCovered, all_covered, node_covered, expr_covered, covered, layer_covered}
+use Rattle.code_follows.specs.Nodes.{AllFollow, Nodes}
+use Rattle.code_follows.specs.Layers.{layer_code}
+use Rattle.code_follows.specs.Parts.{Result, Part, ValuePart, too_deep, PlacePart, ValueFollows, PlaceFollows, ValueNode, PlaceNode}
+use Rattle.code_follows.specs.Scene.{Scene, calls_in, structs_in, frame_in}
+use Rattle.code_follows.specs.Laws.Going.{Goes-stuck, Part-by}
+use Rattle.code_follows.specs.Laws.Layers.{coded-is, need-is}
+
+covered-is : (e : TExpr) → covered e ≡ layer_covered (out-TNode e.node) e.ty
+unfolding given_typed
+covered-is e =
+    fold_out-TExpr NodeCovered Bool node_covered expr_covered e
+    ∙ ap (λ (n : NodeCovered). n e.ty) (fold_out-TNode NodeCovered Bool node_covered expr_covered e.node)
+
+first_of : (a b : Bool) → (a && b) ≡ true → a ≡ true
+first_of true b both = refl
+first_of false b both = absurd (cc)
+
+second_of : (a b : Bool) → (a && b) ≡ true → b ≡ true
+second_of true b both = both
+second_of false b both = absurd (cc)
+
+is_false : (b : Bool) → not b ≡ true → b ≡ false
+is_false true is = absurd (cc)
+is_false false is = refl
+
+-- what is shown with so many levels below
+pub record Below (k : Scene) (depth : ℕ) : Type 0 where
+  pub value : (e : TExpr) → HasValue k.scope e.ty (out-TNode e.node) → covered e ≡ true → ValueFollows k depth e
+  pub place : (e : TExpr) → Designates k.scope e.ty (out-TNode e.node) → covered e ≡ true → PlaceFollows k depth e
+
+module _ {k : Scene} {depth : ℕ} (nodes : Nodes k) (below : Below k depth) where
+  all_value : (es : List TExpr) (ts : List Ty) → Arguments k.scope es ts → all_covered (map covered es) ≡ true → AllFollow k depth es
+  all_value es ts order.no_argument cov = tt
+  all_value es ts (order.argument {e} {es = more} {ts = types} d ds) cov = (
+    below.value e d (first_of (covered e) (all_covered (map covered more)) cov),
+    all_value more types ds (second_of (covered e) (all_covered (map covered more)) cov),
+  )
+
+  value_by : (t : Ty) (l : NodeLayer) → HasValue k.scope t l → layer_covered l t ≡ true → ValueNode k depth t l
+  value_by t l (order.constant {n} {i}) cov = (nodes.values depth).constant n i (eqb-true _ _ cov)
+  value_by t l (order.paren {e} d) cov = (nodes.values depth).paren e (below.value e d cov)
+  value_by t l (order.address {e} d) cov = (nodes.values depth).address e (below.place e d cov)
+  value_by t l (order.denied {e} d is) cov = (nodes.values depth).denied e (below.value e d cov) is
+  value_by t l (order.signed {o} {e} sign d is) cov = (nodes.values depth).signed o e sign (below.value e d cov) is
+  value_by t l (order.logical {o} {a} {b} group d is x its) cov =
+      (nodes.values depth).logical o a b group (below.value a d (first_of (covered a) (covered b) cov)) is
+      (below.value b x (second_of (covered a) (covered b) cov)) its
+  value_by t l (order.operated {o} {a} {b} d x types) cov =
+      (nodes.values depth).operated o a b t (below.value a d (first_of (covered a) (covered b) cov))
+      (below.value b x (second_of (covered a) (covered b) cov)) types
+  value_by t l (order.assigned {a} {b} d x same) cov =
+      let both : (covered a && covered b) ≡ true = second_of (not (is_struct a.ty)) (covered a && covered b) cov in
+      (nodes.values depth).assigned a b (below.place a d (first_of (covered a) (covered b) both))
+      (below.value b x (second_of (covered a) (covered b) both)) same
+      (is_false (is_struct a.ty) (first_of (not (is_struct a.ty)) (covered a && covered b) cov))
+  value_by t l (order.compound {o} {a} {b} d x types) cov =
+      let both : (covered a && covered b) ≡ true = second_of (not (is_struct a.ty)) (covered a && covered b) cov in
+      (nodes.values depth).compound o a b (below.place a d (first_of (covered a) (covered b) both))
+      (below.value b x (second_of (covered a) (covered b) both)) types
+  value_by t l (order.chosen {c} {a} {b} d is x a_is y b_is) cov =
+      let both : (covered a && covered b) ≡ true = second_of (covered c) (covered a && covered b) cov in
+      (nodes.values depth).chosen c a b t (below.value c d (first_of (covered c) (covered a && covered b) cov)) is
+      (below.value a x (first_of (covered a) (covered b) both)) a_is (below.value b y (second_of (covered a) (covered b) both)) b_is
+  value_by t l (order.cast {e = e} d types) cov = (nodes.values depth).cast t e (below.value e d cov) types
+  value_by t l (order.cast_to_void {e = e} d is) cov = (nodes.values depth).cast_to_void t e (below.value e d cov) is
+  value_by t l (order.size_of {e}) cov = (nodes.values depth).size_of e
+  value_by t l (order.size_of_type {t = other}) cov = (nodes.values depth).size_of_type other
+  value_by t l (order.call {f} {es} {ts} callable ds) cov = (nodes.values depth).call f es ts t callable ds (all_value es ts ds cov)
+  value_by t l (order.step {o} {e} d is) cov = (nodes.values depth).step o e (below.place e d cov) is
+  value_by t l (order.read {e} d is) cov = (nodes.values depth).read e (below.place e d cov) is
+  value_by t l (order.decay {e} {t = element} d is) cov = (nodes.values depth).decay e element (below.place e d cov) is
+  value_by t l (order.convert {e} d types) cov = (nodes.values depth).convert e t (below.value e d cov) types
+  value_by t l (order.member_value d has is) cov = absurd (cc)
+
+  place_by : (t : Ty) (l : NodeLayer) → Designates k.scope t l → layer_covered l t ≡ true → PlaceNode k depth t l
+  place_by t l (order.text {k = n} {bytes} is) cov = (nodes.places depth).text n bytes is
+  place_by t l (order.local {k = n} {l = info} among is) cov = (nodes.places depth).local n info among is
+  place_by t l (order.global {k = n} {g} is) cov = (nodes.places depth).global n g is
+  place_by t l (order.extern_object {k = n} {e} is its defines) cov = (nodes.places depth).extern_object n e t is its defines
+  place_by t l (order.paren_place {e} d) cov = (nodes.places depth).paren e (below.place e d cov)
+  place_by t l (order.target {e} d is) cov = (nodes.places depth).target e t (below.value e d cov) is
+  place_by t l (order.element {a} {i} d is x its) cov =
+      (nodes.places depth).element a i t (below.value a d (first_of (covered a) (covered i) cov)) is
+      (below.value i x (second_of (covered a) (covered i) cov)) its
+  place_by t l (order.element_of_second {i} {a} x its d is) cov =
+      (nodes.places depth).element_of_second i a t (below.value i x (first_of (covered i) (covered a) cov)) its
+      (below.value a d (second_of (covered i) (covered a) cov)) is
+  place_by t l (order.member d has) cov = absurd (cc)
+  place_by t l (order.arrow d is has) cov = absurd (cc)
+  place_by t l (order.struct_assigned {a} {b} d x same is) cov =
+      let other : is_struct a.ty ≡ false = is_false (is_struct a.ty) (first_of (not (is_struct a.ty)) (covered a && covered b) cov) in
+      absurd (cc)
+
+  -- one level more
+  one_more : Below k (suc depth)
+  unfolding out-TNode
+  one_more = record {
+    value = λ e d cov. value_of e (value_by e.ty (out-TNode e.node) d (sym (covered-is e) ∙ cov));
+    place = λ e d cov. place_of e (place_by e.ty (out-TNode e.node) d (sym (covered-is e) ∙ cov));
+  }
+    where
+      value_of : (e : TExpr) → ValueNode k depth e.ty (out-TNode e.node) → ValueFollows k (suc depth) e
+      value_of e node = record {
+        around = λ span.
+            subst (λ code. ValuePart k code (need e) e.ty ((parts_at (calls_in k) k.here (suc depth)).value_in span e))
+            (sym (coded-is (structs_in k) (frame_in k) e))
+            (subst (λ n. ValuePart k (layer_code (structs_in k) (frame_in k) (out-TNode e.node) e.ty) n e.ty
+            ((parts_at (calls_in k) k.here (suc depth)).value_in span e)) (sym (need-is e)) (node.at e.span span));
+      }
+
+      place_of : (e : TExpr) → PlaceNode k depth e.ty (out-TNode e.node) → PlaceFollows k (suc depth) e
+      place_of e node = record {
+        part = subst (λ code. PlacePart k code (need e) e.ty ((parts_at (calls_in k) k.here (suc depth)).place e))
+            (sym (coded-is (structs_in k) (frame_in k) e))
+            (subst (λ n. PlacePart k (layer_code (structs_in k) (frame_in k) (out-TNode e.node) e.ty) n e.ty
+            ((parts_at (calls_in k) k.here (suc depth)).place e)) (sym (need-is e)) (node.at e.span));
+      }
+
+-- ---- no level, of which nothing is said
+
+Part-stuck : {A : Type 0} {k : Scene} {emits : Emits} {needs : ℕ} {alone : Bool} {result : Result A} → Part k emits needs alone result stuck
+Part-stuck = Part-by (λ first reg from to free lies a now s on. Goes-stuck)
+
+none : (k : Scene) → Below k zero
+none k = record {
+  value = λ e d cov. record { around = λ span. record { part = Part-stuck } };
+  place = λ e d cov. record {
+    part = record {
+      place = Part-stuck;
+      pointer = record { owes = false; first = stuck; run_is = λ now. refl; part = Part-stuck };
+      slot = λ start is now. too_deep refl;
+    };
+  };
+}
+
+-- ---- all levels
+
+pub all_below : {k : Scene} → Nodes k → (depth : ℕ) → Below k depth
+all_below {k} nodes zero = none k
+all_below nodes (suc depth) = one_more nodes (all_below nodes depth)

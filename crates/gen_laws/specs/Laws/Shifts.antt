@@ -1,0 +1,63 @@
+-- Shifts (ISO C11 6.5.7): what the lists compute is what the meaning computes, for any count.
+use Rattle.std.specs.Prelude.{◌≡◌, ℕ, suc, ◌+◌, ◌-◌, ◌*◌, ◌/◌, ◌%◌, ◌^◌, ◌<◌, ◌≤◌, Bool, true, false, if◌then◌else◌, ◌&&◌, leb, refl}
+use Rattle.std.proofs.Common.{arith, ap, ap₂, sym, subst, ◌∙◌, inl, inr}
+use Rattle.std.proofs.lemmas.Bool.{cases_lt}
+use Rattle.std.proofs.lemmas.Bool.Decides.{nat_tests}
+use Rattle.std.proofs.lemmas.Int.{ints}
+use Rattle.std.proofs.lemmas.Nat.{mul-mod_first, shr_le}
+use Rattle.mt_base.specs.Extension.{sign_extend}
+use Rattle.mt_base.specs.Shifts.{arithmetic_shift_right}
+use Rattle.mt_base.specs.Laws.Extension.{to_signed-sign_extend}
+use Rattle.mt_base.specs.Laws.Shifts.{to_signed-arithmetic_shift_right, arithmetic_shift_right-lt}
+use Rattle.mt_base.specs.Laws.TwosComplement.{from_signed-to_signed, to_signed_low, to_signed_high}
+use Rattle.mt_base.specs.TwosComplement.{to_signed, from_signed}
+use Rattle.c_ast.specs.declared.int_type.IntType.{IntType}
+use Rattle.c_ast.specs.declared.int_type.IntType.TheVariants as int
+use Rattle.c_type_base.specs.Arithmetic.{is_negative, shifted_left, shifted_right}
+use Rattle.c_type_base.specs.Conversions.{is_signed, bits_of, wrap}
+use Rattle.a64_code.specs.declared.instr.Reg.{Reg}
+use Rattle.a64_code.specs.State.{State}
+use Rattle.a64_laws.specs.Forms.{ShiftLeft, ShiftRight, ShiftRightSigned}
+use Rattle.gen_base.specs.Integers.{is_wide, operation, shift_right}
+use Rattle.gen_laws.specs.Computes.{Computes, Operands, IsOf, IsPromoted, all}
+use Rattle.gen_laws.specs.Laws.Arithmetic.{operated_as, operation-computes}
+use Rattle.gen_laws.specs.Laws.Computing.{Computes-is}
+use Rattle.gen_laws.specs.Laws.Numbers.{each_promoted, wrap-same, wrap-long, wrap-extends}
+use lib.Signed.{shr_z}
+
+-- ---- to the left
+
+left_low : (a b : ℕ) (t : IntType) → IsPromoted t → wrap t (operated_as ShiftLeft t a b) ≡ shifted_left t a b
+left_low a b t promoted =
+    wrap-same t (operated_as ShiftLeft t a b) (a * 2 ^ (b % bits_of t))
+    (each_promoted (λ t. operated_as ShiftLeft t a b % 2 ^ bits_of t ≡ a * 2 ^ (b % bits_of t) % 2 ^ bits_of t) narrow narrow whole whole
+    t promoted)
+  where
+    count : b % 2 ^ 32 % 32 ≡ b % 32
+    count = omega arith
+
+    narrow : a % 2 ^ 32 * 2 ^ (b % 2 ^ 32 % 32) % 2 ^ 32 % 2 ^ 32 % 2 ^ 32 ≡ a * 2 ^ (b % 32) % 2 ^ 32
+    narrow = rw count (omega (arith, mul-mod_first a (2 ^ (b % 32)) (2 ^ 32)))
+
+    whole : a * 2 ^ (b % 64) % 2 ^ 64 % 2 ^ 64 ≡ a * 2 ^ (b % 64) % 2 ^ 64
+    whole = omega arith
+
+left-lt : (a b : ℕ) (t : IntType) → IsPromoted t → operated_as ShiftLeft t a b < 2 ^ bits_of t
+left-lt a b t promoted =
+    each_promoted (λ t. operated_as ShiftLeft t a b < 2 ^ bits_of t) (omega arith) (omega arith) (omega arith) (omega arith) t promoted
+
+pub shift_left-computes : (t : IntType) (r : Reg) (a b : ℕ) (s : State) → IsPromoted t → Operands r a b s → s.pc + 8 < 2 ^ 64 →
+    Computes (operation ShiftLeft t r) r (shifted_left t a b) all s
+shift_left-computes t r a b s promoted given room =
+    Computes-is (left_low a b t promoted) (operation-computes ShiftLeft t r a b s promoted given (left-lt a b t promoted) room)
+
+-- ---- to the right, with zeros above
+
+right_zeros : (t : IntType) → is_signed t ≡ false → (a b : ℕ) → IsPromoted t → IsOf t a → wrap t (operated_as ShiftRight t a b) ≡ shifted_right t a b
+right_zeros int.UInt unsigned a b promoted is =
+    rw (count, let e : a % 2 ^ 32 ≡ a = omega (arith, is) in e) (omega (arith, is, shr_le a (b % 32)))
+  where
+    count : b % 2 ^ 32 % 32 ≡ b % 32
+    count = omega arith
+right_zeros int.ULong unsigned a b promoted is = omega (arith, is, shr_le a (b % 64))
+right_zeros _ unsigned a b promoted is = absurd (cc)
