@@ -4,4 +4,4 @@
 mod known;
 mod value;
 
-pub use value::{Destination, expression};
+pub use value::expression;
