@@ -2,6 +2,7 @@ pub mod Layers
 pub mod Lying
 pub mod Walking
 pub mod Coming
+pub mod Here
 pub mod Going
 pub mod Computing
 pub mod Wrapping
