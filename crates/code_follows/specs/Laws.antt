@@ -2,9 +2,10 @@ pub mod Layers
 pub mod Lying
 pub mod Walking
 pub mod Coming
-pub mod Here
 pub mod Going
+pub mod Here
 pub mod Computing
 pub mod Wrapping
+pub mod Addresses
 pub mod Nodes
 pub mod Whole

@@ -1,2 +1,3 @@
 pub mod Constant
 pub mod SizeOf
+pub mod Named
