@@ -1,6 +1,8 @@
 //! The symbolic code of expressions.
 #![tactic(auto)]
 
+mod binary;
+mod destination;
 mod known;
 mod value;
 
