@@ -1,3 +1,4 @@
 pub mod Operands
-pub mod Weight
 pub mod Steps
+pub mod Turns
+pub mod Weight

@@ -8,17 +8,18 @@ ghost use Rattle.gen_base.specs.Operators.{operated};
 ghost use Rattle.gen_base.specs.Registers.{left as first};
 ghost use Rattle.gen_expr.specs.Expressions.{coded};
 ghost use Rattle.gen_expr.specs.Laws.WaitingLaws as spec;
-ghost use Rattle.gen_expr.specs.Nodes.{and_value, binary_value, cond_value, first_waits, or_value};
+ghost use Rattle.gen_expr.specs.Nodes.{and_value, binary_value, first_waits, index_place, or_value};
 
 use crate::destination::Destination;
 use crate::known::is_alone;
 use crate::value::value;
 use a64_code::Reg;
 use c_ast::BinaryOperator;
-use c_type_base::{TExpr, Typed};
+use c_type_base::{TExpr, Ty, Typed};
 use frame_layout::Frame;
 use gen_base::{
-    LEFT, next_label, push, push_fetch, push_is_other, push_keep, push_move, push_operated,
+    LEFT, bytes_of, next_label, push, push_element, push_fetch, push_is_other, push_keep,
+    push_move, push_operated,
 };
 use std::alloc::AllocError;
 use sym_code::{SymCode, SymItem};
@@ -92,6 +93,26 @@ fn on_values(
     value(unit, frame, left, to, code)?;
     second(unit, frame, right, LEFT, to, code)?;
     push_operated(code, unit, operator, &left.ty, &right.ty, to.reg)
+}
+
+// Appends: the place of the element of a number behind a pointer, in either order, of a type.
+#[cycle(value)]
+pub fn index(
+    unit: &Typed,
+    frame: &Frame,
+    left: &TExpr,
+    right: &TExpr,
+    ty: &Ty,
+    to: Destination,
+    code: &mut SymCode,
+) -> Result<(), AllocError>
+    requires { to.temp + waiting (need left.now) (need right.now) ≤ 32765 }
+    ensures { OnOk result (Appends code.old (index_place unit.now.structs (coded unit.now.structs frame.now left.now)
+        (coded unit.now.structs frame.now right.now) ty.now to.temp to.reg) code.new) }
+{
+    value(unit, frame, left, to, code)?;
+    second(unit, frame, right, LEFT, to, code)?;
+    push_element(code, bytes_of(unit, ty), &left.ty, to.reg)
 }
 
 // Appends: whether the second operand is not 0, and the label behind it.

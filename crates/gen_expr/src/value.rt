@@ -8,7 +8,10 @@ ghost use Rattle.gen_expr.specs.Coded as spec;
 ghost use Rattle.gen_expr.specs.Expressions.{coded, coded_node, expression_code};
 ghost use Rattle.gen_expr.specs.Laws.WaitingLaws.{place_by};
 
-use crate::binary::binary;
+use crate::assign::{assign, step};
+use crate::binary::{binary, index};
+use crate::call::call;
+use crate::choice::cond;
 use crate::destination::Destination;
 use crate::known::slot_of;
 use a64_code::{Instr, Reg};
@@ -71,16 +74,22 @@ fn value_of(
         TNode::Binary(operator, left, right) => {
             binary(unit, frame, *operator, left, right, to, code)
         }
-        TNode::Assign(operator, left, right) => Err(AllocError),
-        TNode::Cond(condition, then, other) => Err(AllocError),
+        TNode::Assign(operator, left, right) => {
+            assign(unit, frame, *operator, left, right, to, code)
+        }
+        TNode::Cond(condition, then, other) => {
+            cond(unit, frame, condition, then, other, to, code)
+        }
         TNode::Cast(ty, operand) => {
             value(unit, frame, operand, to, code)?;
             push_paying_convert(code, &operand.ty, ty, to.reg)
         }
         TNode::SizeofExpr(operand) => { push_moves(code, to.reg, bytes_of(unit, &operand.ty)) }
         TNode::SizeofName(ty) => push_moves(code, to.reg, bytes_of(unit, ty)),
-        TNode::Call(callee, arguments) => Err(AllocError),
-        TNode::Step(step, operand) => Err(AllocError),
+        TNode::Call(callee, arguments) => {
+            call(unit, frame, *callee, arguments.as_slice(), to, code)
+        }
+        TNode::Step(by, operand) => step(unit, frame, *by, operand, to, code),
         TNode::Read(object) => read(unit, frame, object, to, code),
         TNode::Decay(array) => place(unit, frame, array, true, to, code),
         TNode::Convert(operand) => {
@@ -93,7 +102,7 @@ fn value_of(
 
 // Appends: the place of what an expression designates, or, where that does not pay, without the unit of work of a dereference.
 #[cycle(value)]
-fn place(
+pub fn place(
     unit: &Typed,
     frame: &Frame,
     expr: &TExpr,
@@ -133,7 +142,7 @@ fn place_of(
             }
             Ok(())
         }
-        TNode::Index(array, index) => Err(AllocError),
+        TNode::Index(array, number) => index(unit, frame, array, number, ty, to, code),
         _ => Ok(()),
     }
 }
