@@ -16,6 +16,6 @@ pub use comparisons::push_is_other;
 pub use conversions::{push_convert, push_paying_convert};
 pub use integers::{push_on_integer, push_on_integers};
 pub use items::{next_label, push, push_instr, push_moves};
-pub use operators::{int_in, push_combined, push_element, push_operated, push_stepped};
+pub use operators::{bytes_of, int_in, push_combined, push_element, push_operated, push_stepped};
 pub use registers::{LEFT, RETURNED, SCRATCH, STACK_POINTER, ZERO, argument, push_move};
 pub use waiting::{push_fetch, push_keep};

@@ -17,7 +17,7 @@ use crate::pointers::{push_advance, push_on_two_pointers, push_pointer_and_numbe
 use crate::registers::LEFT;
 use a64_code::{Instr, Reg};
 use c_ast::{AssignOperator, BinaryOperator, IntType, Step};
-use c_type_base::{StructInfo, Ty, int_of, promoted, target_of, wrapped_size};
+use c_type_base::{Ty, Typed, int_of, promoted, target_of, wrapped_size};
 use std::alloc::AllocError;
 use sym_code::SymCode;
 
@@ -31,24 +31,31 @@ pub fn int_in(ty: &Ty) -> IntType
     }
 }
 
+/// The bytes of a type, as a register has them.
+pub fn bytes_of(unit: &Typed, ty: &Ty) -> u64
+    ensures { result ≡ spec.wrapped_size unit.now.structs ty.now }
+{
+    wrapped_size(ty, unit.structs.as_slice())
+}
+
 /// Appends an operator on two operands: the first in X16, the second and the result in a register.
 pub fn push_operated(
     code: &mut SymCode,
-    structs: &[StructInfo],
+    unit: &Typed,
     operator: BinaryOperator,
     left: &Ty,
     right: &Ty,
     reg: Reg,
 ) -> Result<(), AllocError>
-    ensures { OnOk result (Appends code.old (spec.operated structs.now operator left.now right.now reg) code.new) }
+    ensures { OnOk result (Appends code.old (spec.operated unit.now.structs operator left.now right.now reg) code.new) }
 {
     match target_of(left) {
         None => match target_of(right) {
             None => push_on_integers(code, operator, int_in(left), reg),
-            Some(target) => push_advance(code, wrapped_size(target, structs), reg, LEFT, reg),
+            Some(target) => push_advance(code, bytes_of(unit, target), reg, LEFT, reg),
         },
         Some(target) => {
-            let bytes = wrapped_size(target, structs);
+            let bytes = bytes_of(unit, target);
             match target_of(right) {
                 None => push_pointer_and_number(code, operator, bytes, reg),
                 Some(_) => push_on_two_pointers(code, operator, bytes, reg),
@@ -116,20 +123,18 @@ fn push_numbers_combined(
 /// Appends a compound assignment's operator: what stood on the left is in X16, the right side and the result are in a register.
 pub fn push_combined(
     code: &mut SymCode,
-    structs: &[StructInfo],
+    unit: &Typed,
     operator: AssignOperator,
     left: &Ty,
     right: &Ty,
     reg: Reg,
 ) -> Result<(), AllocError>
-    ensures { OnOk result (Appends code.old (spec.combined structs.now operator left.now right.now reg) code.new) }
+    ensures { OnOk result (Appends code.old (spec.combined unit.now.structs operator left.now right.now reg) code.new) }
 {
     let operator = binary_of(operator);
     match target_of(left) {
         None => push_numbers_combined(code, operator, int_in(left), int_in(right), reg),
-        Some(target) => {
-            push_pointer_and_number(code, operator, wrapped_size(target, structs), reg)
-        }
+        Some(target) => { push_pointer_and_number(code, operator, bytes_of(unit, target), reg) }
     }
 }
 
@@ -190,12 +195,12 @@ fn pointer_stepped(step: Step, reg: Reg) -> Instr
 /// Appends `++` or `--`: the value of a register, one more or one less, into X16.
 pub fn push_stepped(
     code: &mut SymCode,
-    structs: &[StructInfo],
+    unit: &Typed,
     step: Step,
     ty: &Ty,
     reg: Reg,
 ) -> Result<(), AllocError>
-    ensures { OnOk result (Appends code.old (plain (spec.stepped structs.now step ty.now reg)) code.new) }
+    ensures { OnOk result (Appends code.old (plain (spec.stepped unit.now.structs step ty.now reg)) code.new) }
 {
     match target_of(ty) {
         None => {
@@ -203,7 +208,7 @@ pub fn push_stepped(
             push_wrap(code, int_in(ty), LEFT)
         }
         Some(target) => {
-            push_moves(code, LEFT, wrapped_size(target, structs))?;
+            push_moves(code, LEFT, bytes_of(unit, target))?;
             push_instr(code, pointer_stepped(step, reg))
         }
     }

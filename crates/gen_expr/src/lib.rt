@@ -1,6 +1,12 @@
 //! The symbolic code of expressions.
 #![tactic(auto)]
 
+mod assign;
+mod assigned;
+mod binary;
+mod call;
+mod choice;
+mod destination;
 mod known;
 mod value;
 

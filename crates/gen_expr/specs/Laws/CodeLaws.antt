@@ -125,8 +125,8 @@ module _ (structs : List StructInfo) (f : Frame) where
   unfolding given_typed
   node-ty n ty = ap (λ c. (c ty).ty) (fold_out-TNode NodeCode Coded (node_code structs f) expr_code n) ∙ layer-ty _ ty
 
-  pub coded-ty : (e : TExpr) → (code e).ty ≡ e.ty
-  coded-ty e = ap (λ c. c.ty) (coded-expression e) ∙ node-ty e.node e.ty
+  pub coded_ty : (e : TExpr) → (code e).ty ≡ e.ty
+  coded_ty e = ap (λ c. c.ty) (coded-expression e) ∙ node-ty e.node e.ty
 
   -- ---- an operator leaves the registers alone where its operand does
 
