@@ -4,3 +4,4 @@ pub mod Arithmetic
 pub mod Bitwise
 pub mod Comparisons
 pub mod Shifts
+pub mod Divisions
