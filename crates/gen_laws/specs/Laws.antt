@@ -5,3 +5,4 @@ pub mod Bitwise
 pub mod Comparisons
 pub mod Shifts
 pub mod Divisions
+pub mod Remainders

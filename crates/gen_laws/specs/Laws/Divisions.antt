@@ -9,6 +9,7 @@ use Rattle.std.proofs.lemmas.Int.{ints}
 use Rattle.mt_base.specs.Extension.{sign_extend}
 use Rattle.mt_base.specs.TwosComplement.{to_signed, from_signed}
 use Rattle.mt_base.specs.Laws.Extension.{to_signed-sign_extend}
+use Rattle.mt_base.specs.Laws.Wrapping.{wrap_below}
 use Rattle.mt_base.specs.Laws.TwosComplement.{to_signed-wrap, to_signed_low, to_signed_high, from_signed-lt}
 use Rattle.c_ast.specs.declared.int_type.IntType.{IntType}
 use Rattle.c_ast.specs.declared.int_type.IntType.TheVariants as int
@@ -68,7 +69,7 @@ quotient_bits a b first second = by_signs (signed_number a first) (signed_number
     by_signs (negative m za sa size) (negative n zb sb other) =
         rw (za, zb, sa, sb, size, other) (omega (arith, size, div-le_self (suc m) (suc n)))
 
-remainder_bits : (a b : ℕ) → a < 2 ^ 64 → b < 2 ^ 64 → from_signed 64 (int_rem (to_signed 64 a) (to_signed 64 b))
+pub remainder_bits : (a b : ℕ) → a < 2 ^ 64 → b < 2 ^ 64 → from_signed 64 (int_rem (to_signed 64 a) (to_signed 64 b))
     ≡ signed_by (leb (2 ^ 63) a) (size_of a % size_of b)
 remainder_bits a b first second = by_signs (signed_number a first) (signed_number b second)
   where
@@ -89,7 +90,7 @@ bits_low (pos n) = omega arith
 bits_low (negsuc n) = omega arith
 
 -- an int is the same signed number at either width
-int_signed : (a : ℕ) → IsOf int.Int a → to_signed 32 (a % 2 ^ 32) ≡ to_signed 64 a
+pub int_signed : (a : ℕ) → IsOf int.Int a → to_signed 32 (a % 2 ^ 32) ≡ to_signed 64 a
 int_signed a is =
     to_signed-wrap 32 a ∙ sym (to_signed-sign_extend 32 64 a (omega arith) (omega arith))
     ∙ ap (to_signed 64) (wrap-extends int.Int a ∙ sym is)
@@ -121,12 +122,10 @@ divided_unsigned x y = elim (cases_eq y 0) [
   | inr some ↦ rw (ne_eqb y 0 some) refl
 ]
 
--- an int's quotient and remainder of signed numbers are the low bits of those of 64 bits
-int_wraps : (n : ℕ) (z : ℤ) (m : ℕ) → n ≡ from_signed 32 z → from_signed 64 z ≡ m → wrap int.Int (n % 2 ^ 32) ≡ wrap int.Int m
+-- an int of the bits of a signed number, at either width
+pub int_wraps : (n : ℕ) (z : ℤ) (m : ℕ) → n ≡ from_signed 32 z → from_signed 64 z ≡ m → wrap int.Int n ≡ wrap int.Int m
 int_wraps n z m narrow whole =
-    wrap-same int.Int (n % 2 ^ 32) m
-    (ap (λ k. k % 2 ^ 32 % 2 ^ 32) narrow ∙ (let e : from_signed 32 z % 2 ^ 32 % 2 ^ 32 ≡ from_signed 64 z % 2 ^ 32 =
-    omega (arith, bits_low z) in e) ∙ ap (λ k. k % 2 ^ 32) whole)
+    wrap-same int.Int n m (ap (λ k. k % 2 ^ 32) narrow ∙ bits_low z ∙ ap (λ k. k % 2 ^ 32) whole)
 
 uint_same : (a : ℕ) → IsOf int.UInt a → a % 2 ^ 32 ≡ a
 uint_same a is = sym is
@@ -135,8 +134,9 @@ divided_is : (t : IntType) (a b : ℕ) → IsPromoted t → IsOf t a → IsOf t 
     wrap t (operated_as (division_of (is_signed t)) t a b) ≡ quotient t a b
 divided_is t a b promoted first second =
     each_promoted (λ t. IsOf t a → IsOf t b → wrap t (operated_as (division_of (is_signed t)) t a b) ≡ quotient t a b)
-    (λ p q. int_wraps (divide_signed 32 (a % 2 ^ 32) (b % 2 ^ 32)) (int_div (to_signed 64 a) (to_signed 64 b)) _
-    (divided_signed false (a % 2 ^ 32) (b % 2 ^ 32) ∙ ap₂ (λ y z. from_signed 32 (int_div y z)) (int_signed a p) (int_signed b q))
+    (λ p q. int_wraps (divide_signed 32 (a % 2 ^ 32) (b % 2 ^ 32) % 2 ^ 32) (int_div (to_signed 64 a) (to_signed 64 b)) _
+    (ap (λ n. n % 2 ^ 32) (divided_signed false (a % 2 ^ 32) (b % 2 ^ 32) ∙ ap₂ (λ y z. from_signed 32 (int_div y z)) (int_signed a p) (int_signed b q))
+    ∙ wrap_below 32 _ (from_signed-lt 32 (int_div (to_signed 64 a) (to_signed 64 b))))
     (quotient_bits a b (IsOf-lt int.Int a p) (IsOf-lt int.Int b q)))
     (λ p q. ap (λ n. n % 2 ^ 32 % 2 ^ 32) (divided_unsigned (a % 2 ^ 32) (b % 2 ^ 32)
     ∙ ap₂ (λ m n. m / n) (uint_same a p) (uint_same b q)) ∙ omega arith)
