@@ -6,3 +6,4 @@ pub mod Comparisons
 pub mod Shifts
 pub mod Divisions
 pub mod Remainders
+pub mod Integers
