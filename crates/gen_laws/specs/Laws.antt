@@ -7,3 +7,5 @@ pub mod Shifts
 pub mod Divisions
 pub mod Remainders
 pub mod Integers
+pub mod Unary
+pub mod Conversions
