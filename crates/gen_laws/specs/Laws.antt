@@ -9,3 +9,5 @@ pub mod Remainders
 pub mod Integers
 pub mod Unary
 pub mod Conversions
+pub mod Moves
+pub mod Pointers

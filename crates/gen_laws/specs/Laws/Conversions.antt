@@ -7,12 +7,16 @@ use Rattle.std.proofs.lemmas.Bool.Decides.{nat_tests}
 use Rattle.mt_base.specs.Extension.{sign_extend, zero_extend}
 use Rattle.c_ast.specs.declared.int_type.IntType.{IntType}
 use Rattle.c_ast.specs.declared.int_type.IntType.TheVariants as int
+use Rattle.c_type_base.specs.declared.ty.Ty.{Ty, out-Ty}
+use Rattle.c_type_base.specs.declared.ty.Ty.TheOpen.{Ty-F}
 use Rattle.c_type_base.specs.Conversions.{is_signed, bits_of, wrap}
+use Rattle.c_type_base.specs.Types.{TyLayer, int_of}
 use Rattle.a64_code.specs.declared.instr.Reg.{Reg}
 use Rattle.a64_code.specs.State.{State}
 use Rattle.a64_laws.specs.Laws.Extending.{sign_extended, zero_extended}
 use Rattle.gen_base.specs.Conversions.{extend, wrap_into, has_all, between_integers, into_integer, into_pointer, into_type, convert}
 use Rattle.gen_laws.specs.Computes.{Computes, IsOf, IsOfSome, all}
+use Rattle.gen_laws.specs.Operations.{converted_number}
 use Rattle.gen_laws.specs.Laws.Computing.{Computes-nil, Computes-put, Computes-is, Computes-constant}
 use Rattle.gen_laws.specs.Laws.Numbers.{IsOf-lt, wrap-long, wrap-extends}
 
@@ -142,3 +146,17 @@ module _ (r : Reg) (n : ℕ) (s : State) (small : r.0 < 31) (is : s.register r.0
   pub into_integer-computes : (o : Option IntType) (t : IntType) → IsOfSome o n → Computes (into_integer o t r) r (wrap t n) all s
   into_integer-computes None t of = wrap-computes t
   into_integer-computes (Some s') t of = between-computes s' t of
+
+-- ---- a value of any type in any other
+
+module _ (r : Reg) (n : ℕ) (s : State) (small : r.0 < 31) (is : s.register r.0 ≡ n) (fits : n < 2 ^ 64) (room : s.pc + 16 < 2 ^ 64) where
+  into_type-computes : (o : Option IntType) (t : TyLayer) → IsOfSome o n → Computes (into_type o t r) r (converted_number o t n) all s
+  into_type-computes o (Ty-F.Int t) of = into_integer-computes r n s small is fits (omega (arith, room)) o t of
+  into_type-computes None (Ty-F.Pointer t) of = Computes-nil r n s is
+  into_type-computes (Some i) (Ty-F.Pointer t) of = Computes-constant 0 r s small (omega arith) room
+  into_type-computes o Ty-F.Void of = Computes-nil r n s is
+  into_type-computes o (Ty-F.Array t m) of = Computes-nil r n s is
+  into_type-computes o (Ty-F.Struct m) of = Computes-nil r n s is
+
+  pub convert-computes : (t u : Ty) → IsOfSome (int_of t) n → Computes (convert t u r) r (converted_number (int_of t) (out-Ty u) n) all s
+  convert-computes t u of = into_type-computes (int_of t) (out-Ty u) of

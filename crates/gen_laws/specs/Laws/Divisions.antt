@@ -130,6 +130,12 @@ int_wraps n z m narrow whole =
 uint_same : (a : ℕ) → IsOf int.UInt a → a % 2 ^ 32 ≡ a
 uint_same a is = sym is
 
+-- SDIV of two numbers of 64 bits
+pub divided_long : (a b : ℕ) → a < 2 ^ 64 → b < 2 ^ 64 → divide_signed 64 a b ≡ quotient int.Long a b
+divided_long a b first second =
+    sym (wrap_below 64 _ (subst (λ n. n < 2 ^ 64) (sym (divided_signed true a b)) (from_signed-lt 64 (int_div (to_signed 64 a) (to_signed 64 b)))))
+    ∙ sym (wrap-long (divide_signed 64 a b)) ∙ ap (wrap int.Long) (divided_signed true a b ∙ quotient_bits a b first second)
+
 divided_is : (t : IntType) (a b : ℕ) → IsPromoted t → IsOf t a → IsOf t b →
     wrap t (operated_as (division_of (is_signed t)) t a b) ≡ quotient t a b
 divided_is t a b promoted first second =
