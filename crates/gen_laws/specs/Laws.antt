@@ -11,3 +11,4 @@ pub mod Unary
 pub mod Conversions
 pub mod Moves
 pub mod Pointers
+pub mod TwoPointers

@@ -68,7 +68,7 @@ counted_back given = record {
 }
 
 -- a list that puts a constant into X17, and an instruction of it and of two registers
-with_constant : (bytes : ℕ) (instr : Instr) (pointer count into : Reg) (p n value : ℕ) (s : State) →
+pub with_constant : (bytes : ℕ) (instr : Instr) (pointer count into : Reg) (p n value : ℕ) (s : State) →
     Counted pointer count into p n s → bytes < 2 ^ 64 → s.pc + 20 < 2 ^ 64 →
     ((t : State) → t.register 17 ≡ bytes → t.register pointer.0 ≡ p → t.register count.0 ≡ n →
     effect instr t ≡ Leads (puts_register into value t)) →
