@@ -1,6 +1,7 @@
 -- What is appended, one thing behind the other.
 use Rattle.std.proofs.Common.{◌≡◌, ℕ, suc, ◌+◌, ◌*◌, ◌<◌, List, [], ◌∷◌, ◌++◌, length, map, take, get_or, Option, Some, None}
 use Rattle.std.proofs.Common.{refl, ap, sym, ◌∙◌, subst, arith, append_assoc, append-nil, length-append, pos}
+use Rattle.std.proofs.Common.{Result, Ok, Err, OnOk}
 use Rattle.std.proofs.Math.Seq.{take-suc}
 use Rattle.std.proofs.lemmas.List.{map-append}
 use Rattle.a64_code.specs.declared.instr.Instr.{Instr}
@@ -93,3 +94,10 @@ map_turn is k d a b c within before turn =
     (sym (map-append whole (take k is) (get_or is k d ∷ []))
     ∙ ap (map whole) (sym (take-suc is k d within) ∙ ap (λ j. take j is) (let e : suc k ≡ k + 1 = omega arith in e)))
     (gains_then before turn)
+
+-- ---- the last call of several
+
+pub then_ok : {T E : Type 0} (r : Result T E) (a b c : Output) (ws vs : List Word) → Gains a ws b → OnOk r (Gains b vs c) →
+    OnOk r (Gains a (ws ++ vs) c)
+then_ok (Ok x) a b c ws vs first last = gains_then first last
+then_ok (Err e) a b c ws vs first last = tt
