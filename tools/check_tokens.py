@@ -75,7 +75,7 @@ OTHERWISE = {
     b"0x": PREFIX, b"0x;": PREFIX, b"0xg": PREFIX, b"0xu": PREFIX, b"1ll": "C has the suffix ll", b"1lL": SUFFIX, b"12uu": SUFFIX, b"1ulu": SUFFIX, b"1lul": SUFFIX,
     b"''": OPENING, b"'ab'": "C has characters of several bytes", b"'\x80'": OPENING, b"\"\t\"": WIDER, b"\"\x7f\"": WIDER, b"\"a\x00\"": WIDER,
     b"\"a\\\n\"": SPLICED,
-    b"#": OTHERS, b"#\ninclude <stdio.h>": OTHERS, b"#include \"stdio.h\"": OTHERS, b"\n #define X": OTHERS, b"#include <stdio.h> // c": COMMENT, b"#include/**/<stdio.h>": COMMENT,
+    b"#": OTHERS, b"#\ninclude <stdio.h>": OTHERS, b"#include \"stdio.h\"": OTHERS, b"\n #define X": OTHERS, b"#define X": OTHERS, b"#include <stdio.h> // c": COMMENT, b"#include/**/<stdio.h>": COMMENT,
     b"/**/#include <stdio.h>": COMMENT, b"/*\n*/ #include <stdio.h>": COMMENT, b"\x0c#include <stdio.h>": COMMENT, b"x\n\r#include <stdio.h>": COMMENT,
     b"#include <stdio.h>\x0b": COMMENT, b"#include <stdio.h>\r x": "clang takes a carriage return for the end of a line",
 }

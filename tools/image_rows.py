@@ -278,6 +278,8 @@ ONES = [
     Image(descriptors=bytes(range(1, 17))), Image(rodata=b"\xff"), Image(rodata=bytes(range(256)) * 15 + b"0123456789" * 6),
     Image(words=[1]), Image(words=[0xFFFFFFFF] * 1024), Image(filled=b"\5" * 16), Image(zero=16),
     Image(zero=LIMIT - 0x10B0), Image(relocs=[(8, 8)], zero=4096), Image(words=[0x52800540, 0xD4000061]),
+    Image(words=[0x529FFFE0, 0x72AFFFE0, 0xD4000061]),
+    Image(0x1004, [(0x2100, 0x2110), (0x2108, -8)], bytes([0x81, 2, 0x23]), b"hi", [0xD503201F, 0x52800540, 0xD4000061], b"Z" * 32, 48),
 ]
 
 

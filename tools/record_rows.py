@@ -50,4 +50,7 @@ for kind, widths in WIDTHS.items():
     whole = b'\xff' * struct.calcsize(widths)
     for length in len(whole), len(whole) - 1, 1, 0:
         row(kind, whole[:length])
+lines.append('\n# entries of flags, of a tag below 0')
+for tag, value in (0x6FFFFFFB, 0x08000000), (-2, 7):
+    row('dyn', struct.pack(WIDTHS['dyn'], tag, value))
 write_section(folder, 'Single records of ELF64 files, and their fields in order, or how many bytes there are.', lines)

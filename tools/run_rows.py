@@ -66,22 +66,18 @@ def told(ends):
 def main():
     files = {constant: Image(words=words).file() for constant, words in TEXTS.items()}
     assert all(len(file) == 8368 for file in files.values())
-    for constant, parts in ((42, ("0+700", "4080+60", "8150+230")), (65578, ("8150+230",))):
-        for part in parts:
-            first, count = map(int, part.split("+"))
-            longer = files[constant] + bytes(700)
-            ends = [(n, ended(longer[:n], None, 0, constant)) for n in range(first, first + count)]
-            print(f'cuts {part} "int main(void){{return {constant};}}" => {told(ends)}')
+    for constant, file in files.items():
+        longer = file + bytes(11)
+        ends = [(n, ended(longer[:n], None, 0, constant)) for n in range(len(longer))]
+        print(f'cuts 0+{len(longer)} "int main(void){{return {constant};}}" => {told(ends)}')
     for constant, file in files.items():
         for bits in (0x01, 0x10, 0x20):
-            for part in ("0+700", "4080+60", "8150+230"):
-                first, count = map(int, part.split("+"))
-                ends = []
-                for place in range(first, min(first + count, len(file))):
-                    changed = bytearray(file)
-                    changed[place] ^= bits
-                    ends.append((place, ended(bytes(changed), place, bits, constant)))
-                print(f'flips {bits:02x} {part} "int main(void){{return {constant};}}" => {told(ends)}')
+            ends = []
+            for place in range(len(file)):
+                changed = bytearray(file)
+                changed[place] ^= bits
+                ends.append((place, ended(bytes(changed), place, bits, constant)))
+            print(f'flips {bits:02x} 0+{len(file)} "int main(void){{return {constant};}}" => {told(ends)}')
 
 
 if __name__ == "__main__":

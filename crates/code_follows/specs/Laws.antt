@@ -3,6 +3,8 @@ pub mod Lying
 pub mod Walking
 pub mod Coming
 pub mod Going
+pub mod Here
 pub mod Computing
+pub mod Addresses
 pub mod Nodes
 pub mod Whole

@@ -1,7 +1,8 @@
 -- Code of a part of a tree: the items that are appended where so many stand already (this project's own). The position makes the numbers
 -- of labels, so no counter is wanted, and each label stands once.
-use Rattle.std.specs.Prelude.{ℕ, ◌+◌, ◌*◌, List, [], ◌∷◌, ◌++◌, length, map}
+use Rattle.std.specs.Prelude.{◌≡◌, ℕ, ◌+◌, ◌*◌, List, [], ◌∷◌, ◌++◌, length, map}
 use Rattle.a64_code.specs.declared.instr.Instr.{Instr}
+use Rattle.sym_code.specs.declared.item.SymCode.{SymCode}
 use Rattle.sym_code.specs.declared.item.SymItem.{SymItem}
 use Rattle.sym_code.specs.declared.item.SymItem.TheVariants as item
 
@@ -28,3 +29,7 @@ in_turn (c ∷ cs) at = c at ++ in_turn cs (at + length (c at))
 -- labels.
 abbrev pub labelled : (ℕ → Code) → Code
 labelled f at = f (4 * at) at
+
+-- the code after a call is that before it, and this behind it
+abbrev pub Appends : SymCode → Code → SymCode → Type 0
+Appends old c new = new.items.items ≡ old.items.items ++ c (length old.items.items)

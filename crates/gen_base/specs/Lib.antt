@@ -6,3 +6,4 @@ pub mod Accesses
 pub mod Integers
 pub mod Pointers
 pub mod Operators
+pub mod Laws

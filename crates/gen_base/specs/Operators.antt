@@ -1,5 +1,5 @@
 -- Operators by the types of their operands (ISO C11 6.5.2.1, 6.5.2.4, 6.5.3, 6.5.5 to 6.5.16).
-use Rattle.std.specs.Prelude.{ℕ, true, List, [], ◌∷◌, ◌++◌, Option, Some, None, if◌then◌else◌}
+use Rattle.std.specs.Prelude.{ℕ, ◌%◌, ◌^◌, true, List, [], ◌∷◌, ◌++◌, Option, Some, None, if◌then◌else◌}
 use Rattle.c_ast.specs.declared.operator.AssignOperator.{AssignOperator}
 use Rattle.c_ast.specs.declared.operator.BinaryOperator.{BinaryOperator}
 use Rattle.c_ast.specs.declared.operator.Step.{Step}
@@ -19,13 +19,17 @@ use Rattle.gen_base.specs.Integers.{on_integers}
 use Rattle.gen_base.specs.Pointers.{advance, pointer_and_number, number_and_pointer, on_two_pointers}
 use Rattle.gen_base.specs.Registers.{left}
 
+-- the bytes of a type, as a register has them
+abbrev pub wrapped_size : List StructInfo → Ty → ℕ
+wrapped_size structs t = size structs t % 2 ^ 64
+
 -- ---- two operands: the first in X16, the second and the result in a register
 
 abbrev pub operated_by : List StructInfo → BinaryOperator → Ty → Ty → Option Ty → Option Ty → Reg → Code
 operated_by structs o s t None None r = on_integers o (int_in s) r
-operated_by structs o s t (Some target) None r = plain (pointer_and_number o (size structs target) r)
-operated_by structs o s t None (Some target) r = plain (number_and_pointer (size structs target) r)
-operated_by structs o s t (Some target) (Some other) r = plain (on_two_pointers o (size structs target) r)
+operated_by structs o s t (Some target) None r = plain (pointer_and_number o (wrapped_size structs target) r)
+operated_by structs o s t None (Some target) r = plain (number_and_pointer (wrapped_size structs target) r)
+operated_by structs o s t (Some target) (Some other) r = plain (on_two_pointers o (wrapped_size structs target) r)
 
 abbrev pub operated : List StructInfo → BinaryOperator → Ty → Ty → Reg → Code
 operated structs o s t r = operated_by structs o s t (target_of s) (target_of t) r
@@ -40,7 +44,7 @@ element bytes None r = advance bytes r left r
 abbrev pub combined_by : List StructInfo → BinaryOperator → Ty → Ty → Option Ty → Reg → Code
 combined_by structs o s t None r = let by = computing_type o (int_in s) (int_in t) in
     in_turn (plain (between_integers (int_in s) by left) ∷ on_integers o by r ∷ plain (between_integers by (int_in s) r) ∷ [])
-combined_by structs o s t (Some target) r = plain (pointer_and_number o (size structs target) r)
+combined_by structs o s t (Some target) r = plain (pointer_and_number o (wrapped_size structs target) r)
 
 abbrev pub combined : List StructInfo → AssignOperator → Ty → Ty → Reg → Code
 combined structs o s t r = combined_by structs (binary_of o) s t (target_of s) r
@@ -55,7 +59,7 @@ pointer_stepped s bytes r = constant_moves left bytes ++ operation_instr (if is_
 
 abbrev pub stepped_by : List StructInfo → Step → Ty → Option Ty → Reg → List Instr
 stepped_by structs s t None r = number_stepped s r ∷ wrap_into (int_in t) left
-stepped_by structs s t (Some target) r = pointer_stepped s (size structs target) r
+stepped_by structs s t (Some target) r = pointer_stepped s (wrapped_size structs target) r
 
 abbrev pub stepped : List StructInfo → Step → Ty → Reg → List Instr
 stepped structs s t r = stepped_by structs s t (target_of t) r

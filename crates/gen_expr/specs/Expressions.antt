@@ -1,16 +1,16 @@
 -- The code of an expression (this project's own). Structs, and texts and lists as initialisers, have no code yet.
-use Rattle.std.specs.Prelude.{ℕ, ◌%◌, ◌^◌, true, false, List, slice_get}
+use Rattle.std.specs.Prelude.{ℕ, true, false, List, slice_get}
 use Rattle.c_type_base.specs.declared.ty.Ty.{Ty}
 use Rattle.c_type_base.specs.declared.expr.TExpr.{TExpr}
 use Rattle.c_type_base.specs.declared.expr.TNode.{TNode}
 use Rattle.c_type_base.specs.declared.expr.TNode.TheOpen.{TNode-F, TExpr-F}
 use Rattle.c_type_base.specs.declared.expr.TNode.TheFolds.{fold-TNode, fold-TExpr}
 use Rattle.c_type_base.specs.declared.typed.StructInfo.{StructInfo}
-use Rattle.c_type_base.specs.Sizes.{size}
 use Rattle.a64_code.specs.declared.instr.Reg.{Reg}
 use Rattle.frame_layout.specs.declared.frame.Frame.{Frame}
 use Rattle.sym_code.specs.declared.item.SymItem.TheVariants as item
 use Rattle.gen_base.specs.Code.{Code, only}
+use Rattle.gen_base.specs.Operators.{wrapped_size}
 use Rattle.gen_expr.specs.Coded.{Coded, computed, designated, no_code, read}
 use Rattle.gen_expr.specs.Nodes.{constant, local, unary_node, binary_value, cond_value, cast_value, converted_value, index_place}
 use Rattle.gen_expr.specs.Nodes.{assign_node, step_value, call_value}
@@ -31,8 +31,8 @@ node_code structs f (TNode-F.Binary o a b) ty = computed false (binary_value str
 node_code structs f (TNode-F.Assign o a b) ty = computed false (assign_node structs o a b) ty
 node_code structs f (TNode-F.Cond c a b) ty = computed false (cond_value c a b) ty
 node_code structs f (TNode-F.Cast s e) ty = computed e.alone (cast_value s e) ty
-node_code structs f (TNode-F.SizeofExpr e) ty = computed true (constant (size structs e.ty % 2 ^ 64)) ty
-node_code structs f (TNode-F.SizeofName s) ty = computed true (constant (size structs s % 2 ^ 64)) ty
+node_code structs f (TNode-F.SizeofExpr e) ty = computed true (constant (wrapped_size structs e.ty)) ty
+node_code structs f (TNode-F.SizeofName s) ty = computed true (constant (wrapped_size structs s)) ty
 node_code structs f (TNode-F.Call callee as') ty = computed false (call_value callee as') ty
 node_code structs f (TNode-F.Index a i) ty = designated false (index_place structs a i ty) ty
 node_code structs f (TNode-F.Member e member) ty = computed false no_code ty

@@ -1,3 +1,4 @@
 pub mod Coded
 pub mod Nodes
 pub mod Expressions
+pub mod Laws

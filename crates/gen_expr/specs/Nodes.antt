@@ -11,7 +11,6 @@ use Rattle.c_type_base.specs.declared.ty.Ty.{Ty}
 use Rattle.c_type_base.specs.declared.expr.Callee.{Callee}
 use Rattle.c_type_base.specs.declared.expr.Callee.TheVariants as callee
 use Rattle.c_type_base.specs.declared.typed.StructInfo.{StructInfo}
-use Rattle.c_type_base.specs.Sizes.{size}
 use Rattle.c_type_base.specs.Types.{target_of}
 use Rattle.a64_code.specs.declared.instr.Instr.{Instr}
 use Rattle.a64_code.specs.declared.instr.Instr.TheVariants.{Nop, Svc}
@@ -24,7 +23,7 @@ use Rattle.gen_base.specs.Accesses.{OnStack, Behind, load_scalar, store_scalar, 
 use Rattle.gen_base.specs.Code.{Code, nothing, only, plain, in_turn, labelled}
 use Rattle.gen_base.specs.Conversions.{convert}
 use Rattle.gen_base.specs.Integers.{on_integer, is_other}
-use Rattle.gen_base.specs.Operators.{operated, element, combined, stepped}
+use Rattle.gen_base.specs.Operators.{wrapped_size, operated, element, combined, stepped}
 use Rattle.gen_base.specs.Registers.{left, scratch, argument, returned, move, paying}
 use Rattle.gen_base.specs.Waiting.{keep, fetch}
 use Rattle.gen_expr.specs.Coded.{Emits, Coded, computed, designated, pointed}
@@ -83,7 +82,7 @@ converted_value ty e t r = in_turn (e.value t r ∷ plain (convert e.ty ty r) �
 
 abbrev pub index_place : List StructInfo → Coded → Coded → Ty → Emits
 index_place structs a i ty t r =
-    in_turn (first_waits left a.value i t r ∷ plain (element (size structs ty) (target_of a.ty) r) ∷ [])
+    in_turn (first_waits left a.value i t r ∷ plain (element (wrapped_size structs ty) (target_of a.ty) r) ∷ [])
 
 -- ---- assignment: a local in reach of SP is stored there, and any other object through its place, which waits
 

@@ -1,5 +1,5 @@
 -- Lists of instructions that compute a number into a register (this project's own).
-use Rattle.std.specs.Prelude.{◌≡◌, ◌≢◌, ℕ, ◌^◌, ◌<◌, ◌≤◌, List, length}
+use Rattle.std.specs.Prelude.{◌≡◌, ◌≢◌, ℕ, ◌^◌, ◌<◌, ◌≤◌, List, length, Option, Some, None}
 use Rattle.c_ast.specs.declared.int_type.IntType.{IntType}
 use Rattle.c_type_base.specs.Conversions.{promoted, wrap}
 use Rattle.a64_code.specs.declared.instr.Instr.{Instr}
@@ -50,6 +50,11 @@ pub record Operands (r : Reg) (a b : ℕ) (s : State) : Type 0 where
 -- a number is a value of a type
 abbrev pub IsOf : IntType → ℕ → Type 0
 IsOf t n = n ≡ wrap t n
+
+-- a value of a type that may be an integer type
+abbrev pub IsOfSome : Option IntType → ℕ → Type 0
+IsOfSome None n = Unit {0}
+IsOfSome (Some t) n = IsOf t n
 
 -- a type in which operators compute: int, long, and the unsigned ones
 abbrev pub IsPromoted : IntType → Type 0

@@ -4,3 +4,11 @@ pub mod Arithmetic
 pub mod Bitwise
 pub mod Comparisons
 pub mod Shifts
+pub mod Divisions
+pub mod Remainders
+pub mod Integers
+pub mod Unary
+pub mod Conversions
+pub mod Moves
+pub mod Pointers
+pub mod TwoPointers

@@ -1,5 +1,5 @@
 -- The code by which scopes are entered and left (this project's own): their tagged slots get their tags and lose them.
-use Rattle.std.specs.Prelude.{ℕ, max, Bool, false, List, [], ◌∷◌, Option, Some, None, slice_get, if◌then◌else◌}
+use Rattle.std.specs.Prelude.{ℕ, max, min, Bool, false, List, [], ◌∷◌, Option, Some, None, slice_get, if◌then◌else◌}
 use Rattle.std.specs.List.{filter, list_any}
 use Rattle.a64_code.specs.declared.instr.Instr.TheVariants.{Nop}
 use Rattle.frame_layout.specs.declared.frame.Frame.{Frame}
@@ -23,10 +23,10 @@ greatest_of k (j ∷ js) = greatest_of (max k j) js
 abbrev pub range : ℕ → List ℕ → Range
 range k ks = record { first = k; last = greatest_of k ks }
 
--- with a scope more inside
+-- with a scope more inside: a block may declare its first local behind an inner one
 abbrev pub widened : Option Range → Range → Range
 widened None r = r
-widened (Some around) r = record { first = around.first; last = max around.last r.last }
+widened (Some around) r = record { first = min around.first r.first; last = max around.last r.last }
 
 -- ---- tagged slots
 

@@ -1,6 +1,12 @@
 //! The code of a translation unit: the words of its functions, and what they want of the linker.
 #![tactic(auto)]
 
+mod jumps;
+mod labels;
+mod lengths;
+mod lists;
+mod output;
 mod parts;
+mod scopes;
 
 pub use parts::{CodeReloc, CodeTarget, Place, UnitCode};

@@ -1,6 +1,7 @@
 -- A turn of each loop.
-use Rattle.std.proofs.Common.{◌≡◌, refl, ℕ, zero, suc, ◌+◌, ◌-◌, ◌*◌, ◌/◌, ◌%◌, ◌<◌, ◌≤◌, Bool, true, false, List, [], ◌∷◌, ◌++◌, length, drop, take}
-use Rattle.std.proofs.Common.{slice_get, Some, None, Option, ap, sym, ◌∙◌, subst, arith, append_assoc, append-nil, drop-cons, flat_map}
+use Rattle.std.proofs.Common.{◌≡◌, refl, ℕ, zero, suc, ◌+◌, ◌-◌, ◌*◌, ◌/◌, ◌%◌, ◌<◌, ◌≤◌, Bool, true, false, List, [], ◌∷◌, ◌++◌}
+use Rattle.std.proofs.Common.{length, drop, take, slice_get, Some, None, Option, ap, sym, ◌∙◌, subst, arith, append_assoc, append-nil}
+use Rattle.std.proofs.Common.{drop-cons, flat_map}
 use Rattle.std.proofs.Math.Seq.{take-suc}
 use Rattle.std.proofs.lemmas.List.{take-append-drop}
 use Rattle.std.proofs.lemmas.Option.{slice_get-get_or}
@@ -52,7 +53,8 @@ pub granules_turn : (tag : Reg) (pair n : ℕ) (before after all : List Instr) �
 granules_turn tag pair n before after all less passed turn =
     ap (λ code. code ++ rest (2 * (pair + 1)) (n - 2 * (pair + 1))) turn
     ∙ append_assoc before (St2g (2 * pair) place tag ∷ []) (rest (2 * (pair + 1)) (n - 2 * (pair + 1)))
-    ∙ ap (λ first. before ++ St2g (2 * pair) place tag ∷ rest first (n - 2 * (pair + 1))) (let e : 2 * (pair + 1) ≡ 2 * pair + 2 = omega arith in e)
+    ∙ ap (λ first. before ++ St2g (2 * pair) place tag ∷ rest first (n - 2 * (pair + 1)))
+    (let e : 2 * (pair + 1) ≡ 2 * pair + 2 = omega arith in e)
     ∙ ap (λ k. before ++ St2g (2 * pair) place tag ∷ rest (2 * pair + 2) k)
     (let e : n - 2 * (pair + 1) ≡ n - 2 * pair - 2 = omega arith in e)
     ∙ ap (λ code. before ++ code) (sym (pairs_on tag (2 * pair) (n - 2 * pair) (omega (arith, less))))
@@ -86,8 +88,8 @@ bytes_of-append (x ∷ xs) ys = omega (arith, bytes_of-append xs ys)
 
 grows : (xs : List Slot) (s : Slot) → stretch_of (xs ++ s ∷ []) ≡ Some (grow (stretch_of xs) s)
 grows [] s = ap (λ n. Some (record { start = s.start; bytes = n })) (let e : s.bytes + 0 ≡ s.bytes = omega arith in e)
-grows (x ∷ xs) s = ap (λ n. Some (record { start = x.start; bytes = n })) (let e : bytes_of (x ∷ (xs ++ s ∷ [])) ≡ bytes_of (x ∷ xs) + s.bytes =
-    omega (arith, bytes_of-append (x ∷ xs) (s ∷ [])) in e)
+grows (x ∷ xs) s = ap (λ n. Some (record { start = x.start; bytes = n }))
+    (let e : bytes_of (x ∷ (xs ++ s ∷ [])) ≡ bytes_of (x ∷ xs) + s.bytes = omega (arith, bytes_of-append (x ∷ xs) (s ∷ [])) in e)
 
 grown-is : (xs : List Slot) (s : Slot) → grown (stretch_of xs) s ≡ bytes_of (xs ++ s ∷ [])
 grown-is [] s = omega arith

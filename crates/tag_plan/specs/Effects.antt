@@ -1,5 +1,6 @@
 -- What the lists leave (this project's own).
-use Rattle.std.specs.Prelude.{◌≡◌, ◌≢◌, ℕ, suc, ◌+◌, ◌/◌, ◌%◌, ◌^◌, ◌<◌, ◌≤◌, Bool, true, false, ◌&&◌, nat_le, List, [], ◌∷◌, length, slice_get, Some}
+use Rattle.std.specs.Prelude.{◌≡◌, ◌≢◌, ℕ, suc, ◌+◌, ◌/◌, ◌%◌, ◌^◌, ◌<◌, ◌≤◌, Bool, true, false, ◌&&◌, nat_le, List, [], ◌∷◌}
+use Rattle.std.specs.Prelude.{length, slice_get, Some}
 use Rattle.mt_base.specs.Granules.{granule_of}
 use Rattle.mt_base.specs.Memory.{is_between, store, load}
 use Rattle.mt_base.specs.Pointers.{tag_of, with_tag}

@@ -1,7 +1,7 @@
 -- The code that gives a frame's granules their tags and takes them away, as functions of the frame (this project's own, after the stack
 -- tagging of MemTagSanitizer). SP is the frame's lowest address, X28 the tagged base, and X9 to X11 are scratch.
-use Rattle.std.specs.Prelude.{ℕ, ◌+◌, ◌-◌, ◌/◌, ◌%◌, ◌<◌, nat_lt, Bool, true, false, not, ◌&&◌, List, [], ◌∷◌, ◌++◌, flat_map, if◌then◌else◌}
-use Rattle.std.specs.Prelude.{Option, Some, None, slice_get, take, drop}
+use Rattle.std.specs.Prelude.{ℕ, ◌+◌, ◌-◌, ◌/◌, ◌%◌, ◌<◌, nat_lt, Bool, true, false, not, ◌&&◌, List, [], ◌∷◌, ◌++◌, flat_map}
+use Rattle.std.specs.Prelude.{if◌then◌else◌, Option, Some, None, slice_get, take, drop}
 use Rattle.std.specs.List.{filter}
 use Rattle.a64_code.specs.declared.instr.Instr.{Instr}
 use Rattle.a64_code.specs.declared.instr.Instr.TheVariants.{AddImm, Addg, Irg, Ldr, Str}

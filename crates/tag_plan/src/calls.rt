@@ -4,7 +4,8 @@ ghost use Rattle.frame_layout.specs.declared.frame.Slot.{Slot};
 ghost use Rattle.frame_layout.specs.WellFormed.{IsWellFormed};
 ghost use Rattle.tag_plan.specs.Effects.{AreNumbers, IsTaggedAt};
 ghost use Rattle.tag_plan.specs.Stretches.{AreSmall, IsSmall};
-ghost use Rattle.tag_plan.specs.Lists.{base_list, enter_list, entry_list, exit_list, leave_list, outer_tagged, slot_address_list, slot_list};
+ghost use Rattle.tag_plan.specs.Lists.{base_list, enter_list, entry_list, exit_list, leave_list, outer_tagged};
+ghost use Rattle.tag_plan.specs.Lists.{slot_address_list, slot_list};
 
 use crate::places::{TAGGED_BASE, is_tagged, push_address, push_clearing, push_slot};
 use crate::rounds::STACK_POINTER;

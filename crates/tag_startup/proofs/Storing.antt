@@ -64,7 +64,8 @@ is_false false holds = refl
 -- ---- all of them
 
 -- the pointers that are left, put on what memory has, are all of them put on what it had
-pub record StillStores {M : Type 0} (shown : Ghosts M) (old now : M) (relocs left : List RelativeReloc) (pointers rest : List ℕ) : Type 0 where
+pub record StillStores {M : Type 0} (shown : Ghosts M) (old now : M) (relocs left : List RelativeReloc)
+    (pointers rest : List ℕ) : Type 0 where
   pub byte : stored (shown.byte now) left rest ≡ stored (shown.byte old) relocs pointers
   pub tags : shown.tags now ≡ shown.tags old
   pub regions : shown.regions now ≡ shown.regions old

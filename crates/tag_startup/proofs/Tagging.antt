@@ -30,7 +30,8 @@ one_more : (tags : ℕ → ℕ) (start n tag granule : ℕ) → start % 16 ≡ 0
 unfolding with_granules
 one_more tags start n tag granule whole = elim (cases_Bool (is_between start (16 * n) (granule * 16))) [
   | inl before ↦
-      rw (more (granule * 16) before) (store_tag_other _ (start + 16 * n) tag granule (λ e. not_last (granule * 16) before (omega (arith, e, whole)))
+      rw (more (granule * 16) before) (store_tag_other _ (start + 16 * n) tag granule
+      (λ e. not_last (granule * 16) before (omega (arith, e, whole)))
       ∙ rw before refl)
   | inr other ↦ elim (cases_Bool (is_between start (16 * (n + 1)) (granule * 16))) [
     | inl last ↦ rw last (store_tag_same _ (start + 16 * n) tag granule

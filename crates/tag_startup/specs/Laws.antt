@@ -1,5 +1,5 @@
--- Placed and Writable are about regions, Inside and OneStart about images that start, TagLaws, PlaceLaws and PointerLaws about what memory has,
--- Kept and CodeInMemory about what start-up leaves as it is.
+-- Placed and Writable are about regions, Inside and OneStart about images that start, TagLaws, PlaceLaws and PointerLaws about what memory
+-- has, Kept and CodeInMemory about what start-up leaves as it is.
 pub mod Placed
 pub mod Writable
 pub mod Inside

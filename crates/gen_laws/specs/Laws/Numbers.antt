@@ -9,7 +9,7 @@ use Rattle.c_type_base.specs.Conversions.{is_signed, bits_of, promoted, extended
 use Rattle.mt_base.specs.Extension.{sign_extend, zero_extend}
 use Rattle.gen_laws.specs.Computes.{IsOf, IsPromoted}
 
-pub some_same : {m n : ℕ} → Some m ≡ Some n → m ≡ n
+pub some_same : {A : Type 0} {x y : A} → Some x ≡ Some y → x ≡ y
 some_same is = cc
 
 pub each_promoted : (P : IntType → Type 0) → P int.Int → P int.UInt → P int.Long → P int.ULong → (t : IntType) → IsPromoted t → P t

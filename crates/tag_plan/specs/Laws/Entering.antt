@@ -28,7 +28,8 @@ fill_reaches from (s ∷ ss) to filled = omega (arith, fill_reaches (from + s.by
 
 -- what the first of some slots takes of the stretch
 rest_filled : (from : ℕ) (s : Slot) (kind : Kind) (ss : List Slot) (to : ℕ) →
-    Fill from (if of_kind kind then s ∷ tagged_slots ss else tagged_slots ss) to → (place : ℕ) × (from ≤ place) × Fill place (tagged_slots ss) to
+    Fill from (if of_kind kind then s ∷ tagged_slots ss else tagged_slots ss) to →
+    (place : ℕ) × (from ≤ place) × Fill place (tagged_slots ss) to
 rest_filled from s Safe ss to filled = (from, omega arith, filled)
 rest_filled from s Tagged ss to filled = (from + s.bytes, omega arith, filled.1)
 

@@ -106,7 +106,8 @@ exit-does f s well some frame fits =
     reaches = rising-reaches well.first (tagged_slots f.slots) f.bytes (frame-rising f well)
 
 -- where the granules before the tagged slots have no tag, none of the frame has one after the exit
-pub exited-clear : (f : Frame) (s t : State) (well : IsWellFormed f) → IsFrame f.bytes s → Exited well.first (granules_from well.first f) s t →
+pub exited-clear : (f : Frame) (s t : State) (well : IsWellFormed f) → IsFrame f.bytes s →
+    Exited well.first (granules_from well.first f) s t →
     ((granule : ℕ) → is_between (granule_of s.sp) (well.first / 16) granule ≡ true → s.tag granule ≡ 0) →
     (granule : ℕ) → is_between (granule_of s.sp) (f.bytes / 16) granule ≡ true → t.tag granule ≡ 0
 exited-clear f s t well frame left before granule inside =

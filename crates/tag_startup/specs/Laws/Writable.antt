@@ -55,7 +55,8 @@ third_mapped true b c d is = refl
 third_mapped false true c d is = refl
 third_mapped false false c d is = rw is refl
 
-third_writable : (a b c d : Bool) → a ≡ false → b ≡ false → ((a && true) || ((b && true) || ((c && false) || ((d && false) || false)))) ≡ false
+third_writable : (a b c d : Bool) → a ≡ false → b ≡ false →
+    ((a && true) || ((b && true) || ((c && false) || ((d && false) || false)))) ≡ false
 third_writable a b true true first second = rw (first, second) refl
 third_writable a b true false first second = rw (first, second) refl
 third_writable a b false true first second = rw (first, second) refl

@@ -16,6 +16,7 @@ returns c =
       some = tt;
       none = no_link _ _ (λ out some same.
           c.in-None.ensures.none out
-          (let least : 1 ≤ c.file_count-count.result = omega (arith, c.file_count-count.ensures, texts_some c.args.files.items some) in least)
+          (let least : 1 ≤ c.file_count-count.result =
+          omega (arith, c.file_count-count.ensures, texts_some c.args.files.items some) in least)
           same);
     }

@@ -24,7 +24,8 @@ first_is c = sym (c.in-Some.ensures ∙ ap (first_outside (image_of c.args.image
 
 pub overflow_cast-result : goal.overflow_cast-result
 overflow_cast-result c =
-    omega (arith, index_fits (image_of c.args.image.now) c.in_ok-objects.objects.items c.in-Some.index c.requires (described c) (first_is c))
+    let image = image_of c.args.image.now in
+    omega (arith, index_fits image c.in_ok-objects.objects.items c.in-Some.index c.requires (described c) (first_is c))
 
 pub returns-in-Some-clause-refused : goal.returns-in-Some-clause-refused
 returns-in-Some-clause-refused c =

@@ -60,7 +60,9 @@ load-requires-3 c =
     has_room (extents c.load-2.new.self.regions.items) (loaded_regions image c.args.stack) (load_address + dynamic_place image)
     (load_address + c.dynamic_place.result) (writable_bytes image) c.deref-3.result.now
     (c.load-2.ensures.regions ∙ c.load.ensures.regions ∙ c.in_ok-memory.ensures.regions ∙ c.in_ok-regions.ensures)
-    (ap (λ n. load_address + n) c.dynamic_place.ensures) (all_put _ _ _ _ c.deref-3.ensures.value c.in_ok-push_writable.ensures c.new-entries.ensures.items) (third_mapped image c.args.stack c.requires.valid)
+    (ap (λ n. load_address + n) c.dynamic_place.ensures)
+    (all_put _ _ _ _ c.deref-3.ensures.value c.in_ok-push_writable.ensures c.new-entries.ensures.items)
+    (third_mapped image c.args.stack c.requires.valid)
 
 -- one store after another, by other names of what is stored
 stored_as : (byte other : ℕ → ℕ) (place start : ℕ) (items bytes : List ℕ) → byte ≡ other → place ≡ start → items ≡ bytes →
@@ -78,8 +80,10 @@ returns c =
           ∙ stored_as _ _ _ (load_address + code_place image) _ (code_bytes image)
           (c.load.ensures.bytes ∙ stored_as _ _ _ load_address _ (read_only_bytes image) refl refl
           (c.deref.ensures.value ∙ c.in_ok-tables.ensures))
-          (ap (λ n. load_address + n) c.code_place.ensures) (all_put _ _ _ _ c.deref-2.ensures.value c.in_ok-push_code.ensures c.new-words.ensures.items))
-          (ap (λ n. load_address + n) c.dynamic_place.ensures) (all_put _ _ _ _ c.deref-3.ensures.value c.in_ok-push_writable.ensures c.new-entries.ensures.items)
+          (ap (λ n. load_address + n) c.code_place.ensures)
+          (all_put _ _ _ _ c.deref-2.ensures.value c.in_ok-push_code.ensures c.new-words.ensures.items))
+          (ap (λ n. load_address + n) c.dynamic_place.ensures)
+          (all_put _ _ _ _ c.deref-3.ensures.value c.in_ok-push_writable.ensures c.new-entries.ensures.items)
           ∙ parts_shown image c.args.stack _ c.requires.valid c.requires.stack c.in_ok-memory.ensures.bytes;
       tags = λ granule.
           ap (λ f. f granule) (c.load-3.ensures.tags ∙ c.load-2.ensures.tags ∙ c.load.ensures.tags) ∙ c.in_ok-memory.ensures.tags granule;
