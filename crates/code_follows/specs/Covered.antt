@@ -1,55 +1,91 @@
 -- The expressions of which it is shown that their code does what they mean (this project's own): all but those with members of structs, or
--- structs that are assigned, which have no code yet. Each constant is a value of its type, as the text has it; no law says yet that typed
--- trees are so.
-use Rattle.std.specs.Prelude.{Bool, true, false, ◌&&◌, nat_eq, not, List, [], ◌∷◌}
-use Rattle.c_type_base.specs.Conversions.{wrap}
-use Rattle.c_type_base.specs.Types.{is_struct}
+-- structs that are assigned, which have no code yet. Each constant is a value of its type, as the text has it, and operators compute in
+-- promoted types (ISO C11 6.3.1.8): no law says yet that typed trees are so.
+use Rattle.std.specs.Prelude.{nat_le, Bool, true, false, ◌&&◌, ◌||◌, nat_eq, not, List, [], ◌∷◌, Option, Some, None, if◌then◌else◌}
+use Rattle.c_ast.specs.declared.int_type.IntType.{IntType}
+use Rattle.c_ast.specs.declared.operator.AssignOperator.{AssignOperator}
+use Rattle.c_type_base.specs.Conversions.{bits_of, wrap}
+use Rattle.c_type_base.specs.Types.{int_of, is_pointer, is_struct}
 use Rattle.c_type_base.specs.declared.expr.TExpr.{TExpr}
 use Rattle.c_type_base.specs.declared.expr.TNode.{TNode, map-TNode}
 use Rattle.c_type_base.specs.declared.expr.TNode.TheFolds.{fold-TNode, fold-TExpr}
 use Rattle.c_type_base.specs.declared.expr.TNode.TheOpen.{TNode-F, TExpr-F}
 use Rattle.c_type_base.specs.declared.ty.Ty.{Ty}
 use Rattle.block_meaning.specs.Expressions.{NodeLayer}
+use Rattle.block_meaning.specs.ExpressionsInOrder.{is_sign}
+use Rattle.block_meaning.specs.Operators.{int_in, binary_of, computing_type}
+
+-- ---- types in which operators compute
+
+-- of 32 bits or more
+abbrev pub is_promoted : IntType → Bool
+is_promoted t = nat_le 32 (bits_of t)
+
+abbrev pub is_promoted_in : Option IntType → Bool
+is_promoted_in None = true
+is_promoted_in (Some t) = is_promoted t
+
+-- such an integer type, or no integer type
+abbrev pub computes_in : Ty → Bool
+computes_in t = is_promoted_in (int_of t)
+
+-- an operator with `=`, on an object of the first type
+abbrev pub combines_in : AssignOperator → Ty → Ty → Bool
+combines_in o s t = is_pointer s || is_promoted (computing_type (binary_of o) (int_in s) (int_in t))
+
+abbrev pub combines_by : Option AssignOperator → Ty → Ty → Bool
+combines_by None s t = true
+combines_by (Some o) s t = combines_in o s t
+
+-- ---- trees
+
+-- of an expression: its type, and whether it is covered
+pub record Covering : Type 0 where
+  pub ty : Ty
+  pub is : Bool
 
 -- by the type of its expression
 abbrev pub NodeCovered : Type 0
 NodeCovered = Ty → Bool
 
-abbrev pub all_covered : List Bool → Bool
+abbrev pub all_covered : List Covering → Bool
 all_covered [] = true
-all_covered (b ∷ bs) = b && all_covered bs
+all_covered (e ∷ es) = e.is && all_covered es
 
-abbrev pub node_covered : TNode-F NodeCovered Bool → NodeCovered
-node_covered (TNode-F.Constant n i) ty = nat_eq (wrap i n) n
+abbrev pub node_covered : TNode-F NodeCovered Covering → NodeCovered
+node_covered (TNode-F.Constant n i) ty = nat_eq n (wrap i n)
 node_covered (TNode-F.Text n) ty = true
 node_covered (TNode-F.Local n) ty = true
 node_covered (TNode-F.Global n) ty = true
 node_covered (TNode-F.Extern n) ty = true
-node_covered (TNode-F.Paren e) ty = e
-node_covered (TNode-F.Unary o e) ty = e
-node_covered (TNode-F.Binary o a b) ty = a && b
-node_covered (TNode-F.Assign o a b) ty = not (is_struct ty) && (a && b)
-node_covered (TNode-F.Cond c a b) ty = c && (a && b)
-node_covered (TNode-F.Cast t e) ty = e
+node_covered (TNode-F.Paren e) ty = e.is
+node_covered (TNode-F.Unary o e) ty = (if is_sign o then computes_in ty else true) && e.is
+node_covered (TNode-F.Binary o a b) ty = computes_in ty && (a.is && b.is)
+node_covered (TNode-F.Assign o a b) ty = (not (is_struct ty) && combines_by o a.ty b.ty) && (a.is && b.is)
+node_covered (TNode-F.Cond c a b) ty = c.is && (a.is && b.is)
+node_covered (TNode-F.Cast t e) ty = e.is
 node_covered (TNode-F.SizeofExpr e) ty = true
 node_covered (TNode-F.SizeofName t) ty = true
-node_covered (TNode-F.Call f as') ty = all_covered as'
-node_covered (TNode-F.Index a i) ty = a && i
+node_covered (TNode-F.Call f es) ty = all_covered es
+node_covered (TNode-F.Index a i) ty = a.is && i.is
 node_covered (TNode-F.Member e n) ty = false
 node_covered (TNode-F.Arrow e n) ty = false
-node_covered (TNode-F.Step s e) ty = e
-node_covered (TNode-F.Read e) ty = e
-node_covered (TNode-F.Decay e) ty = e
-node_covered (TNode-F.Convert e) ty = e
+node_covered (TNode-F.Step s e) ty = e.is
+node_covered (TNode-F.Read e) ty = e.is
+node_covered (TNode-F.Decay e) ty = e.is
+node_covered (TNode-F.Convert e) ty = e.is
 
-abbrev pub expr_covered : TExpr-F NodeCovered Bool → Bool
-expr_covered e = e.node e.ty
+abbrev pub expr_covered : TExpr-F NodeCovered Covering → Covering
+expr_covered e = record { ty = e.ty; is = e.node e.ty }
 
-abbrev pub covered : TExpr → Bool
-covered = fold-TExpr NodeCovered Bool node_covered expr_covered
+abbrev pub covering : TExpr → Covering
+covering = fold-TExpr NodeCovered Covering node_covered expr_covered
 
-abbrev pub covered_node : TNode → NodeCovered
-covered_node = fold-TNode NodeCovered Bool node_covered expr_covered
+abbrev pub covering_node : TNode → NodeCovered
+covering_node = fold-TNode NodeCovered Covering node_covered expr_covered
 
 abbrev pub layer_covered : NodeLayer → NodeCovered
-layer_covered l = node_covered (map-TNode TNode TExpr NodeCovered Bool covered_node covered l)
+layer_covered l = node_covered (map-TNode TNode TExpr NodeCovered Covering covering_node covering l)
+
+abbrev pub covered : TExpr → Bool
+covered e = (covering e).is

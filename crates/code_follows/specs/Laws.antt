@@ -5,7 +5,6 @@ pub mod Coming
 pub mod Going
 pub mod Here
 pub mod Computing
-pub mod Wrapping
 pub mod Addresses
 pub mod Nodes
 pub mod Whole

@@ -8,7 +8,6 @@ use Rattle.c_ast.specs.declared.operator.BinaryOperator.{BinaryOperator}
 use Rattle.c_ast.specs.declared.operator.Step.{Step}
 use Rattle.c_ast.specs.declared.operator.UnaryOperator.{UnaryOperator}
 use Rattle.c_ast.specs.declared.operator.UnaryOperator.TheVariants as unary
-use Rattle.c_type_base.specs.Conversions.{wrap}
 use Rattle.c_type_base.specs.Types.{is_integer, is_scalar, is_struct, is_void, target_of, element_of}
 use Rattle.c_type_base.specs.declared.expr.Callee.{Callee}
 use Rattle.c_type_base.specs.declared.expr.TExpr.{TExpr}
@@ -22,6 +21,8 @@ use Rattle.block_meaning.specs.ExpressionsInOrder.{file_of, global_of, IsDefined
 use Rattle.block_meaning.specs.ExpressionsInOrder.{CompoundTypes, Converts, Callable, Arguments}
 use Rattle.block_meaning.specs.Linkage.{extern_at}
 use Rattle.block_meaning.specs.Locals.{text_of}
+use Rattle.gen_laws.specs.Computes.{IsOf}
+use Rattle.code_follows.specs.Covered.{computes_in, combines_in}
 use Rattle.code_follows.specs.Parts.{ValueFollows, PlaceFollows, ValueNode, PlaceNode}
 use Rattle.code_follows.specs.Scene.{Scene}
 
@@ -32,20 +33,20 @@ AllFollow k depth (e ∷ es) = ValueFollows k depth e × AllFollow k depth es
 
 -- the nodes that have a value, one a constructor of `HasValue`, with so many levels below them
 pub record ValueNodes (k : Scene) (depth : ℕ) : Type 0 where
-  pub constant : (n : ℕ) (i : IntType) → wrap i n ≡ n → ValueNode k depth (ty.Int i) (TNode-F.Constant n i)
+  pub constant : (n : ℕ) (i : IntType) → IsOf i n → ValueNode k depth (ty.Int i) (TNode-F.Constant n i)
   pub paren : (e : TExpr) → ValueFollows k depth e → ValueNode k depth e.ty (TNode-F.Paren e)
   pub address : (e : TExpr) → PlaceFollows k depth e → ValueNode k depth (ty.Pointer e.ty) (TNode-F.Unary unary.AddressOf e)
   pub denied : (e : TExpr) → ValueFollows k depth e → is_scalar e.ty ≡ true → ValueNode k depth int_type (TNode-F.Unary unary.Not e)
   pub signed : (o : UnaryOperator) (e : TExpr) → is_sign o ≡ true → ValueFollows k depth e → is_integer e.ty ≡ true →
-      ValueNode k depth e.ty (TNode-F.Unary o e)
+      computes_in e.ty ≡ true → ValueNode k depth e.ty (TNode-F.Unary o e)
   pub logical : (o : BinaryOperator) (a b : TExpr) → group_of o ≡ Logical → ValueFollows k depth a → is_scalar a.ty ≡ true →
       ValueFollows k depth b → is_scalar b.ty ≡ true → ValueNode k depth int_type (TNode-F.Binary o a b)
   pub operated : (o : BinaryOperator) (a b : TExpr) (t : Ty) → ValueFollows k depth a → ValueFollows k depth b →
-      BinaryTypes o a.ty b.ty t → ValueNode k depth t (TNode-F.Binary o a b)
+      BinaryTypes o a.ty b.ty t → computes_in t ≡ true → ValueNode k depth t (TNode-F.Binary o a b)
   pub assigned : (a b : TExpr) → PlaceFollows k depth a → ValueFollows k depth b → b.ty ≡ a.ty → is_struct a.ty ≡ false →
       ValueNode k depth a.ty (TNode-F.Assign None a b)
   pub compound : (o : AssignOperator) (a b : TExpr) → PlaceFollows k depth a → ValueFollows k depth b → CompoundTypes o a.ty b.ty →
-      ValueNode k depth a.ty (TNode-F.Assign (Some o) a b)
+      combines_in o a.ty b.ty ≡ true → ValueNode k depth a.ty (TNode-F.Assign (Some o) a b)
   pub chosen : (c a b : TExpr) (t : Ty) → ValueFollows k depth c → is_scalar c.ty ≡ true → ValueFollows k depth a → a.ty ≡ t →
       ValueFollows k depth b → b.ty ≡ t → ValueNode k depth t (TNode-F.Cond c a b)
   pub cast : (t : Ty) (e : TExpr) → ValueFollows k depth e → Converts e.ty t → ValueNode k depth t (TNode-F.Cast t e)

@@ -15,7 +15,8 @@ use Rattle.code_runs.specs.Bounded.{Account}
 use Rattle.code_runs.specs.Laws.Ranges.{IsInRange-Steps}
 use Rattle.code_follows.specs.Parts.{Came, On}
 use Rattle.code_follows.specs.Scene.{Scene, given_in, IsScene}
-use Rattle.code_follows.specs.Steps.{SameMachine, Walks, SameButResults, Computes, Suits}
+use Rattle.gen_laws.specs.Computes.{SameButResults, Computes}
+use Rattle.code_follows.specs.Steps.{SameMachine, Walks, Suits}
 use Rattle.code_follows.specs.Laws.Lying.{HasInstrs}
 use Rattle.code_follows.specs.Laws.Walking.{are_quiet, walk_within}
 

@@ -4,10 +4,9 @@ use Rattle.std.proofs.Common.{arith, ap, ◌∙◌, length-append}
 use Rattle.a64_code.specs.declared.instr.Instr.{Instr}
 use Rattle.a64_code.specs.declared.instr.Instr.TheVariants.{Movz}
 use Rattle.a64_code.specs.declared.instr.Reg.{Reg}
-use Rattle.a64_code.specs.State.{State}
-use Rattle.a64_laws.specs.Constants.{constant_moves, kept_halfword, SameButRegisters, PutsConstant}
-use Rattle.a64_laws.specs.Laws.Constants.{constant_put}
-use Rattle.code_follows.specs.Steps.{SameButResults, Computes, all, Suits}
+use Rattle.a64_laws.specs.Constants.{constant_moves, kept_halfword}
+use Rattle.gen_laws.specs.Computes.{all}
+use Rattle.code_follows.specs.Steps.{Suits}
 use Rattle.code_follows.specs.Laws.Walking.{is_quiet, are_quiet}
 
 -- a list for the part's own register alone, and any list in a part that is not alone
@@ -26,31 +25,6 @@ are_quiet-append (x ∷ xs) ys first second = by_one (is_quiet x) (are_quiet xs)
     by_one false b both rest = absurd (cc)
 
 -- ---- constants
-
-results_same : {s t : State} → SameButRegisters s t → SameButResults s t
-results_same same = record {
-  sp = same.sp;
-  byte = same.byte;
-  tag = same.tag;
-  regions = same.regions;
-  guard = same.guard;
-  choices = same.choices;
-  drawn = same.drawn;
-  outside = same.outside;
-}
-
-pub Computes-constant : (value : ℕ) (r : Reg) (s : State) → r.0 < 31 → value < 2 ^ 64 → s.pc < 2 ^ 56 →
-    Computes (constant_moves r value) r value all s
-Computes-constant value r s low fits at = by_put (constant_put value r s low fits (omega (arith, at)))
-  where
-    by_put : PutsConstant r value (constant_moves r value) s → Computes (constant_moves r value) r value all s
-    by_put put = record {
-      to = put.to;
-      runs = put.runs;
-      holds = put.holds;
-      registers = λ q other spared. put.registers q other;
-      same = results_same put.same;
-    }
 
 halfword_quiet : (hw bits : ℕ) (r : Reg) → are_quiet (kept_halfword hw bits r) ≡ true
 halfword_quiet hw zero r = refl

@@ -19,7 +19,8 @@ use Rattle.gen_expr.specs.Coded.{Emits}
 use Rattle.code_runs.specs.Outcome.{Outcome, Completes, Finishes, Lacks, Unsaid, followed_by}
 use Rattle.code_follows.specs.Parts.{Result, Gave, On, Goes, Yields, Part}
 use Rattle.code_follows.specs.Scene.{Scene, given_in, Lies, IsFree}
-use Rattle.code_follows.specs.Steps.{Walks, Computes, Suits}
+use Rattle.gen_laws.specs.Computes.{Computes}
+use Rattle.code_follows.specs.Steps.{Walks, Suits}
 use Rattle.code_follows.specs.Laws.Coming.{Came-start, Came-spent, Came-walks, Came-part, Walks-computes}
 use Rattle.code_follows.specs.Laws.Lying.{HasInstrs}
 use Rattle.code_follows.specs.Laws.Walking.{are_quiet}

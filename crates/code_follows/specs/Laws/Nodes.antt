@@ -1,3 +1,4 @@
 pub mod Constant
+pub mod Paren
 pub mod SizeOf
 pub mod Named

@@ -1,8 +1,10 @@
 -- The code of each expression that is covered does what it means, where that of each node does (this project's own). By the number of
 -- levels, and the derivation that the expression is in order.
-use Rattle.std.specs.Prelude.{◌≡◌, ℕ, zero, suc, Bool, true, false, ◌&&◌, not, List, map, refl}
+use Rattle.std.specs.Prelude.{◌≡◌, ℕ, zero, suc, Bool, true, false, ◌&&◌, not, if◌then◌else◌, List, map, refl}
 use Rattle.std.proofs.Common.{ap, sym, subst, ◌∙◌}
 use Rattle.std.proofs.lemmas.Bool.{eqb-true}
+use Rattle.c_ast.specs.declared.operator.AssignOperator.{AssignOperator}
+use Rattle.c_ast.specs.declared.operator.UnaryOperator.{UnaryOperator}
 use Rattle.c_type_base.specs.Laws.Opened.{given_typed}
 use Rattle.c_type_base.specs.Types.{is_struct}
 use Rattle.c_type_base.specs.declared.expr.TExpr.{TExpr}
@@ -14,8 +16,8 @@ use Rattle.block_meaning.specs.Running.{stuck}
 use Rattle.gen_expr.specs.Coded.{Emits}
 use Rattle.block_meaning.specs.Expressions.{NodeLayer, parts_at}
 use Rattle.block_meaning.specs.ExpressionsInOrder as order
-use Rattle.block_meaning.specs.ExpressionsInOrder.{HasValue, Designates, Arguments}
-use Rattle.code_follows.specs.Covered.{NodeCovered, all_covered, node_covered, expr_covered, covered, layer_covered}
+use Rattle.block_meaning.specs.ExpressionsInOrder.{HasValue, Designates, Arguments, is_sign}
+use Rattle.code_follows.specs.Covered.{Covering, NodeCovered, computes_in, combines_in, all_covered, node_covered, expr_covered, covering, covered, layer_covered}
 use Rattle.code_follows.specs.Nodes.{AllFollow, Nodes}
 use Rattle.code_follows.specs.Layers.{layer_code}
 use Rattle.code_follows.specs.Parts.{Result, Part, ValuePart, too_deep, PlacePart, ValueFollows, PlaceFollows, ValueNode, PlaceNode}
@@ -23,11 +25,22 @@ use Rattle.code_follows.specs.Scene.{Scene, calls_in, structs_in, frame_in}
 use Rattle.code_follows.specs.Laws.Going.{Goes-stuck, Part-by}
 use Rattle.code_follows.specs.Laws.Layers.{coded-is, need-is}
 
-covered-is : (e : TExpr) → covered e ≡ layer_covered (out-TNode e.node) e.ty
+covering-is : (e : TExpr) → covering e ≡ record { ty = e.ty; is = layer_covered (out-TNode e.node) e.ty }
 unfolding given_typed
-covered-is e =
-    fold_out-TExpr NodeCovered Bool node_covered expr_covered e
-    ∙ ap (λ (n : NodeCovered). n e.ty) (fold_out-TNode NodeCovered Bool node_covered expr_covered e.node)
+covering-is e =
+    fold_out-TExpr NodeCovered Covering node_covered expr_covered e
+    ∙ ap (λ (n : NodeCovered). expr_covered (record { span = e.span; ty = e.ty; node = n }))
+    (fold_out-TNode NodeCovered Covering node_covered expr_covered e.node)
+
+covered-is : (e : TExpr) → covered e ≡ layer_covered (out-TNode e.node) e.ty
+covered-is e = ap (λ c. c.is) (covering-is e)
+
+covering-ty : (e : TExpr) → (covering e).ty ≡ e.ty
+covering-ty e = ap (λ c. c.ty) (covering-is e)
+
+combined_types : (o : AssignOperator) (a b : TExpr) → combines_in o (covering a).ty (covering b).ty ≡ true → combines_in o a.ty b.ty ≡ true
+combined_types o a b is =
+    sym (ap (λ s. combines_in o s (covering b).ty) (covering-ty a) ∙ ap (λ t. combines_in o a.ty t) (covering-ty b)) ∙ is
 
 first_of : (a b : Bool) → (a && b) ≡ true → a ≡ true
 first_of true b both = refl
@@ -41,17 +54,20 @@ is_false : (b : Bool) → not b ≡ true → b ≡ false
 is_false true is = absurd (cc)
 is_false false is = refl
 
+sign_computes : (o : UnaryOperator) (t : Ty) → is_sign o ≡ true → (if is_sign o then computes_in t else true) ≡ true → computes_in t ≡ true
+sign_computes o t sign is = sym (ap (λ b. (if b then computes_in t else true)) sign) ∙ is
+
 -- what is shown with so many levels below
 pub record Below (k : Scene) (depth : ℕ) : Type 0 where
   pub value : (e : TExpr) → HasValue k.scope e.ty (out-TNode e.node) → covered e ≡ true → ValueFollows k depth e
   pub place : (e : TExpr) → Designates k.scope e.ty (out-TNode e.node) → covered e ≡ true → PlaceFollows k depth e
 
 module _ {k : Scene} {depth : ℕ} (nodes : Nodes k) (below : Below k depth) where
-  all_value : (es : List TExpr) (ts : List Ty) → Arguments k.scope es ts → all_covered (map covered es) ≡ true → AllFollow k depth es
+  all_value : (es : List TExpr) (ts : List Ty) → Arguments k.scope es ts → all_covered (map covering es) ≡ true → AllFollow k depth es
   all_value es ts order.no_argument cov = tt
   all_value es ts (order.argument {e} {es = more} {ts = types} d ds) cov = (
-    below.value e d (first_of (covered e) (all_covered (map covered more)) cov),
-    all_value more types ds (second_of (covered e) (all_covered (map covered more)) cov),
+    below.value e d (first_of (covered e) (all_covered (map covering more)) cov),
+    all_value more types ds (second_of (covered e) (all_covered (map covering more)) cov),
   )
 
   value_by : (t : Ty) (l : NodeLayer) → HasValue k.scope t l → layer_covered l t ≡ true → ValueNode k depth t l
@@ -59,22 +75,30 @@ module _ {k : Scene} {depth : ℕ} (nodes : Nodes k) (below : Below k depth) whe
   value_by t l (order.paren {e} d) cov = (nodes.values depth).paren e (below.value e d cov)
   value_by t l (order.address {e} d) cov = (nodes.values depth).address e (below.place e d cov)
   value_by t l (order.denied {e} d is) cov = (nodes.values depth).denied e (below.value e d cov) is
-  value_by t l (order.signed {o} {e} sign d is) cov = (nodes.values depth).signed o e sign (below.value e d cov) is
+  value_by t l (order.signed {o} {e} sign d is) cov =
+      (nodes.values depth).signed o e sign (below.value e d (second_of _ (covered e) cov)) is
+      (sign_computes o t sign (first_of (if is_sign o then computes_in t else true) (covered e) cov))
   value_by t l (order.logical {o} {a} {b} group d is x its) cov =
-      (nodes.values depth).logical o a b group (below.value a d (first_of (covered a) (covered b) cov)) is
-      (below.value b x (second_of (covered a) (covered b) cov)) its
+      let both : (covered a && covered b) ≡ true = second_of (computes_in t) (covered a && covered b) cov in
+      (nodes.values depth).logical o a b group (below.value a d (first_of (covered a) (covered b) both)) is
+      (below.value b x (second_of (covered a) (covered b) both)) its
   value_by t l (order.operated {o} {a} {b} d x types) cov =
-      (nodes.values depth).operated o a b t (below.value a d (first_of (covered a) (covered b) cov))
-      (below.value b x (second_of (covered a) (covered b) cov)) types
+      let both : (covered a && covered b) ≡ true = second_of (computes_in t) (covered a && covered b) cov in
+      (nodes.values depth).operated o a b t (below.value a d (first_of (covered a) (covered b) both))
+      (below.value b x (second_of (covered a) (covered b) both)) types (first_of (computes_in t) (covered a && covered b) cov)
   value_by t l (order.assigned {a} {b} d x same) cov =
-      let both : (covered a && covered b) ≡ true = second_of (not (is_struct a.ty)) (covered a && covered b) cov in
+      let both : (covered a && covered b) ≡ true = second_of (not (is_struct a.ty) && true) (covered a && covered b) cov in
       (nodes.values depth).assigned a b (below.place a d (first_of (covered a) (covered b) both))
       (below.value b x (second_of (covered a) (covered b) both)) same
-      (is_false (is_struct a.ty) (first_of (not (is_struct a.ty)) (covered a && covered b) cov))
+      (is_false (is_struct a.ty) (first_of (not (is_struct a.ty)) true
+      (first_of (not (is_struct a.ty) && true) (covered a && covered b) cov)))
   value_by t l (order.compound {o} {a} {b} d x types) cov =
-      let both : (covered a && covered b) ≡ true = second_of (not (is_struct a.ty)) (covered a && covered b) cov in
+      let combines : Bool = combines_in o (covering a).ty (covering b).ty in
+      let both : (covered a && covered b) ≡ true = second_of (not (is_struct a.ty) && combines) (covered a && covered b) cov in
       (nodes.values depth).compound o a b (below.place a d (first_of (covered a) (covered b) both))
       (below.value b x (second_of (covered a) (covered b) both)) types
+      (combined_types o a b (second_of (not (is_struct a.ty)) combines
+      (first_of (not (is_struct a.ty) && combines) (covered a && covered b) cov)))
   value_by t l (order.chosen {c} {a} {b} d is x a_is y b_is) cov =
       let both : (covered a && covered b) ≡ true = second_of (covered c) (covered a && covered b) cov in
       (nodes.values depth).chosen c a b t (below.value c d (first_of (covered c) (covered a && covered b) cov)) is
@@ -106,7 +130,8 @@ module _ {k : Scene} {depth : ℕ} (nodes : Nodes k) (below : Below k depth) whe
   place_by t l (order.member d has) cov = absurd (cc)
   place_by t l (order.arrow d is has) cov = absurd (cc)
   place_by t l (order.struct_assigned {a} {b} d x same is) cov =
-      let other : is_struct a.ty ≡ false = is_false (is_struct a.ty) (first_of (not (is_struct a.ty)) (covered a && covered b) cov) in
+      let other : is_struct a.ty ≡ false = is_false (is_struct a.ty) (first_of (not (is_struct a.ty)) true
+      (first_of (not (is_struct a.ty) && true) (covered a && covered b) cov)) in
       absurd (cc)
 
   -- one level more

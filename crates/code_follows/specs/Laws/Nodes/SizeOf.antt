@@ -13,11 +13,12 @@ use Rattle.block_meaning.specs.declared.value.Value.TheVariants.{Number}
 use Rattle.block_meaning.specs.Memory.{bytes_of}
 use Rattle.block_meaning.specs.Running.{unit_gives}
 use Rattle.gen_expr.specs.Nodes.{constant}
+use Rattle.gen_laws.specs.Computes.{Computes, all}
+use Rattle.gen_laws.specs.Laws.Computing.{Computes-constant}
 use Rattle.code_follows.specs.Parts.{Part, ValueNode}
 use Rattle.code_follows.specs.Scene.{Scene, IsScene, given_in, structs_in, frame_in}
-use Rattle.code_follows.specs.Steps.{Computes, all}
-use Rattle.code_follows.specs.Values.{IsOf, ValueIs}
-use Rattle.code_follows.specs.Laws.Computing.{Computes-constant, Suits-own, constant_quiet, constant_few}
+use Rattle.code_follows.specs.Values.{IsOfType, ValueIs}
+use Rattle.code_follows.specs.Laws.Computing.{Suits-own, constant_quiet, constant_few}
 use Rattle.code_follows.specs.Laws.Coming.{pays, starts_low}
 use Rattle.code_follows.specs.Laws.Going.{Goes-unit, Goes-computes, Goes-done, Part-by}
 use Rattle.code_follows.specs.Laws.Here.{structs_here}
@@ -27,7 +28,7 @@ use Rattle.code_follows.specs.Laws.Lying.{HasInstrs, Lies-plain}
 size_type : Ty
 size_type = ty.Int int.ULong
 
-number_of : (n : ℕ) → IsOf size_type (Number (n % 2 ^ 64))
+number_of : (n : ℕ) → IsOfType size_type (Number (n % 2 ^ 64))
 unfolding given_types size_type
 number_of n = omega arith
 
@@ -42,7 +43,7 @@ size_part k scene t = Part-by (λ first reg from to free lies a now s on.
     let same : bytes_of k.here t % 2 ^ 64 ≡ n = ap (λ structs. size structs t % 2 ^ 64) (structs_here scene on.came.comes.relates) in
     Goes-unit on (λ owing.
     let puts : Computes (constant_moves reg n) reg n all s =
-    Computes-constant n reg s (omega (arith, low)) (omega arith) (starts_low has owing) in
+    Computes-constant n reg s (omega (arith, low)) (omega arith) (omega (arith, starts_low has owing)) in
     Goes-computes 4 has (constant_quiet reg n) puts
     (Suits-own true reg low) owing few.some (omega (arith, few.few, pays scene))
     (λ done. Goes-done (Number (bytes_of k.here t % 2 ^ 64)) done (omega arith)
