@@ -1,7 +1,7 @@
 -- The expressions of which it is shown that their code does what they mean (this project's own): all but those with members of structs, or
 -- structs that are assigned, which have no code yet. Each constant is a value of its type, as the text has it, and operators compute in
--- promoted types (ISO C11 6.3.1.8); what is converted is no conversion itself. No law says yet that typed trees are so.
-use Rattle.std.specs.Prelude.{ℕ, nat_le, Bool, true, false, ◌&&◌, ◌||◌, nat_eq, not, List, [], ◌∷◌, Option, Some, None, if◌then◌else◌}
+-- promoted types (ISO C11 6.3.1.8); conversions do not stand deep in one another. No law says yet that typed trees are so.
+use Rattle.std.specs.Prelude.{ℕ, ◌-◌, nat_le, nat_lt, Bool, true, false, ◌&&◌, ◌||◌, nat_eq, not, List, [], ◌∷◌, Option, Some, None, if◌then◌else◌}
 use Rattle.c_ast.specs.declared.int_type.IntType.{IntType}
 use Rattle.c_ast.specs.declared.operator.AssignOperator.{AssignOperator}
 use Rattle.c_type_base.specs.Conversions.{bits_of, wrap}
@@ -80,12 +80,12 @@ node_covered (TNode-F.Arrow e n) ty = false
 node_covered (TNode-F.Step s e) ty = e.is
 node_covered (TNode-F.Read e) ty = e.is
 node_covered (TNode-F.Decay e) ty = e.is
-node_covered (TNode-F.Convert e) ty = nat_le value_leaves e.leaves && e.is
+node_covered (TNode-F.Convert e) ty = nat_lt bare_leaves e.leaves && e.is
 
 -- the steps that a node's code leaves
 abbrev pub left_of : TNode-F NodeCovering Covering → ℕ
 left_of (TNode-F.Paren e) = e.leaves
-left_of (TNode-F.Convert e) = bare_leaves
+left_of (TNode-F.Convert e) = e.leaves - 1
 left_of _ = value_leaves
 
 abbrev pub node_covering : TNode-F NodeCovering Covering → NodeCovering

@@ -1,5 +1,5 @@
 -- What has to be shown of each node: that its code does what it means, where that of its parts does (this project's own).
-use Rattle.std.specs.Prelude.{◌≡◌, ℕ, ◌≤◌, true, false, ◌||◌, List, [], ◌∷◌, length, slice_get, Some, None}
+use Rattle.std.specs.Prelude.{◌≡◌, ℕ, ◌<◌, true, false, ◌||◌, List, [], ◌∷◌, length, slice_get, Some, None}
 use Rattle.std.specs.List.{Contains}
 use Rattle.c_ast.specs.declared.int_type.IntType.{IntType}
 use Rattle.c_ast.specs.declared.int_type.IntType.TheVariants as int
@@ -23,7 +23,7 @@ use Rattle.block_meaning.specs.Linkage.{extern_at}
 use Rattle.block_meaning.specs.Locals.{text_of}
 use Rattle.gen_laws.specs.Computes.{IsOf}
 use Rattle.code_follows.specs.Covered.{computes_in, operates_in, combines_in, leaves}
-use Rattle.code_follows.specs.Leaves.{value_leaves}
+use Rattle.code_follows.specs.Leaves.{bare_leaves}
 use Rattle.code_follows.specs.Parts.{ValueFollows, PlaceFollows, ValueNode, PlaceNode}
 use Rattle.code_follows.specs.Scene.{Scene}
 
@@ -59,7 +59,7 @@ pub record ValueNodes (k : Scene) (depth : ℕ) : Type 0 where
   pub step : (o : Step) (e : TExpr) → PlaceFollows k depth e → is_scalar e.ty ≡ true → ValueNode k depth e.ty (TNode-F.Step o e)
   pub read : (e : TExpr) → PlaceFollows k depth e → (is_scalar e.ty || is_struct e.ty) ≡ true → ValueNode k depth e.ty (TNode-F.Read e)
   pub decay : (e : TExpr) (t : Ty) → PlaceFollows k depth e → element_of e.ty ≡ Some t → ValueNode k depth (ty.Pointer t) (TNode-F.Decay e)
-  pub convert : (e : TExpr) (t : Ty) → ValueFollows k depth e → Converts e.ty t → value_leaves ≤ leaves e → ValueNode k depth t (TNode-F.Convert e)
+  pub convert : (e : TExpr) (t : Ty) → ValueFollows k depth e → Converts e.ty t → bare_leaves < leaves e → ValueNode k depth t (TNode-F.Convert e)
 
 -- and those that designate an object, one a constructor of `Designates`
 pub record PlaceNodes (k : Scene) (depth : ℕ) : Type 0 where

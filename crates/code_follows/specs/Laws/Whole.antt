@@ -1,16 +1,14 @@
 -- The code of each expression that is covered does what it means, where that of each node does (this project's own). By the number of
 -- levels, and the derivation that the expression is in order.
-use Rattle.std.specs.Prelude.{◌≡◌, ℕ, zero, suc, Bool, true, false, nat_le, ◌≤◌, ◌&&◌, not, if◌then◌else◌, List, map, refl}
+use Rattle.std.specs.Prelude.{◌≡◌, ℕ, zero, suc, Bool, true, false, nat_lt, ◌<◌, ◌≤◌, ◌&&◌, not, if◌then◌else◌, List, map, refl}
 use Rattle.std.proofs.Common.{arith, ap, sym, subst, ◌∙◌}
 use Rattle.std.proofs.lemmas.Bool.{eqb-true}
 use Rattle.std.proofs.lemmas.Bool.Decides.{nat_tests}
 use Rattle.c_ast.specs.declared.operator.AssignOperator.{AssignOperator}
 use Rattle.c_ast.specs.declared.operator.UnaryOperator.{UnaryOperator}
-use Rattle.c_type_base.specs.Laws.Opened.{given_typed}
 use Rattle.c_type_base.specs.Types.{is_struct}
 use Rattle.c_type_base.specs.declared.expr.TExpr.{TExpr}
 use Rattle.c_type_base.specs.declared.expr.TNode.{out-TNode}
-use Rattle.c_type_base.specs.declared.expr.TNode.TheFolds.{fold_out-TNode, fold_out-TExpr}
 use Rattle.c_type_base.specs.declared.ty.Ty.{Ty}
 use Rattle.frame_layout.specs.Needs.{need}
 use Rattle.block_meaning.specs.Running.{stuck}
@@ -21,7 +19,7 @@ use Rattle.block_meaning.specs.ExpressionsInOrder.{Scope, HasValue, Designates, 
 use Rattle.code_follows.specs.Covered.{computes_in, operates_in, combines_in, all_covered, covering, covered, layer_covered, layer_leaves, leaves}
 use Rattle.code_follows.specs.Nodes.{AllFollow, Nodes}
 use Rattle.code_follows.specs.Layers.{layer_code, layer_need}
-use Rattle.code_follows.specs.Leaves.{bare_leaves, value_leaves}
+use Rattle.code_follows.specs.Leaves.{bare_leaves}
 use Rattle.code_follows.specs.Parts.{Result, Part, ValuePart, too_deep, PlacePart, ValueFollows, PlaceFollows, ValueNode, PlaceNode}
 use Rattle.code_follows.specs.Scene.{Scene, calls_in, structs_in, frame_in}
 use Rattle.code_follows.specs.Laws.Going.{Goes-stuck, Part-by}
@@ -50,19 +48,21 @@ is_false false is = refl
 sign_computes : (o : UnaryOperator) (t : Ty) → is_sign o ≡ true → (if is_sign o then computes_in t else true) ≡ true → computes_in t ≡ true
 sign_computes o t sign is = sym (ap (λ b. (if b then computes_in t else true)) sign) ∙ is
 
-le_of : {n m : ℕ} → nat_le n m ≡ true → n ≤ m
-le_of {n} {m} is = grind (arith, nat_tests)
+lt_of : {n m : ℕ} → nat_lt n m ≡ true → n < m
+lt_of {n} {m} is = grind (arith, nat_tests)
 
 -- ---- what is left of the bound
 
-least_by : {s : Scope} {t : Ty} (l : NodeLayer) → HasValue s t l → bare_leaves ≤ layer_leaves l
-least_by l (order.paren {e} d) =
-    subst (λ n. bare_leaves ≤ n) (sym (leaves-is e)) (least_by (out-TNode e.node) d)
-least_by l (order.convert d types) = omega arith
-least_by l d = omega arith
+least_by : {s : Scope} (t : Ty) (l : NodeLayer) → HasValue s t l → layer_covered l t ≡ true → bare_leaves ≤ layer_leaves l
+least_by t l (order.paren {e} d) cov =
+    subst (λ n. bare_leaves ≤ n) (sym (leaves-is e)) (least_by t (out-TNode e.node) d (sym (covered-is e) ∙ cov))
+least_by t l (order.convert {e} d types) cov =
+    let under : bare_leaves < leaves e = lt_of (first_of (nat_lt bare_leaves (leaves e)) (covered e) cov) in omega (arith, under)
+least_by t l d cov = omega arith
 
-least_of : {s : Scope} (e : TExpr) → HasValue s e.ty (out-TNode e.node) → bare_leaves ≤ leaves e
-least_of e d = subst (λ n. bare_leaves ≤ n) (sym (leaves-is e)) (least_by (out-TNode e.node) d)
+least_of : {s : Scope} (e : TExpr) → HasValue s e.ty (out-TNode e.node) → covered e ≡ true → bare_leaves ≤ leaves e
+least_of e d cov =
+    subst (λ n. bare_leaves ≤ n) (sym (leaves-is e)) (least_by e.ty (out-TNode e.node) d (sym (covered-is e) ∙ cov))
 
 -- what is shown with so many levels below
 pub record Below (k : Scene) (depth : ℕ) : Type 0 where
@@ -120,8 +120,8 @@ module _ {k : Scene} {depth : ℕ} (nodes : Nodes k) (below : Below k depth) whe
   value_by t l (order.read {e} d is) cov = (nodes.values depth).read e (below.place e d cov) is
   value_by t l (order.decay {e} {t = element} d is) cov = (nodes.values depth).decay e element (below.place e d cov) is
   value_by t l (order.convert {e} d types) cov =
-      (nodes.values depth).convert e t (below.value e d (second_of (nat_le value_leaves (leaves e)) (covered e) cov)) types
-      (le_of (first_of (nat_le value_leaves (leaves e)) (covered e) cov))
+      (nodes.values depth).convert e t (below.value e d (second_of (nat_lt bare_leaves (leaves e)) (covered e) cov)) types
+      (lt_of (first_of (nat_lt bare_leaves (leaves e)) (covered e) cov))
   value_by t l (order.member_value d has is) cov = absurd (cc)
 
   place_by : (t : Ty) (l : NodeLayer) → Designates k.scope t l → layer_covered l t ≡ true → PlaceNode k depth t l
@@ -148,7 +148,7 @@ module _ {k : Scene} {depth : ℕ} (nodes : Nodes k) (below : Below k depth) whe
   one_more : Below k (suc depth)
   unfolding out-TNode
   one_more = record {
-    value = λ e d cov. value_of e (least_of e d) (value_by e.ty (out-TNode e.node) d (sym (covered-is e) ∙ cov));
+    value = λ e d cov. value_of e (least_of e d cov) (value_by e.ty (out-TNode e.node) d (sym (covered-is e) ∙ cov));
     place = λ e d cov. place_of e (place_by e.ty (out-TNode e.node) d (sym (covered-is e) ∙ cov));
   }
     where
@@ -179,7 +179,7 @@ Part-stuck = Part-by (λ first reg from to free lies a now s on. Goes-stuck)
 
 none : (k : Scene) → Below k zero
 none k = record {
-  value = λ e d cov. record { least = least_of e d; around = λ span. record { part = Part-stuck } };
+  value = λ e d cov. record { least = least_of e d cov; around = λ span. record { part = Part-stuck } };
   place = λ e d cov. record {
     part = record {
       place = Part-stuck;
