@@ -5,3 +5,4 @@ pub mod SizeOf
 pub mod Named
 pub mod Integers
 pub mod Operated
+pub mod OnIntegers

@@ -1,18 +1,17 @@
 -- The stack may be read and written where a state is related (this project's own).
-use Rattle.std.specs.Prelude.{◌≡◌, ℕ, zero, suc, ◌+◌, ◌-◌, ◌^◌, ◌<◌, ◌≤◌, Bool, true, false, ◌&&◌, ◌||◌, not, List, [], ◌∷◌, length, slice_index_or, refl}
+use Rattle.std.specs.Prelude.{◌≡◌, ℕ, zero, suc, ◌+◌, ◌<◌, ◌≤◌, Bool, true, false, ◌&&◌, ◌||◌, not, List, [], ◌∷◌, length, slice_index_or, refl}
 use Rattle.std.specs.List.{list_any}
-use Rattle.std.proofs.Common.{arith, ap, sym, subst, inl, inr, ◌∙◌}
+use Rattle.std.proofs.Common.{arith, ap, inl, inr, ◌∙◌}
 use Rattle.std.proofs.lemmas.Bool.{cases_Bool, cases_eq, cases_lt}
 use Rattle.std.proofs.lemmas.Bool.Decides.{nat_tests}
-use Rattle.mt_base.specs.Memory.{Extent, is_between, is_in_extent, is_in_span, is_mapped, is_protected}
+use Rattle.mt_base.specs.Memory.{Extent, is_in_extent, is_in_span, is_mapped, is_protected}
 use Rattle.a64_code.specs.State.{State}
 use Rattle.a64_laws.specs.Laws.Effects.Open.{IsOpen}
 use Rattle.block_meaning.specs.Running.{Context, State as MeaningState}
 use Rattle.code_relation.specs.Calls.{stack_end}
 use Rattle.code_relation.specs.Injects.{Injects}
-use Rattle.code_relation.specs.Loaded.{IsLoaded, HasStack}
+use Rattle.code_relation.specs.Loaded.{HasStack}
 use Rattle.code_relation.specs.Sites.{Given}
-use Rattle.code_relation.specs.Tags.{IsAsLoaded}
 
 -- ---- lists
 
