@@ -1,7 +1,8 @@
 -- The expressions of which it is shown that their code does what they mean (this project's own): all but those with members of structs, or
 -- structs that are assigned, which have no code yet. Each constant is a value of its type, as the text has it, and operators compute in
 -- promoted types (ISO C11 6.3.1.8); conversions do not stand deep in one another. No law says yet that typed trees are so.
-use Rattle.std.specs.Prelude.{ℕ, ◌-◌, nat_le, nat_lt, Bool, true, false, ◌&&◌, ◌||◌, nat_eq, not, List, [], ◌∷◌, Option, Some, None, if◌then◌else◌}
+use Rattle.std.specs.Prelude.{ℕ, ◌-◌, nat_le, nat_lt, Bool, true, false, ◌&&◌, ◌||◌, nat_eq, not, List, [], ◌∷◌, Option, Some, None}
+use Rattle.std.specs.Prelude.{if◌then◌else◌}
 use Rattle.c_ast.specs.declared.int_type.IntType.{IntType}
 use Rattle.c_ast.specs.declared.operator.AssignOperator.{AssignOperator}
 use Rattle.c_type_base.specs.Conversions.{bits_of, wrap}

@@ -1,4 +1,5 @@
--- How many steps of its bound the code of a part leaves (this project's own). A conversion that the compiler adds, and the load of an object's
+-- How many steps of its bound the code of a part leaves (this project's own). A conversion that the compiler adds, and the load of an
+-- object's
 -- value, spend no unit of work: what they stand on pays for their instructions, which are one at most.
 use Rattle.std.specs.Prelude.{ℕ}
 

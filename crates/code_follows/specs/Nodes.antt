@@ -59,7 +59,8 @@ pub record ValueNodes (k : Scene) (depth : ℕ) : Type 0 where
   pub step : (o : Step) (e : TExpr) → PlaceFollows k depth e → is_scalar e.ty ≡ true → ValueNode k depth e.ty (TNode-F.Step o e)
   pub read : (e : TExpr) → PlaceFollows k depth e → (is_scalar e.ty || is_struct e.ty) ≡ true → ValueNode k depth e.ty (TNode-F.Read e)
   pub decay : (e : TExpr) (t : Ty) → PlaceFollows k depth e → element_of e.ty ≡ Some t → ValueNode k depth (ty.Pointer t) (TNode-F.Decay e)
-  pub convert : (e : TExpr) (t : Ty) → ValueFollows k depth e → Converts e.ty t → bare_leaves < leaves e → ValueNode k depth t (TNode-F.Convert e)
+  pub convert : (e : TExpr) (t : Ty) → ValueFollows k depth e → Converts e.ty t → bare_leaves < leaves e →
+      ValueNode k depth t (TNode-F.Convert e)
 
 -- and those that designate an object, one a constructor of `Designates`
 pub record PlaceNodes (k : Scene) (depth : ℕ) : Type 0 where

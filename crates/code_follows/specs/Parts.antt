@@ -129,7 +129,8 @@ site_in k depth span around t = record {
 -- a node of a type
 pub record ValueNode (k : Scene) (depth : ℕ) (t : Ty) (l : NodeLayer) : Type 0 where
   pub at : (span around : Span) →
-      ValuePart k (layer_code (structs_in k) (frame_in k) l t) (layer_need l) (layer_leaves l) t (value_node (site_in k depth span around t) l)
+      ValuePart k (layer_code (structs_in k) (frame_in k) l t) (layer_need l) (layer_leaves l) t (value_node
+      (site_in k depth span around t) l)
 
 pub record PlaceNode (k : Scene) (depth : ℕ) (t : Ty) (l : NodeLayer) : Type 0 where
   pub at : (span : Span) →

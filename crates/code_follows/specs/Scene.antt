@@ -15,7 +15,8 @@ use Rattle.code_relation.specs.Sites.{Given, units_of}
 use Rattle.code_relation.specs.Trees.{HasFile, IsScope}
 use Rattle.gen_base.specs.Code.{Code as Items}
 
--- A function's code, with the addresses of its labels; what its trees may name; and a context in which they run, with the definition's bound
+-- A function's code, with the addresses of its labels; what its trees may name; and a context in which they run, with the definition's
+-- bound
 -- on calls.
 pub record Scene : Type 1 where
   pub code : Code

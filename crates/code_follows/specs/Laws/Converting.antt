@@ -27,7 +27,8 @@ use Rattle.code_follows.specs.Laws.Walking.{Short}
 
 -- ---- numbers
 
-some_level : (g : Given) (now : MeaningState) (l : TyLayer) (v : Value) (n : ℕ) → IsOfLevel l v → Holds g now v n → IsOfSome (int_of_level l) n
+some_level : (g : Given) (now : MeaningState) (l : TyLayer) (v : Value) (n : ℕ) → IsOfLevel l v → Holds g now v n →
+    IsOfSome (int_of_level l) n
 some_level g now (Ty-F.Int i) (Number k) n of holds = holds ∙ of ∙ ap (wrap i) (sym holds)
 some_level g now (Ty-F.Int i) _ n of holds = absurd of
 some_level g now _ v n of holds = tt

@@ -57,7 +57,8 @@ module _ {A : Type 0} {k : Scene} {first : ℕ} {reg : Reg} {alone : Bool} {resu
   Goes-stuck = record { bounded = unsaid }
 
   -- it has come to the end, with its value
-  pub Goes-done : {a : Account} {spare : ℕ} {now : MeaningState} {t : State} (x : A) → On k first reg alone s to a 0 spare now t → leaves ≤ spare →
+  pub Goes-done : {a : Account} {spare : ℕ} {now : MeaningState} {t : State} (x : A) → On k first reg alone s to a 0 spare now t →
+      leaves ≤ spare →
       result x now (t.register reg.0) → Goes k first reg alone result s to leaves a (gives x) now t
   Goes-done x on enough is = record {
     bounded = done (record { least = omega (arith, on.least); most = omega (arith, on.most, enough) })
@@ -103,7 +104,8 @@ module _ {A : Type 0} {k : Scene} {first : ℕ} {reg : Reg} {alone : Bool} {resu
 
   -- something that is there
   pub Goes-some : {B : Type 0} {a : Account} {f : B → Run A} {now : MeaningState} {t : State} (o : Option B) →
-      ((b : B) → o ≡ Some b → Goes k first reg alone result s to leaves a (f b) now t) → Goes k first reg alone result s to leaves a (with_some o f) now t
+      ((b : B) → o ≡ Some b → Goes k first reg alone result s to leaves a (f b) now t) →
+      Goes k first reg alone result s to leaves a (with_some o f) now t
   Goes-some None more = Goes-stuck
   Goes-some (Some b) more = record { bounded = (more b refl).bounded }
 
@@ -118,14 +120,17 @@ module _ {A : Type 0} {k : Scene} {first : ℕ} {reg : Reg} {alone : Bool} {resu
   Goes-blocks f goes = record { bounded = goes.bounded }
 
   -- a part, and then what stands on its value
-  pub Goes-part : {B : Type 0} {a : Account} {spare sub_first from middle sub_leaves : ℕ} {sub_reg : Reg} {sub_alone : Bool} {sub_result : Result B}
+  pub Goes-part : {B : Type 0} {a : Account} {spare sub_first from middle sub_leaves : ℕ} {sub_reg : Reg} {sub_alone : Bool}
+      {sub_result : Result B}
       {m : Run B} {f : B → Run A} {now : MeaningState} {t : State} →
       Yields k sub_first sub_reg sub_alone sub_result from middle sub_leaves m → first ≤ sub_first →
       (alone ≡ true → (sub_reg.0 ≡ reg.0) × (sub_alone ≡ true)) → 1 ≤ k.code.per → On k first reg alone s from a 0 spare now t →
       ((x : B) (then : MeaningState) (u : State) (n : ℕ) → On k first reg alone s middle (later n a) 0 (spare + sub_leaves) then u →
-      Gave k sub_first sub_reg sub_alone sub_result t middle x then u → Goes k first reg alone result s to leaves (later n a) (f x) then u) →
+      Gave k sub_first sub_reg sub_alone sub_result t middle x then u →
+      Goes k first reg alone result s to leaves (later n a) (f x) then u) →
       Goes k first reg alone result s to leaves a (and_then m f) now t
-  Goes-part {B} {a} {spare} {sub_first} {from} {middle} {sub_leaves} {sub_reg} {sub_alone} {sub_result} {m} {f} {now} {t} yields above others pays on more =
+  Goes-part {B} {a} {spare} {sub_first} {from} {middle} {sub_leaves} {sub_reg} {sub_alone} {sub_result} {m} {f} {now} {t} yields
+      above others pays on more =
       record {
         bounded = subst (λ r. Bounded (setting k.code) a (λ v. sparing leaves) t (Gave k first reg alone result s to) r)
             (sym (outcome_of-then m f now))
@@ -141,7 +146,8 @@ module _ {A : Type 0} {k : Scene} {first : ℕ} {reg : Reg} {alone : Bool} {resu
       looser : IsLooser (opened (setting k.code) now.work) a
       looser = record { least = omega (arith, on.least); most = omega (arith, on.most) }
 
-      by_outcome : (r : Outcome MeaningState Stop B) → Case (setting k.code) (opened (setting k.code) now.work) (λ v. sparing sub_leaves) t P r →
+      by_outcome : (r : Outcome MeaningState Stop B) → Case (setting k.code) (opened (setting k.code) now.work)
+          (λ v. sparing sub_leaves) t P r →
           Bounded (setting k.code) a (λ v. sparing leaves) t (Gave k first reg alone result s to) (followed_by r rest)
       by_outcome (Completes x then) does =
           after does.led
@@ -166,7 +172,8 @@ module _ {A : Type 0} {k : Scene} {first : ℕ} {reg : Reg} {alone : Bool} {resu
       (computes : Computes instrs into value spares t) → Suits alone reg into spares →
       On k first reg alone s from a owes spare now t → owes ≤ length instrs → length instrs + left ≤ spare →
       (On k first reg alone s middle (later (length instrs) a) 0 left now computes.to →
-      Goes k first reg alone result s to leaves (later (length instrs) a) m now computes.to) → Goes k first reg alone result s to leaves a m now t
+      Goes k first reg alone result s to leaves (later (length instrs) a) m now computes.to) →
+      Goes k first reg alone result s to leaves a m now t
   Goes-computes {instrs = instrs} left has quiet computes suits on pays fits more =
       Goes-walks (length instrs) left (Walks-computes has quiet computes suits on.came.comes.relates on.came.comes.pc)
       (λ is r other. computes.registers r (λ same. other (same ∙ (suits.others is).0)) ((suits.others is).1 r other)) on pays fits more

@@ -28,7 +28,8 @@ pub Part-same : {A : Type 0} {k : Scene} {emits : Emits} {needs leaves : ℕ} {a
     Part k emits needs leaves alone result m
 Part-same same part = record {
   yields = λ first reg from to free lies. record {
-    goes = λ now s within relates at. Goes-same (same now s relates) ((part.yields first reg from to free lies).goes now s within relates at);
+    goes = λ now s within relates at. Goes-same (same now s relates)
+        ((part.yields first reg from to free lies).goes now s within relates at);
   };
 }
 

@@ -16,7 +16,8 @@ use Rattle.block_meaning.specs.Expressions.{NodeLayer}
 use Rattle.gen_expr.specs.Coded.{Coded}
 use Rattle.gen_expr.specs.Expressions.{NodeCode, node_code, expr_code, coded}
 use Rattle.gen_expr.specs.Nodes.{unary_node}
-use Rattle.code_follows.specs.Covered.{Covering, NodeCovering, node_covering, expr_covering, covering, layer_covering, layer_covered, layer_leaves}
+use Rattle.code_follows.specs.Covered.{Covering, NodeCovering, node_covering, expr_covering, covering, layer_covering, layer_covered}
+use Rattle.code_follows.specs.Covered.{layer_leaves}
 use Rattle.code_follows.specs.Covered.{covered, leaves}
 use Rattle.code_follows.specs.Layers.{layer_code, layer_need}
 

@@ -1,5 +1,6 @@
 -- The stack may be read and written where a state is related (this project's own).
-use Rattle.std.specs.Prelude.{◌≡◌, ℕ, zero, suc, ◌+◌, ◌<◌, ◌≤◌, Bool, true, false, ◌&&◌, ◌||◌, not, List, [], ◌∷◌, length, slice_index_or, refl}
+use Rattle.std.specs.Prelude.{◌≡◌, ℕ, zero, suc, ◌+◌, ◌<◌, ◌≤◌, Bool, true, false, ◌&&◌, ◌||◌, not, List, [], ◌∷◌, length}
+use Rattle.std.specs.Prelude.{slice_index_or, refl}
 use Rattle.std.specs.List.{list_any}
 use Rattle.std.proofs.Common.{arith, ap, inl, inr, ◌∙◌}
 use Rattle.std.proofs.lemmas.Bool.{cases_Bool, cases_eq, cases_lt}
@@ -74,7 +75,8 @@ module _ {g : Given} {here : Context} {now : MeaningState} {s : State} (injects 
         | inl before ↦ absurd (injects.loaded.apart k j d before stack.there.1 a both (ap (λ r. is_in_extent r a) at_stack ∙ there))
         | inr after ↦ elim (cases_eq k j) [
           | inl same ↦ same
-          | inr other ↦ absurd (injects.loaded.apart j k d (omega (arith, after, other)) within a (ap (λ r. is_in_extent r a) at_stack ∙ there) both)
+          | inr other ↦ absurd (injects.loaded.apart j k d (omega (arith, after, other)) within a (ap
+              (λ r. is_in_extent r a) at_stack ∙ there) both)
         ]
       ]
 
@@ -93,7 +95,8 @@ module _ {g : Given} {here : Context} {now : MeaningState} {s : State} (injects 
           ap (λ rs. is_mapped rs a) injects.as_loaded.regions
           ∙ any_at (λ r. is_in_extent r a) g.loaded.regions stack.there.0 region stack.there.1
           (ap (λ r. is_in_extent r a) stack.there.2 ∙ has_byte a (omega (arith, from, low)) (omega (arith, to, high)));
-      unguarded = λ a low high. ap (λ span. is_in_span span a) injects.as_loaded.guard ∙ not_guarded a (has_byte a (omega (arith, from, low)) (omega (arith, to, high)));
+      unguarded = λ a low high. ap (λ span. is_in_span span a) injects.as_loaded.guard ∙ not_guarded a (has_byte a (omega
+          (arith, from, low)) (omega (arith, to, high)));
     };
     unprotected = λ a low high.
         ap (λ rs. is_protected rs a) injects.as_loaded.regions

@@ -43,7 +43,8 @@ HasTemp-kept {k} {t} {value} {s} {u} kept has = record { is = λ c open_is. by_c
         (λ there. kept.1 t (omega arith) ∙ there) held
 
 fetch_short : (t : ℕ) (r : Reg) → t ≤ 4092 → Short 1 (fetch t r)
-fetch_short t r near = rw (lt-ltb (3 + t) 4096 (let e : 3 + t < 4096 = omega (arith, near) in e)) (record { quiet = refl; few = omega arith })
+fetch_short t r near = rw (lt-ltb (3 + t) 4096 (let e : 3 + t < 4096 = omega (arith, near) in e))
+    (record { quiet = refl; few = omega arith })
 
 move_computes : (from into : Reg) (s : State) → from.0 < 31 → into.0 < 31 → s.pc < 2 ^ 56 →
     Computes (move from into ∷ []) into (s.register from.0) all s
@@ -73,7 +74,8 @@ module _ {C : Type 0} {k : Scene} {first : ℕ} {reg : Reg} {result : Result C} 
       go : KeptIn k first reg middle now t → Goes k first reg false result s to leaves a m now t
       go kept = record {
         bounded = after kept.led (more kept.state kept.steps kept.has kept.registers (record {
-          came = Came-part {sub_reg = reg} {sub_alone = false} (omega arith) never (record { comes = kept.comes; registers = λ alone. never alone }) on.came;
+          came = Came-part {sub_reg = reg} {sub_alone = false} (omega arith) never
+              (record { comes = kept.comes; registers = λ alone. never alone }) on.came;
           least = omega (arith, on.least);
           most = omega (arith, on.most, kept.few, fits);
           within = on.within;
@@ -110,7 +112,8 @@ module _ {C : Type 0} {k : Scene} {first : ℕ} {reg : Reg} {result : Result C} 
           Goes-part (pa.yields first reg from one.middle free_a one.front) (omega arith) never (pays-some scene) on
           (λ x between u p came gave.
           Goes-list {most = 1} 3 (Lies-plain (move reg into ∷ []) two.front) (record { quiet = refl; few = omega arith })
-          (λ w same near. Computes-is (ap (λ g. g reg.0) same) (move_computes reg into w (omega (arith, free_a.high)) (omega (arith, top)) near))
+          (λ w same near. Computes-is (ap (λ g. g reg.0) same) (move_computes reg into w (omega (arith, free_a.high)) (omega
+          (arith, top)) near))
           (Suits-other reg into all (omega (arith, top)) tt) came (omega arith) (omega arith)
           (λ w q holds others moved_on.
           Goes-part (pb.yields first reg two.middle three.middle free three.front) (omega arith) never (pays-some scene) moved_on

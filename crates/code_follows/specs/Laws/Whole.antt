@@ -16,7 +16,8 @@ use Rattle.gen_expr.specs.Coded.{Emits}
 use Rattle.block_meaning.specs.Expressions.{NodeLayer, parts_at}
 use Rattle.block_meaning.specs.ExpressionsInOrder as order
 use Rattle.block_meaning.specs.ExpressionsInOrder.{Scope, HasValue, Designates, Arguments, is_sign}
-use Rattle.code_follows.specs.Covered.{computes_in, operates_in, combines_in, all_covered, covering, covered, layer_covered, layer_leaves, leaves}
+use Rattle.code_follows.specs.Covered.{computes_in, operates_in, combines_in, all_covered, covering, covered, layer_covered}
+use Rattle.code_follows.specs.Covered.{layer_leaves, leaves}
 use Rattle.code_follows.specs.Nodes.{AllFollow, Nodes}
 use Rattle.code_follows.specs.Layers.{layer_code, layer_need}
 use Rattle.code_follows.specs.Leaves.{bare_leaves}
@@ -174,7 +175,8 @@ module _ {k : Scene} {depth : ℕ} (nodes : Nodes k) (below : Below k depth) whe
 
 -- ---- no level, of which nothing is said
 
-Part-stuck : {A : Type 0} {k : Scene} {emits : Emits} {needs left : ℕ} {alone : Bool} {result : Result A} → Part k emits needs left alone result stuck
+Part-stuck : {A : Type 0} {k : Scene} {emits : Emits} {needs left : ℕ} {alone : Bool} {result : Result A} →
+    Part k emits needs left alone result stuck
 Part-stuck = Part-by (λ first reg from to free lies a now s on. Goes-stuck)
 
 none : (k : Scene) → Below k zero

@@ -35,7 +35,8 @@ number_of n = omega arith
 
 -- the bytes of a type, as a constant
 size_part : (k : Scene) → IsScene k → (t : Ty) →
-    Part k (constant (size (structs_in k) t % 2 ^ 64)) 0 value_leaves true (ValueIs (given_in k) size_type) (unit_gives (Number (bytes_of k.here t % 2 ^ 64)))
+    Part k (constant (size (structs_in k) t % 2 ^ 64)) 0 value_leaves true (ValueIs (given_in k) size_type) (unit_gives (Number
+    (bytes_of k.here t % 2 ^ 64)))
 size_part k scene t = Part-by (λ first reg from to free lies a now s on.
     let n : ℕ = size (structs_in k) t % 2 ^ 64 in
     let has : HasInstrs k (constant_moves reg n) from to = Lies-plain (constant_moves reg n) lies in
