@@ -12,3 +12,8 @@ pub mod Keeps
 pub mod Called
 pub mod Calling
 pub mod Placing
+pub mod FrameWords
+pub mod Untouched
+pub mod LocalBytes
+pub mod StoredBytes
+pub mod Stores
