@@ -1,4 +1,4 @@
--- The words of frames are no part of a local: what is written to one keeps the saved pairs, the base words and the temps (this project's own).
+-- Where the slots of locals stand, and that they hold them: behind the words of their frame (this project's own).
 use Rattle.std.specs.Prelude.{◌≡◌, ℕ, zero, suc, ◌+◌, ◌*◌, ◌≤◌, List, [], ◌∷◌, slice_get, Option, Some, refl}
 use Rattle.std.proofs.Common.{arith, subst}
 use Rattle.c_type_base.specs.Layout.{LaidOut}

@@ -34,8 +34,8 @@ words_on_stack g (c ∷ cs) small fit lie framed changed none = (
   words_on_stack g cs small (omega (arith, fit, lie.0)) lie.1 framed.1 changed none,
 )
 
-slot_on_stack : (g : Given) (o : Call) (start size bytes a : ℕ) → g.program.stack ≤ stack_end → o.place ≤ g.program.stack → bytes ≤ o.place →
-    start + size ≤ bytes → is_between (lowest o + start) size a ≡ true → on_stack g a ≡ true
+slot_on_stack : (g : Given) (o : Call) (start size bytes a : ℕ) → g.program.stack ≤ stack_end → o.place ≤ g.program.stack →
+    bytes ≤ o.place → start + size ≤ bytes → is_between (lowest o + start) size a ≡ true → on_stack g a ≡ true
 slot_on_stack g o start size bytes a small fit held before has = grind (arith, nat_tests, small, fit, held, before, has)
 
 module _ {g : Given} {here : Context} {now : MeaningState} {s : State} (injects : Injects g here now s) (order : InOrder g.program) where

@@ -1,5 +1,4 @@
--- A store to a local that is alive, or to an object, as the relation wants it, and what it keeps of the frames that are open (this project's
--- own).
+-- A store to a local that is alive, or to an object, as the relation wants it, and what it keeps of the open frames (this project's own).
 use Rattle.std.specs.Prelude.{◌≡◌, ℕ, ◌+◌, ◌≤◌, true, false, List, length, slice_get, Some, refl}
 use Rattle.std.proofs.Common.{arith, ap, sym, ◌∙◌}
 use Rattle.std.proofs.lemmas.Bool.Decides.{nat_tests}
