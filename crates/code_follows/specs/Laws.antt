@@ -5,6 +5,8 @@ pub mod Coming
 pub mod Going
 pub mod Here
 pub mod Computing
+pub mod Converting
+pub mod Waiting
 pub mod Addresses
 pub mod Nodes
 pub mod Whole

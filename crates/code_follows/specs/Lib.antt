@@ -1,8 +1,10 @@
 pub mod Layers
+pub mod Leaves
+pub mod Covered
 pub mod Scene
 pub mod Values
-pub mod Covered
 pub mod Parts
 pub mod Steps
+pub mod Waits
 pub mod Nodes
 pub mod Laws

@@ -1,4 +1,5 @@
 pub mod Constant
 pub mod Paren
+pub mod Convert
 pub mod SizeOf
 pub mod Named
