@@ -12,3 +12,6 @@ pub mod Conversions
 pub mod Moves
 pub mod Pointers
 pub mod TwoPointers
+pub mod Stepping
+pub mod Lengths
+pub mod Combining
