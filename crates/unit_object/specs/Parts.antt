@@ -1,8 +1,7 @@
 -- What the object of a file is made of (ELF for the Arm 64-bit architecture, Memtag ABI): its code, its texts, its objects with an initial
 -- and those without, and the places that wait for addresses.
-use Rattle.std.specs.Prelude.{ℕ, ◌+◌, List, [], ◌∷◌, ◌++◌, length, map, flat_map, slice_get, Option, Some, None, ℤ}
+use Rattle.std.specs.Prelude.{ℕ, ◌+◌, List, [], ◌∷◌, ◌++◌, length, map, flat_map, slice_get, Option, Some, None}
 use Rattle.c_ast.specs.declared.program.Program.{Program}
-use Rattle.c_type_base.specs.declared.typed.ExternInfo.{ExternInfo}
 use Rattle.c_type_base.specs.declared.typed.GlobalInfo.{GlobalInfo}
 use Rattle.c_type_base.specs.declared.typed.InitPiece.{InitPiece}
 use Rattle.c_type_base.specs.declared.typed.InitValue.{InitValue}
@@ -14,7 +13,6 @@ use Rattle.c_type_base.specs.declared.typed.Typed.{Typed}
 use Rattle.gen_unit.specs.declared.parts.CodeReloc.{CodeReloc}
 use Rattle.gen_unit.specs.declared.parts.CodeTarget.{CodeTarget}
 use Rattle.gen_unit.specs.declared.parts.CodeTarget.TheVariants as code_target
-use Rattle.gen_unit.specs.declared.parts.Place.{Place}
 use Rattle.gen_unit.specs.declared.parts.UnitCode.{UnitCode}
 use Rattle.elf_obj.specs.declared.parts.Reloc.{Reloc}
 use Rattle.elf_obj.specs.Object.{Object}
