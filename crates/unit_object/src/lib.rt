@@ -1,0 +1,4 @@
+//! The object of a file: its code, its texts and objects, its symbols, and the places that wait for addresses.
+#![tactic(auto)]
+
+mod texts;
