@@ -5,6 +5,9 @@ pub mod Coming
 pub mod Going
 pub mod Here
 pub mod Computing
+pub mod Converting
 pub mod Addresses
+pub mod Scalars
+pub mod Operand
 pub mod Nodes
 pub mod Whole

@@ -2,3 +2,4 @@ pub mod Constant
 pub mod Paren
 pub mod SizeOf
 pub mod Named
+pub mod Cast
