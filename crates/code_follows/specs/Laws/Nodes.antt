@@ -3,3 +3,4 @@ pub mod Paren
 pub mod SizeOf
 pub mod Named
 pub mod Cast
+pub mod Signed

@@ -104,10 +104,14 @@ pub record Operand {A : Type 0} (k : Scene) (result : Result A) (reg : Reg) (v :
   pub relates : Relates (given_in k) k.here now s
   pub room : s.pc < 2 ^ 56
 
+-- instructions that leave memory as it is, one at least and not too many
+pub record Listed (instrs : List Instr) : Type 0 where
+  pub quiet : are_quiet instrs ≡ true
+  pub few : Few 1 32 (length instrs)
+
 -- such a list, for each value of the operand
 pub record DoesRest {A B : Type 0} (k : Scene) (given : Result A) (result : Result B) (instrs : Reg → List Instr) (f : A → Run B) : Type 0 where
-  pub quiet : (reg : Reg) → are_quiet (instrs reg) ≡ true
-  pub few : (reg : Reg) → Few 1 32 (length (instrs reg))
+  pub list : (reg : Reg) → Listed (instrs reg)
   pub does : (reg : Reg) (v : A) (now : MeaningState) (s : State) → Operand k given reg v now s → Does result (instrs reg) reg (f v) now s
 
 -- what an operand gives stays where a unit of work is spent
@@ -116,14 +120,14 @@ IsKept {A} result = (v : A) (now : MeaningState) (n : ℕ) → result v now n �
 
 pub Goes-does : {B : Type 0} {k : Scene} {first : ℕ} {reg : Reg} {alone : Bool} {result : Result B} {s : State} {from to : ℕ} {a : Account}
     {spare : ℕ} {run : Run B} {now : MeaningState} {t : State} {instrs : List Instr} → HasInstrs k instrs from to →
-    are_quiet instrs ≡ true → Few 1 32 (length instrs) → reg.0 < 28 → On k first reg alone s from a 1 spare now t → 36 ≤ spare →
+    Listed instrs → reg.0 < 28 → On k first reg alone s from a 1 spare now t → 36 ≤ spare →
     Does result instrs reg run now t → Goes k first reg alone result s to a run now t
-Goes-does {reg = reg} {alone} {result} {now = now} {instrs = instrs} has quiet few low on enough (computes_it w n is puts holds) =
+Goes-does {reg = reg} {alone} {result} {now = now} {instrs = instrs} has list low on enough (computes_it w n is puts holds) =
     Goes-same is
-    (Goes-computes 4 has quiet puts (Suits-own alone reg low) on few.some (omega (arith, few.few, enough))
+    (Goes-computes 4 has list.quiet puts (Suits-own alone reg low) on list.few.some (omega (arith, list.few.few, enough))
     (λ done. Goes-done w done (omega arith) (subst (λ (m : ℕ). result w now m) (sym puts.holds) holds)))
-Goes-does {instrs = instrs} has quiet few low on enough (is_undefined u is none) =
-    let first = begins instrs few.some has in
+Goes-does {instrs = instrs} has list low on enough (is_undefined u is none) =
+    let first = begins instrs list.few.some has in
     Goes-undefined u is none
     (first.has.inside _ (record { pc = on.came.comes.pc; as_loaded = on.came.comes.relates.injects.as_loaded; in_range = on.came.comes.relates.injects.in_range }))
     on (omega (arith, enough))
@@ -138,11 +142,11 @@ operand_part {k = k} {emits} {given = given} {instrs = instrs} scene part kept r
     Goes-part (part.yields first reg from pieces.middle free pieces.front) (omega arith) (λ is. (refl, is)) (pays-some scene) on
     (λ x then u n after gave.
     Goes-unit after (λ owing.
-    Goes-does has (rest.quiet reg) (rest.few reg) (omega (arith, free.high)) owing (omega (arith, pays scene))
+    Goes-does has (rest.list reg) (omega (arith, free.high)) owing (omega (arith, pays scene))
     (rest.does reg x (spent then) u (record {
       low = free.low;
       high = free.high;
       is = kept x then (u.register reg.0) gave.result_is;
       relates = owing.came.comes.relates;
-      room = omega (arith, after.came.comes.pc, (begins (instrs reg) (rest.few reg).some has).has.below);
+      room = omega (arith, after.came.comes.pc, (begins (instrs reg) (rest.list reg).few.some has).has.below);
     })))))

@@ -1,5 +1,5 @@
 -- The code of a cast does what it means (this project's own).
-use Rattle.std.specs.Prelude.{◌≡◌, ℕ, ◌+◌, ◌^◌, ◌<◌, ◌≤◌, true, List, [], ◌∷◌, length, Option, refl}
+use Rattle.std.specs.Prelude.{◌≡◌, ℕ, ◌+◌, ◌^◌, ◌<◌, true, List, [], ◌∷◌, Option, refl}
 use Rattle.std.proofs.Common.{arith, ap, sym, subst, ◌∙◌}
 use Rattle.c_ast.specs.declared.int_type.IntType.{IntType}
 use Rattle.c_type_base.specs.Types.{is_void, is_void_level, int_of, TyLayer}
@@ -24,22 +24,16 @@ use Rattle.gen_laws.specs.Operations.{converted_number}
 use Rattle.code_follows.specs.Parts.{ValueFollows, ValueNode, coded_in}
 use Rattle.code_follows.specs.Scene.{Scene, IsScene, given_in, structs_in, frame_in}
 use Rattle.code_follows.specs.Values.{ValueIs}
-use Rattle.code_follows.specs.Laws.Computing.{Few}
-use Rattle.code_follows.specs.Laws.Converting.{ValueIs-some, ValueIs-converted, ValueIs-void, convert_short}
+use Rattle.code_follows.specs.Laws.Converting.{ValueIs-some, ValueIs-converted, ValueIs-void, Short, convert_short}
 use Rattle.code_follows.specs.Laws.Layers.{coded-ty}
-use Rattle.code_follows.specs.Laws.Operand.{ValueIs-spent, Operand, computes_it, operand_part}
+use Rattle.code_follows.specs.Laws.Operand.{ValueIs-spent, Listed, Operand, computes_it, operand_part}
 use Rattle.code_follows.specs.Laws.Scalars.{ValueIs-lt, Converts-scalar}
-use Rattle.code_follows.specs.Laws.Walking.{are_quiet}
 
 -- ---- a list of which there is one instruction at least
 
-paying_quiet : (instrs : List Instr) → are_quiet instrs ≡ true → are_quiet (paying instrs) ≡ true
-paying_quiet [] quiet = refl
-paying_quiet (i ∷ is) quiet = quiet
-
-paying_few : (instrs : List Instr) → length instrs ≤ 4 → Few 1 32 (length (paying instrs))
-paying_few [] few = record { some = omega arith; few = omega arith }
-paying_few (i ∷ is) few = record { some = omega arith; few = omega (arith, few) }
+paying_listed : (instrs : List Instr) → Short 4 instrs → Listed (paying instrs)
+paying_listed [] short = record { quiet = refl; few = record { some = omega arith; few = omega arith } }
+paying_listed (i ∷ is) short = record { quiet = short.quiet; few = record { some = omega arith; few = omega (arith, short.few) } }
 
 paying-computes : (instrs : List Instr) (reg : Reg) (n : ℕ) (s : State) → s.pc + 4 < 2 ^ 64 → Computes instrs reg n all s →
     Computes (paying instrs) reg n all s
@@ -67,8 +61,7 @@ module _ (k : Scene) (scene : IsScene k) (depth : ℕ) (t : Ty) (e : TExpr) (fol
   by_converted each = record {
     at = λ span around. record {
       part = operand_part scene (follows.around e.span).part (λ v now n is. ValueIs-spent is) (record {
-        quiet = λ reg. paying_quiet (convert (coded_in k e).ty t reg) (convert_short (coded_in k e).ty t reg).quiet;
-        few = λ reg. paying_few (convert (coded_in k e).ty t reg) (convert_short (coded_in k e).ty t reg).few;
+        list = λ reg. paying_listed (convert (coded_in k e).ty t reg) (convert_short (coded_in k e).ty t reg);
         does = λ reg v now s given.
             let made = each reg v now s given in
             computes_it (converted_to t v) made.number refl
