@@ -1,7 +1,7 @@
 -- The expressions of which it is shown that their code does what they mean (this project's own): all but those with members of structs, or
 -- structs that are assigned, which have no code yet. Each constant is a value of its type, as the text has it, and operators compute in
--- promoted types (ISO C11 6.3.1.8): no law says yet that typed trees are so.
-use Rattle.std.specs.Prelude.{nat_le, Bool, true, false, ◌&&◌, ◌||◌, nat_eq, not, List, [], ◌∷◌, Option, Some, None, if◌then◌else◌}
+-- promoted types (ISO C11 6.3.1.8); conversions do not stand deep in one another. No law says yet that typed trees are so.
+use Rattle.std.specs.Prelude.{ℕ, ◌-◌, nat_le, nat_lt, Bool, true, false, ◌&&◌, ◌||◌, nat_eq, not, List, [], ◌∷◌, Option, Some, None, if◌then◌else◌}
 use Rattle.c_ast.specs.declared.int_type.IntType.{IntType}
 use Rattle.c_ast.specs.declared.operator.AssignOperator.{AssignOperator}
 use Rattle.c_type_base.specs.Conversions.{bits_of, wrap}
@@ -14,6 +14,7 @@ use Rattle.c_type_base.specs.declared.ty.Ty.{Ty}
 use Rattle.block_meaning.specs.Expressions.{NodeLayer}
 use Rattle.block_meaning.specs.ExpressionsInOrder.{is_sign}
 use Rattle.block_meaning.specs.Operators.{int_in, binary_of, computing_type}
+use Rattle.code_follows.specs.Leaves.{bare_leaves, value_leaves}
 
 -- ---- types in which operators compute
 
@@ -29,6 +30,10 @@ is_promoted_in (Some t) = is_promoted t
 abbrev pub computes_in : Ty → Bool
 computes_in t = is_promoted_in (int_of t)
 
+-- an operator on operands of these types
+abbrev pub operates_in : Ty → Ty → Bool
+operates_in s t = is_pointer t || computes_in s
+
 -- an operator with `=`, on an object of the first type
 abbrev pub combines_in : AssignOperator → Ty → Ty → Bool
 combines_in o s t = is_pointer s || is_promoted (computing_type (binary_of o) (int_in s) (int_in t))
@@ -39,20 +44,22 @@ combines_by (Some o) s t = combines_in o s t
 
 -- ---- trees
 
--- of an expression: its type, and whether it is covered
+-- of an expression: its type, the steps that its code leaves, and whether it is covered
 pub record Covering : Type 0 where
   pub ty : Ty
+  pub leaves : ℕ
   pub is : Bool
 
 -- by the type of its expression
-abbrev pub NodeCovered : Type 0
-NodeCovered = Ty → Bool
+pub record NodeCovering : Type 0 where
+  pub leaves : ℕ
+  pub is : Ty → Bool
 
 abbrev pub all_covered : List Covering → Bool
 all_covered [] = true
 all_covered (e ∷ es) = e.is && all_covered es
 
-abbrev pub node_covered : TNode-F NodeCovered Covering → NodeCovered
+abbrev pub node_covered : TNode-F NodeCovering Covering → Ty → Bool
 node_covered (TNode-F.Constant n i) ty = nat_eq n (wrap i n)
 node_covered (TNode-F.Text n) ty = true
 node_covered (TNode-F.Local n) ty = true
@@ -60,7 +67,7 @@ node_covered (TNode-F.Global n) ty = true
 node_covered (TNode-F.Extern n) ty = true
 node_covered (TNode-F.Paren e) ty = e.is
 node_covered (TNode-F.Unary o e) ty = (if is_sign o then computes_in ty else true) && e.is
-node_covered (TNode-F.Binary o a b) ty = computes_in ty && (a.is && b.is)
+node_covered (TNode-F.Binary o a b) ty = operates_in a.ty b.ty && (a.is && b.is)
 node_covered (TNode-F.Assign o a b) ty = (not (is_struct ty) && combines_by o a.ty b.ty) && (a.is && b.is)
 node_covered (TNode-F.Cond c a b) ty = c.is && (a.is && b.is)
 node_covered (TNode-F.Cast t e) ty = e.is
@@ -73,19 +80,37 @@ node_covered (TNode-F.Arrow e n) ty = false
 node_covered (TNode-F.Step s e) ty = e.is
 node_covered (TNode-F.Read e) ty = e.is
 node_covered (TNode-F.Decay e) ty = e.is
-node_covered (TNode-F.Convert e) ty = e.is
+node_covered (TNode-F.Convert e) ty = nat_lt bare_leaves e.leaves && e.is
 
-abbrev pub expr_covered : TExpr-F NodeCovered Covering → Covering
-expr_covered e = record { ty = e.ty; is = e.node e.ty }
+-- the steps that a node's code leaves
+abbrev pub left_of : TNode-F NodeCovering Covering → ℕ
+left_of (TNode-F.Paren e) = e.leaves
+left_of (TNode-F.Convert e) = e.leaves - 1
+left_of _ = value_leaves
+
+abbrev pub node_covering : TNode-F NodeCovering Covering → NodeCovering
+node_covering n = record { leaves = left_of n; is = node_covered n }
+
+abbrev pub expr_covering : TExpr-F NodeCovering Covering → Covering
+expr_covering e = record { ty = e.ty; leaves = e.node.leaves; is = e.node.is e.ty }
 
 abbrev pub covering : TExpr → Covering
-covering = fold-TExpr NodeCovered Covering node_covered expr_covered
+covering = fold-TExpr NodeCovering Covering node_covering expr_covering
 
-abbrev pub covering_node : TNode → NodeCovered
-covering_node = fold-TNode NodeCovered Covering node_covered expr_covered
+abbrev pub covering_node : TNode → NodeCovering
+covering_node = fold-TNode NodeCovering Covering node_covering expr_covering
 
-abbrev pub layer_covered : NodeLayer → NodeCovered
-layer_covered l = node_covered (map-TNode TNode TExpr NodeCovered Covering covering_node covering l)
+abbrev pub layer_covering : NodeLayer → NodeCovering
+layer_covering l = node_covering (map-TNode TNode TExpr NodeCovering Covering covering_node covering l)
+
+abbrev pub layer_covered : NodeLayer → Ty → Bool
+layer_covered l = (layer_covering l).is
+
+abbrev pub layer_leaves : NodeLayer → ℕ
+layer_leaves l = (layer_covering l).leaves
 
 abbrev pub covered : TExpr → Bool
 covered e = (covering e).is
+
+abbrev pub leaves : TExpr → ℕ
+leaves e = (covering e).leaves

@@ -1,7 +1,8 @@
 pub mod Layers
+pub mod Leaves
+pub mod Covered
 pub mod Scene
 pub mod Values
-pub mod Covered
 pub mod Parts
 pub mod Steps
 pub mod Nodes

@@ -1,5 +1,5 @@
 -- What has to be shown of each node: that its code does what it means, where that of its parts does (this project's own).
-use Rattle.std.specs.Prelude.{◌≡◌, ℕ, true, false, ◌||◌, List, [], ◌∷◌, length, slice_get, Some, None}
+use Rattle.std.specs.Prelude.{◌≡◌, ℕ, ◌<◌, true, false, ◌||◌, List, [], ◌∷◌, length, slice_get, Some, None}
 use Rattle.std.specs.List.{Contains}
 use Rattle.c_ast.specs.declared.int_type.IntType.{IntType}
 use Rattle.c_ast.specs.declared.int_type.IntType.TheVariants as int
@@ -22,7 +22,8 @@ use Rattle.block_meaning.specs.ExpressionsInOrder.{CompoundTypes, Converts, Call
 use Rattle.block_meaning.specs.Linkage.{extern_at}
 use Rattle.block_meaning.specs.Locals.{text_of}
 use Rattle.gen_laws.specs.Computes.{IsOf}
-use Rattle.code_follows.specs.Covered.{computes_in, combines_in}
+use Rattle.code_follows.specs.Covered.{computes_in, operates_in, combines_in, leaves}
+use Rattle.code_follows.specs.Leaves.{bare_leaves}
 use Rattle.code_follows.specs.Parts.{ValueFollows, PlaceFollows, ValueNode, PlaceNode}
 use Rattle.code_follows.specs.Scene.{Scene}
 
@@ -42,7 +43,7 @@ pub record ValueNodes (k : Scene) (depth : ℕ) : Type 0 where
   pub logical : (o : BinaryOperator) (a b : TExpr) → group_of o ≡ Logical → ValueFollows k depth a → is_scalar a.ty ≡ true →
       ValueFollows k depth b → is_scalar b.ty ≡ true → ValueNode k depth int_type (TNode-F.Binary o a b)
   pub operated : (o : BinaryOperator) (a b : TExpr) (t : Ty) → ValueFollows k depth a → ValueFollows k depth b →
-      BinaryTypes o a.ty b.ty t → computes_in t ≡ true → ValueNode k depth t (TNode-F.Binary o a b)
+      BinaryTypes o a.ty b.ty t → operates_in a.ty b.ty ≡ true → ValueNode k depth t (TNode-F.Binary o a b)
   pub assigned : (a b : TExpr) → PlaceFollows k depth a → ValueFollows k depth b → b.ty ≡ a.ty → is_struct a.ty ≡ false →
       ValueNode k depth a.ty (TNode-F.Assign None a b)
   pub compound : (o : AssignOperator) (a b : TExpr) → PlaceFollows k depth a → ValueFollows k depth b → CompoundTypes o a.ty b.ty →
@@ -58,7 +59,7 @@ pub record ValueNodes (k : Scene) (depth : ℕ) : Type 0 where
   pub step : (o : Step) (e : TExpr) → PlaceFollows k depth e → is_scalar e.ty ≡ true → ValueNode k depth e.ty (TNode-F.Step o e)
   pub read : (e : TExpr) → PlaceFollows k depth e → (is_scalar e.ty || is_struct e.ty) ≡ true → ValueNode k depth e.ty (TNode-F.Read e)
   pub decay : (e : TExpr) (t : Ty) → PlaceFollows k depth e → element_of e.ty ≡ Some t → ValueNode k depth (ty.Pointer t) (TNode-F.Decay e)
-  pub convert : (e : TExpr) (t : Ty) → ValueFollows k depth e → Converts e.ty t → ValueNode k depth t (TNode-F.Convert e)
+  pub convert : (e : TExpr) (t : Ty) → ValueFollows k depth e → Converts e.ty t → bare_leaves < leaves e → ValueNode k depth t (TNode-F.Convert e)
 
 -- and those that designate an object, one a constructor of `Designates`
 pub record PlaceNodes (k : Scene) (depth : ℕ) : Type 0 where

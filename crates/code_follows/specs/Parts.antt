@@ -20,6 +20,8 @@ use Rattle.code_relation.specs.Trees.{Comes}
 use Rattle.gen_base.specs.Accesses.{reached}
 use Rattle.gen_expr.specs.Coded.{Emits, Coded}
 use Rattle.gen_expr.specs.Expressions.{coded}
+use Rattle.code_follows.specs.Covered.{leaves, layer_leaves}
+use Rattle.code_follows.specs.Leaves.{bare_leaves, place_leaves}
 use Rattle.code_follows.specs.Layers.{layer_code, layer_need}
 use Rattle.code_follows.specs.Scene.{Scene, given_in, calls_in, structs_in, frame_in, Lies, IsFree}
 use Rattle.code_follows.specs.Values.{ValueIs, PlaceIs}
@@ -49,39 +51,43 @@ pub record On (k : Scene) (first : ℕ) (reg : Reg) (alone : Bool) (s : State) (
   pub most : a.so_far + spare + k.code.per * now.work ≤ a.most
   pub within : now.work ≤ k.code.reach
 
--- The code from here on does what is left of a run; it is counted from an account, and leaves 4 steps of its bound.
-pub record Goes {A : Type 0} (k : Scene) (first : ℕ) (reg : Reg) (alone : Bool) (result : Result A) (s : State) (to : ℕ) (a : Account)
-    (run : Run A) (now : MeaningState) (t : State) : Type 0 where
-  pub bounded : Bounded (setting k.code) a (λ v. sparing 4) t (Gave k first reg alone result s to) (outcome_of (run now))
+-- The code from here on does what is left of a run; it is counted from an account, and leaves so many steps of its bound.
+pub record Goes {A : Type 0} (k : Scene) (first : ℕ) (reg : Reg) (alone : Bool) (result : Result A) (s : State) (to leaves : ℕ)
+    (a : Account) (run : Run A) (now : MeaningState) (t : State) : Type 0 where
+  pub bounded : Bounded (setting k.code) a (λ v. sparing leaves) t (Gave k first reg alone result s to) (outcome_of (run now))
 
 -- From each pair of states that are related, at the address where it begins, it does what the run does.
-pub record Yields {A : Type 0} (k : Scene) (first : ℕ) (reg : Reg) (alone : Bool) (result : Result A) (from to : ℕ) (run : Run A) : Type 0
-  where
-    pub goes : (now : MeaningState) (s : State) → now.work ≤ k.code.reach → Relates (given_in k) k.here now s → s.pc ≡ from →
-        Goes k first reg alone result s to (opened (setting k.code) now.work) run now s
+pub record Yields {A : Type 0} (k : Scene) (first : ℕ) (reg : Reg) (alone : Bool) (result : Result A) (from to leaves : ℕ) (run : Run A) :
+    Type 0 where
+  pub goes : (now : MeaningState) (s : State) → now.work ≤ k.code.reach → Relates (given_in k) k.here now s → s.pc ≡ from →
+      Goes k first reg alone result s to leaves (opened (setting k.code) now.work) run now s
 
 -- Wherever it stands, into any register that is free, with as many temps as it needs.
-pub record Part {A : Type 0} (k : Scene) (emits : Emits) (needs : ℕ) (alone : Bool) (result : Result A) (run : Run A) : Type 0 where
+pub record Part {A : Type 0} (k : Scene) (emits : Emits) (needs leaves : ℕ) (alone : Bool) (result : Result A) (run : Run A) : Type 0 where
   pub yields : (first : ℕ) (reg : Reg) (from to : ℕ) → IsFree k needs first reg → Lies k (emits first reg) from to →
-      Yields k first reg alone result from to run
+      Yields k first reg alone result from to leaves run
 
 -- ---- expressions
 
 -- the value of an expression of a type
-pub record ValuePart (k : Scene) (code : Coded) (needs : ℕ) (t : Ty) (run : Run Value) : Type 0 where
-  pub part : Part k code.value needs code.alone (ValueIs (given_in k) t) run
+pub record ValuePart (k : Scene) (code : Coded) (needs leaves : ℕ) (t : Ty) (run : Run Value) : Type 0 where
+  pub part : Part k code.value needs leaves code.alone (ValueIs (given_in k) t) run
 
 -- a unit of work that is owed, or none
 abbrev pub owed : {A : Type 0} → Bool → A → Run A
 owed true a = unit_gives a
 owed false a = gives a
 
+abbrev pub pointer_leaves : Bool → ℕ
+pointer_leaves true = bare_leaves
+pointer_leaves false = place_leaves
+
 -- The code comes to the place, but may leave a unit of work to the next instruction.
 pub record PointerPart (k : Scene) (code : Coded) (needs : ℕ) (run : Run Pointer) : Type 0 where
   pub owes : Bool
   pub first : Run Pointer
   pub run_is : (now : MeaningState) → run now ≡ and_then first (owed owes) now
-  pub part : Part k code.pointer needs code.alone (PlaceIs (given_in k)) first
+  pub part : Part k code.pointer needs (pointer_leaves owes) code.alone (PlaceIs (given_in k)) first
 
 -- The run comes to the place of a local in a safe slot, which starts there and is reached from SP; or the definition's bound was too small
 -- for it.
@@ -92,7 +98,7 @@ pub data SlotRun (k : Scene) (t : Ty) (start : ℕ) (run : Run Pointer) (now : M
 
 -- the place of what an expression of a type designates
 pub record PlacePart (k : Scene) (code : Coded) (needs : ℕ) (t : Ty) (run : Run Pointer) : Type 0 where
-  pub place : Part k code.place needs code.alone (PlaceIs (given_in k)) run
+  pub place : Part k code.place needs place_leaves code.alone (PlaceIs (given_in k)) run
   pub pointer : PointerPart k code needs run
   pub slot : (start : ℕ) → code.slot ≡ Some start → (now : MeaningState) → SlotRun k t start run now
 
@@ -103,7 +109,8 @@ coded_in k e = coded (structs_in k) (frame_in k) e
 
 -- an expression, whatever parentheses stand round it
 pub record ValueFollows (k : Scene) (depth : ℕ) (e : TExpr) : Type 0 where
-  pub around : (span : Span) → ValuePart k (coded_in k e) (need e) e.ty ((parts_at (calls_in k) k.here depth).value_in span e)
+  pub least : bare_leaves ≤ leaves e
+  pub around : (span : Span) → ValuePart k (coded_in k e) (need e) (leaves e) e.ty ((parts_at (calls_in k) k.here depth).value_in span e)
 
 pub record PlaceFollows (k : Scene) (depth : ℕ) (e : TExpr) : Type 0 where
   pub part : PlacePart k (coded_in k e) (need e) e.ty ((parts_at (calls_in k) k.here depth).place e)
@@ -122,7 +129,7 @@ site_in k depth span around t = record {
 -- a node of a type
 pub record ValueNode (k : Scene) (depth : ℕ) (t : Ty) (l : NodeLayer) : Type 0 where
   pub at : (span around : Span) →
-      ValuePart k (layer_code (structs_in k) (frame_in k) l t) (layer_need l) t (value_node (site_in k depth span around t) l)
+      ValuePart k (layer_code (structs_in k) (frame_in k) l t) (layer_need l) (layer_leaves l) t (value_node (site_in k depth span around t) l)
 
 pub record PlaceNode (k : Scene) (depth : ℕ) (t : Ty) (l : NodeLayer) : Type 0 where
   pub at : (span : Span) →

@@ -53,8 +53,9 @@ pub record Lies (k : Scene) (code : Items) (from to : ℕ) : Type 0 where
   pub from_is : place.at 0 ≡ from
   pub to_is : place.at (length (code position)) ≡ to
 
--- a register that a value may come into, and enough temps from the first on that may be used
+-- a register that a value may come into, and enough temps from the first on that may be used, which loads and stores reach from SP
 pub record IsFree (k : Scene) (need first : ℕ) (reg : Reg) : Type 0 where
   pub low : 9 ≤ reg.0
   pub high : reg.0 ≤ 15
   pub temps : first + need ≤ (frame_in k).temps
+  pub near : first + need ≤ 4093

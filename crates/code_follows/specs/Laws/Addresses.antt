@@ -11,6 +11,7 @@ use Rattle.code_relation.specs.Items.{Spot, Acts, PutsAddress, PutsPointer}
 use Rattle.code_relation.specs.Numbers.{IsNumber}
 use Rattle.code_relation.specs.Laws.Outcomes.{spent}
 use Rattle.gen_base.specs.Code.{only}
+use Rattle.code_follows.specs.Leaves.{place_leaves}
 use Rattle.code_follows.specs.Parts.{Part}
 use Rattle.code_follows.specs.Scene.{Scene, IsScene, given_in}
 use Rattle.code_follows.specs.Steps.{SameMachine, Walks}
@@ -40,7 +41,7 @@ pub record Names (k : Scene) (i : Reg → SymItem) (block : Context → Option �
       PutsAddress k.code k.function spot.from spot.to reg block
 
 pub address_part : {k : Scene} {i : Reg → SymItem} {block : Context → Option ℕ} → IsScene k → Names k i block →
-    Part k (λ t r. only (i r)) 0 true (PlaceIs (given_in k)) (starts (block k.here))
+    Part k (λ t r. only (i r)) 0 place_leaves true (PlaceIs (given_in k)) (starts (block k.here))
 address_part {k} {i} {block} scene names = Part-by (λ first reg from to free lies a now s on.
     let low : reg.0 < 28 = omega (arith, free.high) in
     let there : ActsFrom k (i reg) from to = Lies-only (i reg) lies in
@@ -50,7 +51,7 @@ address_part {k} {i} {block} scene names = Part-by (λ first reg from to free li
     (owing.came.comes.pc ∙ sym there.from_is) is in
     let walks : Walks k to puts.steps s puts.state =
     record { led = puts.led; pc = puts.pc ∙ there.to_is; same = puts_same low puts.puts } in
-    Goes-walks puts.steps 4 walks (λ alone r other. puts.puts.registers r other) owing puts.least
+    Goes-walks puts.steps place_leaves walks (λ alone r other. puts.puts.registers r other) owing puts.least
     (omega (arith, puts.most, pays scene))
     (λ done. Goes-done (start_of b) done (omega arith)
     (record { is = subst (λ n. IsNumber (given_in k) (spent now) (start_of b) n) (sym puts.puts.is) puts.number_is })))))

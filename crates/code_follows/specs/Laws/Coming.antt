@@ -1,11 +1,12 @@
 -- How code comes on: by steps that leave the relation as it is, and past a unit of work (this project's own).
-use Rattle.std.specs.Prelude.{◌≡◌, ◌≢◌, ℕ, ◌^◌, ◌<◌, ◌≤◌, Bool, true, List, ◌∷◌, length, refl}
+use Rattle.std.specs.Prelude.{◌≡◌, ◌≢◌, ℕ, ◌^◌, ◌<◌, ◌≤◌, Bool, true, ◌+◌, ◌*◌, List, [], ◌∷◌, length, Some, refl}
 use Rattle.std.proofs.Common.{arith, ap, subst, ◌∙◌}
 use Rattle.a64_code.specs.declared.instr.Instr.{Instr}
 use Rattle.a64_code.specs.declared.instr.Reg.{Reg}
-use Rattle.a64_code.specs.State.{State}
-use Rattle.a64_laws.specs.Runs.{RunsFrom}
+use Rattle.a64_code.specs.State.{State, at_pc}
+use Rattle.a64_laws.specs.Runs.{instr_at, RunsFrom}
 use Rattle.block_meaning.specs.Running.{Context, State as MeaningState}
+use Rattle.code_relation.specs.Items.{HasInstr}
 use Rattle.code_relation.specs.Laws.Keeps.{KeepsFrom-bytes, KeepsFrom-then}
 use Rattle.code_relation.specs.Laws.Kept.{Injects-same, Injects-with}
 use Rattle.code_relation.specs.Laws.Outcomes.{spent}
@@ -13,6 +14,7 @@ use Rattle.code_relation.specs.Relates.{SameOutside, Relates}
 use Rattle.code_relation.specs.Sites.{Given, units_of}
 use Rattle.code_runs.specs.Bounded.{Account}
 use Rattle.code_runs.specs.Laws.Ranges.{IsInRange-Steps}
+use Rattle.gen_laws.specs.Laws.Computing.{Computes-nil, Computes-fewer}
 use Rattle.code_follows.specs.Parts.{Came, On}
 use Rattle.code_follows.specs.Scene.{Scene, given_in, IsScene}
 use Rattle.gen_laws.specs.Computes.{SameButResults, Computes}
@@ -124,6 +126,19 @@ Walks-computes {k} {instrs} {from} {to} {s = s} has quiet computes suits relates
   pc = omega (arith, computes.runs.pc, at, has.to_is);
   same = SameMachine-results computes.same (computes.registers 28 (λ same. omega (arith, suits.low, same)) suits.base);
 }
+
+-- Where instructions stand, PC is low; and no instruction computes the same at any PC.
+pub Computes-where : {k : Scene} {instrs : List Instr} {from to : ℕ} {into : Reg} {value : ℕ} {spares : ℕ → Type 0} {s : State} →
+    HasInstrs k instrs from to → s.pc ≡ from →
+    ((t : State) → t.register ≡ s.register → t.pc < 2 ^ 56 → Computes instrs into value spares t) → Computes instrs into value spares s
+Computes-where {k} {instrs} {from} {into = into} {value} {spares} {s} has at each = by_list instrs (λ instr. (has.each 0 instr)) each
+  where
+    by_list : (instrs : List Instr) → ((instr : Instr) → instr_at instrs 0 ≡ Some instr → HasInstr k.code (from + 4 * 0) instr) →
+        ((t : State) → t.register ≡ s.register → t.pc < 2 ^ 56 → Computes instrs into value spares t) → Computes instrs into value spares s
+    by_list [] has each =
+        let c = each (at_pc 0 s) refl (omega arith) in
+        Computes-fewer (λ r spared. tt) (Computes-nil into value s (ap (λ u. u.register into.0) c.runs.steps ∙ c.holds))
+    by_list (x ∷ xs) has each = each s refl (omega (arith, at, (has x refl).below))
 
 -- ---- numbers
 

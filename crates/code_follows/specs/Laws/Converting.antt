@@ -1,5 +1,5 @@
 -- A value in another type: its number, and the list that makes it (this project's own).
-use Rattle.std.specs.Prelude.{◌≡◌, ℕ, ◌≤◌, Bool, true, false, List, [], length, Option, Some, None, refl}
+use Rattle.std.specs.Prelude.{◌≡◌, ℕ, Bool, true, false, [], Option, Some, None, refl}
 use Rattle.std.specs.Prelude.{if◌then◌else◌, nat_le}
 use Rattle.std.proofs.Common.{arith, ap, sym, ◌∙◌}
 use Rattle.c_ast.specs.declared.int_type.IntType.{IntType}
@@ -7,7 +7,6 @@ use Rattle.c_type_base.specs.Conversions.{bits_of, is_signed, wrap}
 use Rattle.c_type_base.specs.Types.{TyLayer, int_of, int_of_level, target_of_level, is_there, is_void, is_void_level}
 use Rattle.c_type_base.specs.declared.ty.Ty.{Ty, out-Ty}
 use Rattle.c_type_base.specs.declared.ty.Ty.TheOpen.{Ty-F}
-use Rattle.a64_code.specs.declared.instr.Instr.{Instr}
 use Rattle.a64_code.specs.declared.instr.Reg.{Reg}
 use Rattle.a64_code.specs.State.{State}
 use Rattle.block_meaning.specs.Blocks.{null, null_block}
@@ -24,8 +23,7 @@ use Rattle.gen_laws.specs.Computes.{IsOfSome}
 use Rattle.gen_laws.specs.Laws.Numbers.{wrap-is_of}
 use Rattle.gen_laws.specs.Operations.{converted_number}
 use Rattle.code_follows.specs.Values.{IsOfLevel, ValueIs}
-use Rattle.code_follows.specs.Laws.Computing.{constant_quiet, constant_few}
-use Rattle.code_follows.specs.Laws.Walking.{are_quiet}
+use Rattle.code_follows.specs.Laws.Walking.{Short}
 
 -- ---- numbers
 
@@ -96,11 +94,6 @@ ValueIs-void {g} {now} {u} v n is = let l = void_level g now (out-Ty u) v n is i
 
 -- ---- lists
 
--- instructions that leave memory as it is, of which there are so many at most
-pub record Short (most : ℕ) (instrs : List Instr) : Type 0 where
-  pub quiet : are_quiet instrs ≡ true
-  pub few : length instrs ≤ most
-
 extend_short : (signed : Bool) (bits : ℕ) (r : Reg) → Short 1 (extend signed bits r)
 extend_short true bits r = record { quiet = refl; few = omega arith }
 extend_short false bits r = record { quiet = refl; few = omega arith }
@@ -119,14 +112,14 @@ between_short s t r = by_test (has_all t s)
     by_test true = record { quiet = refl; few = omega arith }
     by_test false = wrap_short t r
 
-into_short : (o : Option IntType) (l : TyLayer) (r : Reg) → Short 4 (into_type o l r)
+into_short : (o : Option IntType) (l : TyLayer) (r : Reg) → Short 1 (into_type o l r)
 into_short None (Ty-F.Int t) r = let one = wrap_short t r in record { quiet = one.quiet; few = omega (arith, one.few) }
 into_short (Some s) (Ty-F.Int t) r = let one = between_short s t r in record { quiet = one.quiet; few = omega (arith, one.few) }
 into_short None (Ty-F.Pointer t) r = record { quiet = refl; few = omega arith }
-into_short (Some s) (Ty-F.Pointer t) r = record { quiet = constant_quiet r 0; few = (constant_few r 0).few }
+into_short (Some s) (Ty-F.Pointer t) r = record { quiet = refl; few = omega arith }
 into_short o Ty-F.Void r = record { quiet = refl; few = omega arith }
 into_short o (Ty-F.Array t n) r = record { quiet = refl; few = omega arith }
 into_short o (Ty-F.Struct n) r = record { quiet = refl; few = omega arith }
 
-pub convert_short : (s t : Ty) (r : Reg) → Short 4 (convert s t r)
+pub convert_short : (s t : Ty) (r : Reg) → Short 1 (convert s t r)
 convert_short s t r = into_short (int_of s) (out-Ty t) r

@@ -9,6 +9,7 @@ use Rattle.block_meaning.specs.Memory.{structs_at}
 use Rattle.block_meaning.specs.Running.{Result as Result', Goes, Stops, Run, gives, goes_on, and_then, State as MeaningState}
 use Rattle.code_relation.specs.Relates.{Relates}
 use Rattle.gen_expr.specs.Coded.{Emits, designated}
+use Rattle.code_follows.specs.Leaves.{place_leaves}
 use Rattle.code_follows.specs.Parts.{Result, Part, PlacePart}
 use Rattle.code_follows.specs.Scene.{Scene, IsScene, given_in, structs_in}
 use Rattle.code_follows.specs.Values.{PlaceIs}
@@ -22,9 +23,9 @@ structs_here {k} scene relates =
     ∙ ap (λ unit. structs_of (given_in k).program.units unit) (scene.inside.3)
 
 -- code that does what a run does that is the same wherever states are related
-pub Part-same : {A : Type 0} {k : Scene} {emits : Emits} {needs : ℕ} {alone : Bool} {result : Result A} {m n : Run A} →
-    ((now : MeaningState) (s : State) → Relates (given_in k) k.here now s → m now ≡ n now) → Part k emits needs alone result n →
-    Part k emits needs alone result m
+pub Part-same : {A : Type 0} {k : Scene} {emits : Emits} {needs leaves : ℕ} {alone : Bool} {result : Result A} {m n : Run A} →
+    ((now : MeaningState) (s : State) → Relates (given_in k) k.here now s → m now ≡ n now) → Part k emits needs leaves alone result n →
+    Part k emits needs leaves alone result m
 Part-same same part = record {
   yields = λ first reg from to free lies. record {
     goes = λ now s within relates at. Goes-same (same now s relates) ((part.yields first reg from to free lies).goes now s within relates at);
@@ -41,7 +42,7 @@ and_then-gives {A} m now = by_result (m now)
 
 -- a place whose code pays for itself
 pub PlacePart-paid : {k : Scene} {place : Emits} {needs : ℕ} {alone : Bool} {t : Ty} {run : Run Pointer} →
-    Part k place needs alone (PlaceIs (given_in k)) run → PlacePart k (designated alone place t) needs t run
+    Part k place needs place_leaves alone (PlaceIs (given_in k)) run → PlacePart k (designated alone place t) needs t run
 PlacePart-paid {run = run} part = record {
   place = part;
   pointer = record { owes = false; first = run; run_is = and_then-gives run; part = part };

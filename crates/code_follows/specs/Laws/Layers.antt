@@ -16,6 +16,8 @@ use Rattle.block_meaning.specs.Expressions.{NodeLayer}
 use Rattle.gen_expr.specs.Coded.{Coded}
 use Rattle.gen_expr.specs.Expressions.{NodeCode, node_code, expr_code, coded}
 use Rattle.gen_expr.specs.Nodes.{unary_node}
+use Rattle.code_follows.specs.Covered.{Covering, NodeCovering, node_covering, expr_covering, covering, layer_covering, layer_covered, layer_leaves}
+use Rattle.code_follows.specs.Covered.{covered, leaves}
 use Rattle.code_follows.specs.Layers.{layer_code, layer_need}
 
 pub coded-is : (structs : List StructInfo) (f : Frame) (e : TExpr) →
@@ -28,6 +30,24 @@ coded-is structs f e =
 pub need-is : (e : TExpr) → need e ≡ layer_need (out-TNode e.node)
 unfolding given_typed
 need-is e = fold_out-TExpr ℕ ℕ need_step expr_step e ∙ fold_out-TNode ℕ ℕ need_step expr_step e.node
+
+-- ---- what is covered
+
+covering-is : (e : TExpr) → covering e ≡ expr_covering (record { span = e.span; ty = e.ty; node = layer_covering (out-TNode e.node) })
+unfolding given_typed
+covering-is e =
+    fold_out-TExpr NodeCovering Covering node_covering expr_covering e
+    ∙ ap (λ (n : NodeCovering). expr_covering (record { span = e.span; ty = e.ty; node = n }))
+    (fold_out-TNode NodeCovering Covering node_covering expr_covering e.node)
+
+pub covered-is : (e : TExpr) → covered e ≡ layer_covered (out-TNode e.node) e.ty
+covered-is e = ap (λ c. c.is) (covering-is e)
+
+pub covering-ty : (e : TExpr) → (covering e).ty ≡ e.ty
+covering-ty e = ap (λ c. c.ty) (covering-is e)
+
+pub leaves-is : (e : TExpr) → leaves e ≡ layer_leaves (out-TNode e.node)
+leaves-is e = ap (λ c. c.leaves) (covering-is e)
 
 unary-ty : (o : UnaryOperator) (e : Coded) (t : Ty) → (unary_node o e t).ty ≡ t
 unary-ty unary.Dereference e t = refl

@@ -22,6 +22,7 @@ use Rattle.code_runs.specs.Laws.Bounded.{finishes}
 use Rattle.gen_base.specs.Code.{Code as Items, plain, in_turn}
 use Rattle.gen_expr.specs.Coded.{Emits}
 use Rattle.gen_laws.specs.Computes.{Computes, all}
+use Rattle.code_follows.specs.Leaves.{value_leaves}
 use Rattle.code_follows.specs.Parts.{Result, Gave, On, Goes, Part}
 use Rattle.code_follows.specs.Scene.{Scene, IsScene, given_in, Lies}
 use Rattle.code_follows.specs.Values.{ValueIs}
@@ -76,11 +77,11 @@ begins {k} {from} (i ∷ is) some has = record {
 
 -- ---- an undefined step that is no access
 
-pub Goes-undefined : {A : Type 0} {k : Scene} {first : ℕ} {reg : Reg} {alone : Bool} {result : Result A} {s : State} {to at : ℕ} {a : Account}
+pub Goes-undefined : {A : Type 0} {k : Scene} {first : ℕ} {reg : Reg} {alone : Bool} {result : Result A} {s : State} {to leaves at : ℕ} {a : Account}
     {spare : ℕ} {run : Run A} {now : MeaningState} {t : State} (u : Undefined) → run now ≡ Stops (IsUndefined u) now → u.access ≡ None →
-    k.code.Inside t → On k first reg alone s at a 1 spare now t → 1 ≤ spare → Goes k first reg alone result s to a run now t
-Goes-undefined {k = k} {first} {reg} {alone} {result} {s} {to} {a} {now = now} {t} u is none inside on enough = record {
-  bounded = subst (λ r. Bounded (setting k.code) a (λ v. sparing 4) t (Gave k first reg alone result s to) (outcome_of r)) (sym is)
+    k.code.Inside t → On k first reg alone s at a 1 spare now t → 1 ≤ spare → Goes k first reg alone result s to leaves a run now t
+Goes-undefined {k = k} {first} {reg} {alone} {result} {s} {to} {leaves} {a = a} {now = now} {t} u is none inside on enough = record {
+  bounded = subst (λ r. Bounded (setting k.code) a (λ v. sparing leaves) t (Gave k first reg alone result s to) (outcome_of r)) (sym is)
       (finishes (record { least = omega (arith, on.least); most = omega (arith, on.most, enough) })
       (record {
         inside = inside;
@@ -120,11 +121,11 @@ IsKept {A} result = (v : A) (now : MeaningState) (n : ℕ) → result v now n �
 
 pub Goes-does : {B : Type 0} {k : Scene} {first : ℕ} {reg : Reg} {alone : Bool} {result : Result B} {s : State} {from to : ℕ} {a : Account}
     {spare : ℕ} {run : Run B} {now : MeaningState} {t : State} {instrs : List Instr} → HasInstrs k instrs from to →
-    Listed instrs → reg.0 < 28 → On k first reg alone s from a 1 spare now t → 36 ≤ spare →
-    Does result instrs reg run now t → Goes k first reg alone result s to a run now t
+    Listed instrs → reg.0 < 28 → On k first reg alone s from a 1 spare now t → 39 ≤ spare →
+    Does result instrs reg run now t → Goes k first reg alone result s to value_leaves a run now t
 Goes-does {reg = reg} {alone} {result} {now = now} {instrs = instrs} has list low on enough (computes_it w n is puts holds) =
     Goes-same is
-    (Goes-computes 4 has list.quiet puts (Suits-own alone reg low) on list.few.some (omega (arith, list.few.few, enough))
+    (Goes-computes value_leaves has list.quiet puts (Suits-own alone reg low) on list.few.some (omega (arith, list.few.few, enough))
     (λ done. Goes-done w done (omega arith) (subst (λ (m : ℕ). result w now m) (sym puts.holds) holds)))
 Goes-does {instrs = instrs} has list low on enough (is_undefined u is none) =
     let first = begins instrs list.few.some has in
@@ -132,10 +133,10 @@ Goes-does {instrs = instrs} has list low on enough (is_undefined u is none) =
     (first.has.inside _ (record { pc = on.came.comes.pc; as_loaded = on.came.comes.relates.injects.as_loaded; in_range = on.came.comes.relates.injects.in_range }))
     on (omega (arith, enough))
 
-pub operand_part : {A B : Type 0} {k : Scene} {emits : Emits} {needs : ℕ} {alone : Bool} {given : Result A} {result : Result B} {m : Run A}
-    {f : A → Run B} {instrs : Reg → List Instr} → IsScene k → Part k emits needs alone given m → IsKept given →
+pub operand_part : {A B : Type 0} {k : Scene} {emits : Emits} {needs leaves : ℕ} {alone : Bool} {given : Result A} {result : Result B} {m : Run A}
+    {f : A → Run B} {instrs : Reg → List Instr} → IsScene k → Part k emits needs leaves alone given m → IsKept given →
     DoesRest k given result instrs f →
-    Part k (λ t r. in_turn (emits t r ∷ plain (instrs r) ∷ [])) needs alone result (and_then m (λ v. unit_then (f v)))
+    Part k (λ t r. in_turn (emits t r ∷ plain (instrs r) ∷ [])) needs value_leaves alone result (and_then m (λ v. unit_then (f v)))
 operand_part {k = k} {emits} {given = given} {instrs = instrs} scene part kept rest = Part-by (λ first reg from to free lies a now s on.
     let pieces = Lies-two (emits first reg) (plain (instrs reg)) lies in
     let has : HasInstrs k (instrs reg) pieces.middle to = Lies-plain (instrs reg) pieces.back in

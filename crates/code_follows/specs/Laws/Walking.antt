@@ -1,5 +1,5 @@
 -- Instructions that leave the bytes of memory as they are, run where they stand (this project's own).
-use Rattle.std.specs.Prelude.{◌≡◌, ℕ, zero, suc, ◌+◌, Bool, true, false, List, [], ◌∷◌, ◌&&◌, Some, refl}
+use Rattle.std.specs.Prelude.{◌≡◌, ℕ, zero, suc, ◌+◌, Bool, true, false, List, [], ◌∷◌, ◌&&◌, ◌≤◌, length, Some, refl}
 use Rattle.std.proofs.Common.{arith, ap, subst, ◌∙◌}
 use Rattle.a64_code.specs.declared.instr.Instr.{Instr}
 use Rattle.a64_code.specs.declared.instr.Instr.TheVariants.{Str, Strb, Strh, Stp, Stzg, Stz2g}
@@ -89,3 +89,8 @@ walk_within k {instrs} {from} {to} (suc n) {s} {t} has quiet runs loaded range =
     (walk_within k n has quiet runs.2
     (IsAsLoaded-quiet k moves.instr (quiet_at instrs moves.next.position moves.instr quiet moves.next.there) moves.leads loaded)
     (IsInRange-Steps 1 one.steps range)))
+
+-- such instructions, of which there are so many at most
+pub record Short (most : ℕ) (instrs : List Instr) : Type 0 where
+  pub quiet : are_quiet instrs ≡ true
+  pub few : length instrs ≤ most

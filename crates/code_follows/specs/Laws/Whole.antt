@@ -1,42 +1,33 @@
 -- The code of each expression that is covered does what it means, where that of each node does (this project's own). By the number of
 -- levels, and the derivation that the expression is in order.
-use Rattle.std.specs.Prelude.{◌≡◌, ℕ, zero, suc, Bool, true, false, ◌&&◌, not, if◌then◌else◌, List, map, refl}
-use Rattle.std.proofs.Common.{ap, sym, subst, ◌∙◌}
+use Rattle.std.specs.Prelude.{◌≡◌, ℕ, zero, suc, Bool, true, false, nat_lt, ◌<◌, ◌≤◌, ◌&&◌, not, if◌then◌else◌, List, map, refl}
+use Rattle.std.proofs.Common.{arith, ap, sym, subst, ◌∙◌}
 use Rattle.std.proofs.lemmas.Bool.{eqb-true}
+use Rattle.std.proofs.lemmas.Bool.Decides.{nat_tests}
 use Rattle.c_ast.specs.declared.operator.AssignOperator.{AssignOperator}
 use Rattle.c_ast.specs.declared.operator.UnaryOperator.{UnaryOperator}
-use Rattle.c_type_base.specs.Laws.Opened.{given_typed}
 use Rattle.c_type_base.specs.Types.{is_struct}
 use Rattle.c_type_base.specs.declared.expr.TExpr.{TExpr}
 use Rattle.c_type_base.specs.declared.expr.TNode.{out-TNode}
-use Rattle.c_type_base.specs.declared.expr.TNode.TheFolds.{fold_out-TNode, fold_out-TExpr}
 use Rattle.c_type_base.specs.declared.ty.Ty.{Ty}
 use Rattle.frame_layout.specs.Needs.{need}
 use Rattle.block_meaning.specs.Running.{stuck}
 use Rattle.gen_expr.specs.Coded.{Emits}
 use Rattle.block_meaning.specs.Expressions.{NodeLayer, parts_at}
 use Rattle.block_meaning.specs.ExpressionsInOrder as order
-use Rattle.block_meaning.specs.ExpressionsInOrder.{HasValue, Designates, Arguments, is_sign}
-use Rattle.code_follows.specs.Covered.{Covering, NodeCovered, computes_in, combines_in, all_covered, node_covered, expr_covered, covering, covered, layer_covered}
+use Rattle.block_meaning.specs.ExpressionsInOrder.{Scope, HasValue, Designates, Arguments, is_sign}
+use Rattle.code_follows.specs.Covered.{computes_in, operates_in, combines_in, all_covered, covering, covered, layer_covered, layer_leaves, leaves}
 use Rattle.code_follows.specs.Nodes.{AllFollow, Nodes}
-use Rattle.code_follows.specs.Layers.{layer_code}
+use Rattle.code_follows.specs.Layers.{layer_code, layer_need}
+use Rattle.code_follows.specs.Leaves.{bare_leaves}
 use Rattle.code_follows.specs.Parts.{Result, Part, ValuePart, too_deep, PlacePart, ValueFollows, PlaceFollows, ValueNode, PlaceNode}
 use Rattle.code_follows.specs.Scene.{Scene, calls_in, structs_in, frame_in}
 use Rattle.code_follows.specs.Laws.Going.{Goes-stuck, Part-by}
-use Rattle.code_follows.specs.Laws.Layers.{coded-is, need-is}
+use Rattle.code_follows.specs.Laws.Layers.{coded-is, need-is, covered-is, covering-ty, leaves-is}
 
-covering-is : (e : TExpr) → covering e ≡ record { ty = e.ty; is = layer_covered (out-TNode e.node) e.ty }
-unfolding given_typed
-covering-is e =
-    fold_out-TExpr NodeCovered Covering node_covered expr_covered e
-    ∙ ap (λ (n : NodeCovered). expr_covered (record { span = e.span; ty = e.ty; node = n }))
-    (fold_out-TNode NodeCovered Covering node_covered expr_covered e.node)
-
-covered-is : (e : TExpr) → covered e ≡ layer_covered (out-TNode e.node) e.ty
-covered-is e = ap (λ c. c.is) (covering-is e)
-
-covering-ty : (e : TExpr) → (covering e).ty ≡ e.ty
-covering-ty e = ap (λ c. c.ty) (covering-is e)
+operated_types : (a b : TExpr) → operates_in (covering a).ty (covering b).ty ≡ true → operates_in a.ty b.ty ≡ true
+operated_types a b is =
+    sym (ap (λ s. operates_in s (covering b).ty) (covering-ty a) ∙ ap (λ t. operates_in a.ty t) (covering-ty b)) ∙ is
 
 combined_types : (o : AssignOperator) (a b : TExpr) → combines_in o (covering a).ty (covering b).ty ≡ true → combines_in o a.ty b.ty ≡ true
 combined_types o a b is =
@@ -56,6 +47,22 @@ is_false false is = refl
 
 sign_computes : (o : UnaryOperator) (t : Ty) → is_sign o ≡ true → (if is_sign o then computes_in t else true) ≡ true → computes_in t ≡ true
 sign_computes o t sign is = sym (ap (λ b. (if b then computes_in t else true)) sign) ∙ is
+
+lt_of : {n m : ℕ} → nat_lt n m ≡ true → n < m
+lt_of {n} {m} is = grind (arith, nat_tests)
+
+-- ---- what is left of the bound
+
+least_by : {s : Scope} (t : Ty) (l : NodeLayer) → HasValue s t l → layer_covered l t ≡ true → bare_leaves ≤ layer_leaves l
+least_by t l (order.paren {e} d) cov =
+    subst (λ n. bare_leaves ≤ n) (sym (leaves-is e)) (least_by t (out-TNode e.node) d (sym (covered-is e) ∙ cov))
+least_by t l (order.convert {e} d types) cov =
+    let under : bare_leaves < leaves e = lt_of (first_of (nat_lt bare_leaves (leaves e)) (covered e) cov) in omega (arith, under)
+least_by t l d cov = omega arith
+
+least_of : {s : Scope} (e : TExpr) → HasValue s e.ty (out-TNode e.node) → covered e ≡ true → bare_leaves ≤ leaves e
+least_of e d cov =
+    subst (λ n. bare_leaves ≤ n) (sym (leaves-is e)) (least_by e.ty (out-TNode e.node) d (sym (covered-is e) ∙ cov))
 
 -- what is shown with so many levels below
 pub record Below (k : Scene) (depth : ℕ) : Type 0 where
@@ -79,13 +86,14 @@ module _ {k : Scene} {depth : ℕ} (nodes : Nodes k) (below : Below k depth) whe
       (nodes.values depth).signed o e sign (below.value e d (second_of _ (covered e) cov)) is
       (sign_computes o t sign (first_of (if is_sign o then computes_in t else true) (covered e) cov))
   value_by t l (order.logical {o} {a} {b} group d is x its) cov =
-      let both : (covered a && covered b) ≡ true = second_of (computes_in t) (covered a && covered b) cov in
+      let both : (covered a && covered b) ≡ true = second_of (operates_in (covering a).ty (covering b).ty) (covered a && covered b) cov in
       (nodes.values depth).logical o a b group (below.value a d (first_of (covered a) (covered b) both)) is
       (below.value b x (second_of (covered a) (covered b) both)) its
   value_by t l (order.operated {o} {a} {b} d x types) cov =
-      let both : (covered a && covered b) ≡ true = second_of (computes_in t) (covered a && covered b) cov in
+      let both : (covered a && covered b) ≡ true = second_of (operates_in (covering a).ty (covering b).ty) (covered a && covered b) cov in
       (nodes.values depth).operated o a b t (below.value a d (first_of (covered a) (covered b) both))
-      (below.value b x (second_of (covered a) (covered b) both)) types (first_of (computes_in t) (covered a && covered b) cov)
+      (below.value b x (second_of (covered a) (covered b) both)) types
+      (operated_types a b (first_of (operates_in (covering a).ty (covering b).ty) (covered a && covered b) cov))
   value_by t l (order.assigned {a} {b} d x same) cov =
       let both : (covered a && covered b) ≡ true = second_of (not (is_struct a.ty) && true) (covered a && covered b) cov in
       (nodes.values depth).assigned a b (below.place a d (first_of (covered a) (covered b) both))
@@ -111,7 +119,9 @@ module _ {k : Scene} {depth : ℕ} (nodes : Nodes k) (below : Below k depth) whe
   value_by t l (order.step {o} {e} d is) cov = (nodes.values depth).step o e (below.place e d cov) is
   value_by t l (order.read {e} d is) cov = (nodes.values depth).read e (below.place e d cov) is
   value_by t l (order.decay {e} {t = element} d is) cov = (nodes.values depth).decay e element (below.place e d cov) is
-  value_by t l (order.convert {e} d types) cov = (nodes.values depth).convert e t (below.value e d cov) types
+  value_by t l (order.convert {e} d types) cov =
+      (nodes.values depth).convert e t (below.value e d (second_of (nat_lt bare_leaves (leaves e)) (covered e) cov)) types
+      (lt_of (first_of (nat_lt bare_leaves (leaves e)) (covered e) cov))
   value_by t l (order.member_value d has is) cov = absurd (cc)
 
   place_by : (t : Ty) (l : NodeLayer) → Designates k.scope t l → layer_covered l t ≡ true → PlaceNode k depth t l
@@ -138,17 +148,20 @@ module _ {k : Scene} {depth : ℕ} (nodes : Nodes k) (below : Below k depth) whe
   one_more : Below k (suc depth)
   unfolding out-TNode
   one_more = record {
-    value = λ e d cov. value_of e (value_by e.ty (out-TNode e.node) d (sym (covered-is e) ∙ cov));
+    value = λ e d cov. value_of e (least_of e d cov) (value_by e.ty (out-TNode e.node) d (sym (covered-is e) ∙ cov));
     place = λ e d cov. place_of e (place_by e.ty (out-TNode e.node) d (sym (covered-is e) ∙ cov));
   }
     where
-      value_of : (e : TExpr) → ValueNode k depth e.ty (out-TNode e.node) → ValueFollows k (suc depth) e
-      value_of e node = record {
+      value_of : (e : TExpr) → bare_leaves ≤ leaves e → ValueNode k depth e.ty (out-TNode e.node) → ValueFollows k (suc depth) e
+      value_of e least node = record {
+        least = least;
         around = λ span.
-            subst (λ code. ValuePart k code (need e) e.ty ((parts_at (calls_in k) k.here (suc depth)).value_in span e))
+            subst (λ code. ValuePart k code (need e) (leaves e) e.ty ((parts_at (calls_in k) k.here (suc depth)).value_in span e))
             (sym (coded-is (structs_in k) (frame_in k) e))
-            (subst (λ n. ValuePart k (layer_code (structs_in k) (frame_in k) (out-TNode e.node) e.ty) n e.ty
-            ((parts_at (calls_in k) k.here (suc depth)).value_in span e)) (sym (need-is e)) (node.at e.span span));
+            (subst (λ n. ValuePart k (layer_code (structs_in k) (frame_in k) (out-TNode e.node) e.ty) n (leaves e) e.ty
+            ((parts_at (calls_in k) k.here (suc depth)).value_in span e)) (sym (need-is e))
+            (subst (λ n. ValuePart k (layer_code (structs_in k) (frame_in k) (out-TNode e.node) e.ty) (layer_need (out-TNode e.node)) n e.ty
+            ((parts_at (calls_in k) k.here (suc depth)).value_in span e)) (sym (leaves-is e)) (node.at e.span span)));
       }
 
       place_of : (e : TExpr) → PlaceNode k depth e.ty (out-TNode e.node) → PlaceFollows k (suc depth) e
@@ -161,12 +174,12 @@ module _ {k : Scene} {depth : ℕ} (nodes : Nodes k) (below : Below k depth) whe
 
 -- ---- no level, of which nothing is said
 
-Part-stuck : {A : Type 0} {k : Scene} {emits : Emits} {needs : ℕ} {alone : Bool} {result : Result A} → Part k emits needs alone result stuck
+Part-stuck : {A : Type 0} {k : Scene} {emits : Emits} {needs left : ℕ} {alone : Bool} {result : Result A} → Part k emits needs left alone result stuck
 Part-stuck = Part-by (λ first reg from to free lies a now s on. Goes-stuck)
 
 none : (k : Scene) → Below k zero
 none k = record {
-  value = λ e d cov. record { around = λ span. record { part = Part-stuck } };
+  value = λ e d cov. record { least = least_of e d cov; around = λ span. record { part = Part-stuck } };
   place = λ e d cov. record {
     part = record {
       place = Part-stuck;

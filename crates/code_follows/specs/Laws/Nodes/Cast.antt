@@ -24,14 +24,15 @@ use Rattle.gen_laws.specs.Operations.{converted_number}
 use Rattle.code_follows.specs.Parts.{ValueFollows, ValueNode, coded_in}
 use Rattle.code_follows.specs.Scene.{Scene, IsScene, given_in, structs_in, frame_in}
 use Rattle.code_follows.specs.Values.{ValueIs}
-use Rattle.code_follows.specs.Laws.Converting.{ValueIs-some, ValueIs-converted, ValueIs-void, Short, convert_short}
+use Rattle.code_follows.specs.Laws.Walking.{Short}
+use Rattle.code_follows.specs.Laws.Converting.{ValueIs-some, ValueIs-converted, ValueIs-void, convert_short}
 use Rattle.code_follows.specs.Laws.Layers.{coded-ty}
 use Rattle.code_follows.specs.Laws.Operand.{ValueIs-spent, Listed, Operand, computes_it, operand_part}
 use Rattle.code_follows.specs.Laws.Scalars.{ValueIs-lt, Converts-scalar}
 
 -- ---- a list of which there is one instruction at least
 
-paying_listed : (instrs : List Instr) → Short 4 instrs → Listed (paying instrs)
+paying_listed : (instrs : List Instr) → Short 1 instrs → Listed (paying instrs)
 paying_listed [] short = record { quiet = refl; few = record { some = omega arith; few = omega arith } }
 paying_listed (i ∷ is) short = record { quiet = short.quiet; few = record { some = omega arith; few = omega (arith, short.few) } }
 

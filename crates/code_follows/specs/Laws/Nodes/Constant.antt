@@ -10,6 +10,7 @@ use Rattle.block_meaning.specs.declared.value.Value.TheVariants.{Number}
 use Rattle.gen_laws.specs.Computes.{IsOf}
 use Rattle.gen_laws.specs.Laws.Computing.{Computes-constant}
 use Rattle.gen_laws.specs.Laws.Numbers.{IsOf-lt}
+use Rattle.code_follows.specs.Leaves.{value_leaves}
 use Rattle.code_follows.specs.Parts.{ValueNode}
 use Rattle.code_follows.specs.Scene.{Scene, IsScene}
 use Rattle.gen_laws.specs.Computes.{Computes, all}
@@ -34,7 +35,7 @@ constant_follows k scene depth n i fits = record {
         Goes-unit on (λ owing.
         let puts : Computes (constant_moves reg n) reg n all s =
         Computes-constant n reg s (omega (arith, low)) (IsOf-lt i n fits) (omega (arith, starts_low has owing)) in
-        Goes-computes 4 has (constant_quiet reg n) puts
+        Goes-computes value_leaves has (constant_quiet reg n) puts
         (Suits-own true reg low) owing few.some (omega (arith, few.few, pays scene))
         (λ done. Goes-done (Number n) done (omega arith)
         (record { of = number_of i n fits; holds = puts.holds }))));

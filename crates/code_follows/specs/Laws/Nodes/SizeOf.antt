@@ -15,6 +15,7 @@ use Rattle.block_meaning.specs.Running.{unit_gives}
 use Rattle.gen_expr.specs.Nodes.{constant}
 use Rattle.gen_laws.specs.Computes.{Computes, all}
 use Rattle.gen_laws.specs.Laws.Computing.{Computes-constant}
+use Rattle.code_follows.specs.Leaves.{value_leaves}
 use Rattle.code_follows.specs.Parts.{Part, ValueNode}
 use Rattle.code_follows.specs.Scene.{Scene, IsScene, given_in, structs_in, frame_in}
 use Rattle.code_follows.specs.Values.{IsOfType, ValueIs}
@@ -34,7 +35,7 @@ number_of n = omega arith
 
 -- the bytes of a type, as a constant
 size_part : (k : Scene) → IsScene k → (t : Ty) →
-    Part k (constant (size (structs_in k) t % 2 ^ 64)) 0 true (ValueIs (given_in k) size_type) (unit_gives (Number (bytes_of k.here t % 2 ^ 64)))
+    Part k (constant (size (structs_in k) t % 2 ^ 64)) 0 value_leaves true (ValueIs (given_in k) size_type) (unit_gives (Number (bytes_of k.here t % 2 ^ 64)))
 size_part k scene t = Part-by (λ first reg from to free lies a now s on.
     let n : ℕ = size (structs_in k) t % 2 ^ 64 in
     let has : HasInstrs k (constant_moves reg n) from to = Lies-plain (constant_moves reg n) lies in
@@ -44,7 +45,7 @@ size_part k scene t = Part-by (λ first reg from to free lies a now s on.
     Goes-unit on (λ owing.
     let puts : Computes (constant_moves reg n) reg n all s =
     Computes-constant n reg s (omega (arith, low)) (omega arith) (omega (arith, starts_low has owing)) in
-    Goes-computes 4 has (constant_quiet reg n) puts
+    Goes-computes value_leaves has (constant_quiet reg n) puts
     (Suits-own true reg low) owing few.some (omega (arith, few.few, pays scene))
     (λ done. Goes-done (Number (bytes_of k.here t % 2 ^ 64)) done (omega arith)
     (record { of = number_of (bytes_of k.here t); holds = puts.holds ∙ sym same }))))
@@ -57,7 +58,7 @@ pub size_of_follows : (k : Scene) → IsScene k → (depth : ℕ) (e : TExpr) �
 unfolding size_type
 size_of_follows k scene depth e = record {
   at = λ span around. record {
-    part = subst (λ t. Part k (constant (size (structs_in k) t % 2 ^ 64)) 0 true (ValueIs (given_in k) size_type)
+    part = subst (λ t. Part k (constant (size (structs_in k) t % 2 ^ 64)) 0 value_leaves true (ValueIs (given_in k) size_type)
         (unit_gives (Number (bytes_of k.here e.ty % 2 ^ 64)))) (sym (coded-ty (structs_in k) (frame_in k) e)) (size_part k scene e.ty);
   };
 }
