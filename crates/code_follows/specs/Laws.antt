@@ -8,5 +8,7 @@ pub mod Computing
 pub mod Converting
 pub mod Waiting
 pub mod Addresses
+pub mod Scalars
+pub mod Operand
 pub mod Nodes
 pub mod Whole
