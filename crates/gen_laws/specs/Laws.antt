@@ -15,3 +15,4 @@ pub mod TwoPointers
 pub mod Stepping
 pub mod Lengths
 pub mod Combining
+pub mod Accesses
