@@ -16,3 +16,5 @@ pub mod Stepping
 pub mod Lengths
 pub mod Combining
 pub mod Accesses
+pub mod Operators
+pub mod PointerLengths
