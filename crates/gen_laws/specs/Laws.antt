@@ -15,3 +15,6 @@ pub mod TwoPointers
 pub mod Stepping
 pub mod Lengths
 pub mod Combining
+pub mod Accesses
+pub mod Operators
+pub mod PointerLengths

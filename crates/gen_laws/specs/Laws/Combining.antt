@@ -2,6 +2,7 @@
 use Rattle.std.specs.Prelude.{◌≡◌, ◌≢◌, ℕ, ◌+◌, ◌*◌, ◌^◌, ◌<◌, ◌⊎◌, Bool, true, false, List, [], ◌∷◌, ◌++◌, length, map, Option, Some, None}
 use Rattle.std.specs.Prelude.{refl}
 use Rattle.std.proofs.Common.{arith, ap, ap₂, sym, subst, ◌∙◌, inl, inr}
+use Rattle.std.proofs.lemmas.List.{append-nil}
 use Rattle.c_ast.specs.declared.int_type.IntType.{IntType}
 use Rattle.c_ast.specs.declared.operator.AssignOperator.{AssignOperator}
 use Rattle.c_ast.specs.declared.operator.AssignOperator.TheVariants as assign
@@ -68,3 +69,73 @@ assigned-computes o by t r a b n s promoted first second is given room =
     (IsOf-lt by n (assigned-is_of o by a b n promoted first second is))
     (omega (arith, c.runs.pc, room, integer_instrs-few (binary_of o) by r)) by t
     (assigned-is_of o by a b n promoted first second is)))
+
+-- ---- the whole, where no divisor is tested
+
+abbrev pub combined_instrs : AssignOperator → IntType → IntType → Reg → List Instr
+combined_instrs o s t r =
+    let by = computing_type (binary_of o) s t in
+    between_integers s by left ++ (integer_instrs (binary_of o) by r ++ between_integers by s r)
+
+pub combined-computes : (o : AssignOperator) (i j : IntType) (r : Reg) (a b n : ℕ) (s : State) →
+    IsPromoted (computing_type (binary_of o) i j) → IsOf i a →
+    (group_of (binary_of o) ≢ Shift → IsOf (computing_type (binary_of o) i j) b) →
+    binary_value (binary_of o) (computing_type (binary_of o) i j) (wrap (computing_type (binary_of o) i j) a) b ≡ Some n →
+    Operands r a b s → s.pc + 20 < 2 ^ 64 → Computes (combined_instrs o i j r) r (wrap i n) all_but_both s
+combined-computes o i j r a b n s promoted first second is given room =
+    Computes-then
+    (Computes-fewer (λ q spared. tt)
+    (between-computes left a s (omega arith) given.first given.first_fits (omega (arith, room)) i by first))
+    (λ c. Computes-fewer (λ q spared. spared.1)
+    (assigned-computes o by i r (wrap by a) b n c.to promoted (wrap-is_of by a) second is
+    (record {
+      for_values = given.for_values;
+      first = c.holds;
+      second =
+          c.registers r.0 (λ same. absurd (omega (arith, same, given.for_values.to)))
+          (λ same. absurd (omega (arith, same, given.for_values.to)), λ same. absurd (omega (arith, same, given.for_values.to)))
+          ∙ given.second;
+      first_fits = IsOf-lt by (wrap by a) (wrap-is_of by a);
+      second_fits = given.second_fits;
+    })
+    (omega (arith, c.runs.pc, room, between-few i by left))))
+    (λ q other spared. spared.0)
+  where
+    by : IntType
+    by = computing_type (binary_of o) i j
+
+-- ---- the items
+
+in_pieces : (xs ys : List Instr) → map item.Plain xs ++ map item.Plain ys ≡ map item.Plain (xs ++ ys)
+in_pieces [] ys = refl
+in_pieces (x ∷ xs) ys = ap (λ is. item.Plain x ∷ is) (in_pieces xs ys)
+
+in_three : (xs ys zs : List Instr) → map item.Plain xs ++ (map item.Plain ys ++ (map item.Plain zs ++ []))
+    ≡ map item.Plain (xs ++ (ys ++ zs))
+in_three xs ys zs =
+    ap (λ is. map item.Plain xs ++ (map item.Plain ys ++ is)) (append-nil (map item.Plain zs))
+    ∙ ap (λ is. map item.Plain xs ++ is) (in_pieces ys zs) ∙ in_pieces xs (ys ++ zs)
+
+pub combined-plain : (structs : List StructInfo) (o : AssignOperator) (s t : Ty) (r : Reg) (at : ℕ) → target_of s ≡ None →
+    is_division (binary_of o) ≡ false →
+    combined structs o s t r at ≡ map item.Plain (combined_instrs o (int_in s) (int_in t) r)
+combined-plain structs o s t r at none undivided =
+    rw none (ap (λ is. map item.Plain first ++ (is ++ (map item.Plain last ++ []))) (on_integers-plain (binary_of o) by r _ undivided)
+    ∙ in_three first (integer_instrs (binary_of o) by r) last)
+  where
+    by : IntType
+    by = computing_type (binary_of o) (int_in s) (int_in t)
+
+    first : List Instr
+    first = between_integers (int_in s) by left
+
+    last : List Instr
+    last = between_integers by (int_in s) r
+
+-- where one is tested, the parts stand in turn
+pub combined-divides : (structs : List StructInfo) (o : AssignOperator) (s t : Ty) (r : Reg) (at : ℕ) → target_of s ≡ None →
+    combined structs o s t r at
+    ≡ in_turn (plain (between_integers (int_in s) (computing_type (binary_of o) (int_in s) (int_in t)) left)
+    ∷ on_integers (binary_of o) (computing_type (binary_of o) (int_in s) (int_in t)) r
+    ∷ plain (between_integers (computing_type (binary_of o) (int_in s) (int_in t)) (int_in s) r) ∷ []) at
+combined-divides structs o s t r at none = rw none refl
