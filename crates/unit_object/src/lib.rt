@@ -1,4 +1,5 @@
 //! The object of a file: its code, its texts and objects, its symbols, and the places that wait for addresses.
 #![tactic(auto)]
 
+mod data;
 mod texts;
