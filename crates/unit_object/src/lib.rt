@@ -2,4 +2,5 @@
 #![tactic(auto)]
 
 mod data;
+mod objects;
 mod texts;
