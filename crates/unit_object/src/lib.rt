@@ -2,5 +2,7 @@
 #![tactic(auto)]
 
 mod data;
+mod numbers;
 mod objects;
+mod relocs;
 mod texts;
