@@ -4,3 +4,4 @@ pub mod Order
 pub mod Data
 pub mod Symbols
 pub mod Parts
+pub mod Numbers

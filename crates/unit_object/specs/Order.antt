@@ -1,13 +1,13 @@
 -- In which order a text declares its names and defines its objects (ISO C11 6.2.2, 6.9.2). The typed file has its objects apart from its
 -- functions, so that the text alone tells the order of both.
-use Rattle.std.specs.Prelude.{ℕ, Bool, true, false, not, ◌&&◌, List, [], ◌∷◌, flat_map, map, filter}
+use Rattle.std.specs.Prelude.{ℕ, Bool, true, false, not, ◌&&◌, List, [], ◌∷◌, ◌++◌, flat_map, map, filter, slice_get}
 use Rattle.c_ast.specs.declared.program.Program.{Program}
 use Rattle.c_type_base.specs.declared.typed.GlobalInfo.{GlobalInfo}
 use Rattle.c_type_base.specs.declared.typed.InitPiece.{InitPiece}
 use Rattle.c_type_base.specs.declared.typed.Typed.{Typed}
 use Rattle.c_types.specs.Files.{mentions, name_in, once}
 use Rattle.c_types.specs.declared.names.Mention.{Mention}
-use Rattle.c_types.specs.Ordered.{globals_by}
+use Rattle.c_types.specs.Ordered.{globals_by, option_list}
 
 -- what the file declares, each time
 abbrev pub mentioned : Program → List Mention
@@ -44,3 +44,8 @@ filled p typed = filter has_initial (by_definition p typed)
 
 abbrev pub unfilled : Program → Typed → List GlobalInfo
 unfilled p typed = filter has_no_initial (by_definition p typed)
+
+-- the objects of these numbers
+abbrev pub chosen : List GlobalInfo → List ℕ → List GlobalInfo
+chosen gs [] = []
+chosen gs (k ∷ ks) = option_list (slice_get gs k) ++ chosen gs ks
