@@ -8,7 +8,9 @@ pub mod Reading
 pub mod Changing
 pub mod Writing
 pub mod Storing
+pub mod Stored
 pub mod Keeps
+pub mod Framed
 pub mod Called
 pub mod Calling
 pub mod Placing
