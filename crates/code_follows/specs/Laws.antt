@@ -6,6 +6,7 @@ pub mod Going
 pub mod Here
 pub mod Computing
 pub mod Converting
+pub mod Stack
 pub mod Waiting
 pub mod Addresses
 pub mod Scalars

@@ -1,18 +1,15 @@
 -- A value waits for another: in a register that the other's code leaves, or in a temp (this project's own).
-use Rattle.std.specs.Prelude.{◌≡◌, ◌≢◌, ℕ, suc, ◌+◌, ◌*◌, ◌^◌, ◌<◌, ◌≤◌, Bool, true, false, List, [], ◌∷◌, length, nat_lt, Some, refl, if◌then◌else◌}
+use Rattle.std.specs.Prelude.{◌≡◌, ℕ, suc, ◌+◌, ◌*◌, ◌^◌, ◌<◌, ◌≤◌, Bool, true, false, List, [], ◌∷◌, Some, refl, if◌then◌else◌}
 use Rattle.std.proofs.Common.{arith, ap, sym, subst, ◌∙◌}
 use Rattle.std.proofs.lemmas.Bool.{lt-ltb}
-use Rattle.a64_code.specs.declared.instr.Instr.{Instr}
 use Rattle.a64_code.specs.declared.instr.Reg.{Reg}
 use Rattle.a64_code.specs.State.{State}
 use Rattle.block_meaning.specs.Locals.{latest}
 use Rattle.block_meaning.specs.Running.{Call, Run, and_then, State as MeaningState}
-use Rattle.c_type_base.specs.declared.typed.Typed.{Typed}
 use Rattle.code_relation.specs.Kept.{KeepsFrom}
 use Rattle.code_relation.specs.Sites.{units_of}
 use Rattle.code_runs.specs.Bounded.{Account, later}
 use Rattle.code_runs.specs.Laws.Bounded.{after}
-use Rattle.code_runs.specs.Within.{StepsWithin}
 use Rattle.gen_base.specs.Code.{plain, in_turn}
 use Rattle.gen_base.specs.Registers.{move}
 use Rattle.gen_base.specs.Waiting.{keep, fetch}
@@ -23,7 +20,7 @@ use Rattle.gen_laws.specs.Laws.Computing.{Computes-put, Computes-is}
 use Rattle.mt_base.specs.Memory.{load}
 use Rattle.code_relation.specs.Calls.{lowest}
 use Rattle.a64_laws.specs.Laws.Results.{moved}
-use Rattle.code_follows.specs.Parts.{Came, Result, Gave, On, Goes, Part}
+use Rattle.code_follows.specs.Parts.{Result, On, Goes, Part}
 use Rattle.code_follows.specs.Scene.{Scene, given_in, IsScene, IsFree, Lies}
 use Rattle.code_follows.specs.Waits.{HasTemp, KeptIn, IsTemp, WaitingLaws}
 use Rattle.code_follows.specs.Laws.Coming.{Came-part, pays-some}
