@@ -3,3 +3,5 @@ pub mod Paren
 pub mod Convert
 pub mod SizeOf
 pub mod Named
+pub mod Local
+pub mod Decay
