@@ -7,3 +7,5 @@ pub mod Cast
 pub mod Signed
 pub mod Integers
 pub mod Operated
+pub mod Local
+pub mod Decay
