@@ -9,5 +9,7 @@ pub mod Converting
 pub mod Addresses
 pub mod Scalars
 pub mod Operand
+pub mod Truth
+pub mod Jumping
 pub mod Nodes
 pub mod Whole

@@ -5,3 +5,5 @@ pub mod SizeOf
 pub mod Named
 pub mod Cast
 pub mod Signed
+pub mod Denied
+pub mod Chosen
