@@ -7,3 +7,4 @@ pub mod Cast
 pub mod Signed
 pub mod Denied
 pub mod Chosen
+pub mod Logical
