@@ -11,5 +11,6 @@ pub mod Scalars
 pub mod Operand
 pub mod Truth
 pub mod Jumping
+pub mod Pointing
 pub mod Nodes
 pub mod Whole
