@@ -1,23 +1,22 @@
 -- Pointers as conditions: where the meaning compares one with the null pointer, its number tells the same (this project's own).
-use Rattle.std.specs.Prelude.{◌≡◌, ◌≢◌, ℕ, suc, ◌+◌, ◌*◌, ◌%◌, ◌^◌, ◌<◌, ◌≤◌, Bool, true, false, ◌&&◌, ◌||◌, nat_eq, leb, ltb, not, ◌⊎◌, List}
+use Rattle.std.specs.Prelude.{◌≡◌, ℕ, ◌+◌, ◌^◌, ◌<◌, ◌≤◌, Bool, true, false, ◌&&◌, ◌||◌, nat_eq, leb, ltb, not, ◌⊎◌}
 use Rattle.std.specs.Prelude.{slice_get, Option, Some, None, if◌then◌else◌, refl}
 use Rattle.std.proofs.Common.{arith, ap, sym, subst, ◌∙◌, inl, inr}
 use Rattle.std.proofs.lemmas.Bool.Decides.{nat_tests}
 use Rattle.c_ast.specs.declared.operator.BinaryOperator.TheVariants as binary
 use Rattle.a64_code.specs.State.{State}
 use Rattle.block_meaning.specs.Blocks.{Block, null, null_block}
-use Rattle.block_meaning.specs.Compare.{within_block, of_different, known_to_differ, pointer_truth, lives_within, is_inside, is_at_most_at_end}
+use Rattle.block_meaning.specs.Compare.{within_block, of_different, known_to_differ, lives_within, is_inside, is_at_most_at_end}
 use Rattle.block_meaning.specs.Compare.{is_null}
 use Rattle.block_meaning.specs.Running.{State as MeaningState}
 use Rattle.block_meaning.specs.declared.kind.Kind.{Kind}
 use Rattle.block_meaning.specs.declared.kind.Kind.TheVariants.{NullBlock, Global, Text, Code, Local}
 use Rattle.block_meaning.specs.declared.value.Pointer.{Pointer}
 use Rattle.code_relation.specs.Injects.{Injects}
-use Rattle.code_relation.specs.Loaded.{IsFileBlock, FilesLie}
+use Rattle.code_relation.specs.Loaded.{IsFileBlock}
 use Rattle.code_relation.specs.Numbers.{IsNumber, number_at}
 use Rattle.code_relation.specs.Relates.{Relates}
 use Rattle.code_relation.specs.Sites.{Site, Given, Lives, site_of, site_by, nowhere, is_of_file}
-use Rattle.code_relation.specs.Stands.{WasOpened}
 use Rattle.gen_laws.specs.Laws.Numbers.{some_same}
 use Rattle.code_follows.specs.Scene.{Scene, given_in}
 use Rattle.code_follows.specs.Laws.Truth.{PointersTrue}
@@ -107,3 +106,52 @@ module _ {k : Scene} (locals : LocalsLie k) {now : MeaningState} {s : State} (re
       by_kind (Global unit i) is = at (Global unit i) is (of_file (Global unit i) is refl)
       by_kind (Text unit i) is = at (Text unit i) is (of_file (Text unit i) is refl)
       by_kind (Code unit i) is = at (Code unit i) is (of_file (Code unit i) is refl)
+
+  -- ---- the null block, and the others
+
+  in_null : (p : Pointer) (n : ℕ) (b : Bool) → p.block ≡ 0 → IsNumber g now p n → within_block binary.NotEqual p null ≡ Some b →
+      b ≡ not (nat_eq n 0)
+  unfolding g injects
+  in_null p n b first number is =
+      let block_is : number.block ≡ null_block =
+      some_same (sym number.is ∙ ap (slice_get now.blocks) first ∙ injects.stands.null_is) in
+      let site_is : site_of g now p.block number.block ≡ nowhere = ap (λ (c : Block). site_of g now p.block c) block_is in
+      let same : number_at (site_of g now p.block number.block) p.offset ≡ number_at nowhere p.offset =
+      ap (λ at. number_at at p.offset) site_is in
+      let number_is : n ≡ p.offset = omega (arith, number.number, same, number.fits) in
+      sym (some_same is) ∙ ap (λ (m : ℕ). not (nat_eq m 0)) (sym number_is)
+
+  in_other : (p : Pointer) (n : ℕ) (b : Bool) → nat_eq p.block 0 ≡ false → IsNumber g now p n →
+      of_different binary.NotEqual (known_to_differ now.blocks p null) ≡ Some b → b ≡ not (nat_eq n 0)
+  unfolding g injects
+  in_other p n b other number is = by_known (known_to_differ now.blocks p null) refl is
+    where
+      from_known : known_to_differ now.blocks p null ≡ true → Within number.block p.offset
+      from_known known =
+          within_by (slice_get now.blocks p.block) number.block p number.is
+          (one_of_both (is_inside now.blocks p) (is_inside now.blocks null) (is_at_most_at_end now.blocks null) (is_null null)
+          (is_at_most_at_end now.blocks p)
+          (ap (λ nul. (is_inside now.blocks p && is_inside now.blocks null) || (nul && is_at_most_at_end now.blocks null)
+          || (is_null null && is_at_most_at_end now.blocks p)) (sym (null_not (nat_eq p.block 0) (nat_eq p.offset 0) other)) ∙ known))
+
+      by_known : (d : Bool) → known_to_differ now.blocks p null ≡ d → of_different binary.NotEqual d ≡ Some b → b ≡ not (nat_eq n 0)
+      by_known true known is =
+          let within = from_known known in
+          let lies = lies_above p.block number.block other (record { is = number.is; live = within.live }) in
+          sym (some_same is)
+          ∙ sym (ap (λ (m : ℕ). not (nat_eq m 0)) number.number
+          ∙ not_null (site_of g now p.block number.block) number.block.size p.offset lies within.within)
+      by_known false known is = absurd (cc)
+
+  by_block : (p : Pointer) (n : ℕ) (b : Bool) (first : Bool) → nat_eq p.block 0 ≡ first → IsNumber g now p n →
+      (if first then within_block binary.NotEqual p null else of_different binary.NotEqual (known_to_differ now.blocks p null)) ≡ Some b →
+      b ≡ not (nat_eq n 0)
+  by_block p n b true first number is = in_null p n b (grind (arith, nat_tests)) number is
+  by_block p n b false first number is = in_other p n b first number is
+
+-- where the live locals lie above 0, as the files do
+pub pointers_true : {k : Scene} → LocalsLie k → PointersTrue k
+unfolding g
+pointers_true locals = record {
+  is = λ now s p n b relates number is. by_block locals relates p n b (nat_eq p.block 0) refl number is;
+}
