@@ -11,5 +11,8 @@ pub mod Waiting
 pub mod Addresses
 pub mod Scalars
 pub mod Operand
+pub mod Truth
+pub mod Jumping
+pub mod Pointing
 pub mod Nodes
 pub mod Whole

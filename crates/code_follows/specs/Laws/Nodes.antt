@@ -9,3 +9,6 @@ pub mod Integers
 pub mod Operated
 pub mod Local
 pub mod Decay
+pub mod Denied
+pub mod Chosen
+pub mod Logical

@@ -10,7 +10,7 @@ use Rattle.block_meaning.specs.Running.{State as MeaningState}
 use Rattle.block_meaning.specs.declared.value.Value.{Value}
 use Rattle.c_type_base.specs.declared.ty.Ty.{Ty}
 use Rattle.code_relation.specs.Follows.{setting}
-use Rattle.code_relation.specs.Items.{HasInstr}
+use Rattle.code_relation.specs.Items.{IsAt, HasInstr}
 use Rattle.code_relation.specs.Ends.{Reached}
 use Rattle.code_relation.specs.Laws.Kept.{Holds-with}
 use Rattle.code_relation.specs.Laws.Outcomes.{spent}
@@ -75,14 +75,23 @@ begins {k} {from} (i ∷ is) some has = record {
   has = subst (λ (at : ℕ). HasInstr k.code at i) (let e : from + 4 * 0 ≡ from = omega arith in e) (has.each 0 i refl);
 }
 
+-- where code has come
+pub IsAt-on : {k : Scene} {first : ℕ} {reg : Reg} {alone : Bool} {s : State} {at : ℕ} {a : Account} {owes spare : ℕ} {now : MeaningState}
+    {t : State} → On k first reg alone s at a owes spare now t → IsAt k.code at t
+IsAt-on on = record {
+  pc = on.came.comes.pc;
+  as_loaded = on.came.comes.relates.injects.as_loaded;
+  in_range = on.came.comes.relates.injects.in_range;
+}
+
 -- ---- an undefined step that is no access
 
 pub Goes-undefined : {A : Type 0} {k : Scene} {first : ℕ} {reg : Reg} {alone : Bool} {result : Result A} {s : State} {to leaves at : ℕ} {a : Account}
-    {spare : ℕ} {run : Run A} {now : MeaningState} {t : State} (u : Undefined) → run now ≡ Stops (IsUndefined u) now → u.access ≡ None →
-    k.code.Inside t → On k first reg alone s at a 1 spare now t → 1 ≤ spare → Goes k first reg alone result s to leaves a run now t
-Goes-undefined {k = k} {first} {reg} {alone} {result} {s} {to} {leaves} {a = a} {now = now} {t} u is none inside on enough = record {
+    {owes spare : ℕ} {run : Run A} {now : MeaningState} {t : State} (u : Undefined) → run now ≡ Stops (IsUndefined u) now → u.access ≡ None →
+    k.code.Inside t → On k first reg alone s at a owes spare now t → owes ≤ 1 → 1 ≤ spare → Goes k first reg alone result s to leaves a run now t
+Goes-undefined {k = k} {first} {reg} {alone} {result} {s} {to} {leaves} {a = a} {now = now} {t} u is none inside on pays enough = record {
   bounded = subst (λ r. Bounded (setting k.code) a (λ v. sparing leaves) t (Gave k first reg alone result s to) (outcome_of r)) (sym is)
-      (finishes (record { least = omega (arith, on.least); most = omega (arith, on.most, enough) })
+      (finishes (record { least = omega (arith, on.least, pays); most = omega (arith, on.most, enough) })
       (record {
         inside = inside;
         output = on.came.comes.relates.outside.output;
@@ -120,18 +129,18 @@ abbrev pub IsKept : {A : Type 0} → Result A → Type 0
 IsKept {A} result = (v : A) (now : MeaningState) (n : ℕ) → result v now n → result v (spent now) n
 
 pub Goes-does : {B : Type 0} {k : Scene} {first : ℕ} {reg : Reg} {alone : Bool} {result : Result B} {s : State} {from to : ℕ} {a : Account}
-    {spare : ℕ} {run : Run B} {now : MeaningState} {t : State} {instrs : List Instr} → HasInstrs k instrs from to →
-    Listed instrs → reg.0 < 28 → On k first reg alone s from a 1 spare now t → 39 ≤ spare →
+    {owes spare : ℕ} {run : Run B} {now : MeaningState} {t : State} {instrs : List Instr} → HasInstrs k instrs from to →
+    Listed instrs → reg.0 < 28 → On k first reg alone s from a owes spare now t → owes ≤ 1 → 39 ≤ spare →
     Does result instrs reg run now t → Goes k first reg alone result s to value_leaves a run now t
-Goes-does {reg = reg} {alone} {result} {now = now} {instrs = instrs} has list low on enough (computes_it w n is puts holds) =
+Goes-does {reg = reg} {alone} {result} {now = now} {instrs = instrs} has list low on pays enough (computes_it w n is puts holds) =
     Goes-same is
-    (Goes-computes value_leaves has list.quiet puts (Suits-own alone reg low) on list.few.some (omega (arith, list.few.few, enough))
+    (Goes-computes value_leaves has list.quiet puts (Suits-own alone reg low) on (omega (arith, pays, list.few.some)) (omega (arith, list.few.few, enough))
     (λ done. Goes-done w done (omega arith) (subst (λ (m : ℕ). result w now m) (sym puts.holds) holds)))
-Goes-does {instrs = instrs} has list low on enough (is_undefined u is none) =
+Goes-does {instrs = instrs} has list low on pays enough (is_undefined u is none) =
     let first = begins instrs list.few.some has in
     Goes-undefined u is none
-    (first.has.inside _ (record { pc = on.came.comes.pc; as_loaded = on.came.comes.relates.injects.as_loaded; in_range = on.came.comes.relates.injects.in_range }))
-    on (omega (arith, enough))
+    (first.has.inside _ (IsAt-on on))
+    on pays (omega (arith, enough))
 
 pub operand_part : {A B : Type 0} {k : Scene} {emits : Emits} {needs leaves : ℕ} {alone : Bool} {given : Result A} {result : Result B} {m : Run A}
     {f : A → Run B} {instrs : Reg → List Instr} → IsScene k → Part k emits needs leaves alone given m → IsKept given →
@@ -143,7 +152,7 @@ operand_part {k = k} {emits} {given = given} {instrs = instrs} scene part kept r
     Goes-part (part.yields first reg from pieces.middle free pieces.front) (omega arith) (λ is. (refl, is)) (pays-some scene) on
     (λ x then u n after gave.
     Goes-unit after (λ owing.
-    Goes-does has (rest.list reg) (omega (arith, free.high)) owing (omega (arith, pays scene))
+    Goes-does has (rest.list reg) (omega (arith, free.high)) owing (omega arith) (omega (arith, pays scene))
     (rest.does reg x (spent then) u (record {
       low = free.low;
       high = free.high;

@@ -16,7 +16,7 @@ use Rattle.gen_laws.specs.Computes.{IsOf}
 use Rattle.gen_laws.specs.Laws.Numbers.{IsOf-lt}
 use Rattle.code_follows.specs.Values.{IsOfLevel, ValueIs}
 
-abbrev is_scalar_level : TyLayer → Bool
+abbrev pub is_scalar_level : TyLayer → Bool
 is_scalar_level l = is_there (int_of_level l) || is_there (target_of_level l)
 
 lt_level : (g : Given) (now : MeaningState) (l : TyLayer) (v : Value) (n : ℕ) → is_scalar_level l ≡ true → IsOfLevel l v →
