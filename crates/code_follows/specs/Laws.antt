@@ -9,5 +9,10 @@ pub mod Converting
 pub mod Stack
 pub mod Waiting
 pub mod Addresses
+pub mod Scalars
+pub mod Operand
+pub mod Truth
+pub mod Jumping
+pub mod Pointing
 pub mod Nodes
 pub mod Whole

@@ -1,5 +1,5 @@
--- Declarations whose locals are new: what a scope declares is not in scope round it, and each only once (this project's own). No law says
--- yet that typed trees are so.
+-- Declarations whose locals are new: what a scope declares is not in scope round it, and each only once (this project's own). So it is in
+-- the functions of a well-typed program (law `program-fresh` of well_typed_code).
 use Rattle.std.specs.Prelude.{◌≢◌, ℕ, List, [], ◌∷◌, ◌++◌, map, Option, Some, None}
 use Rattle.std.specs.List.{AllPairs, Contains}
 use Rattle.c_ast.specs.declared.token.Span.{Span}

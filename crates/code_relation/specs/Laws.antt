@@ -8,7 +8,14 @@ pub mod Reading
 pub mod Changing
 pub mod Writing
 pub mod Storing
+pub mod Stored
 pub mod Keeps
+pub mod Framed
 pub mod Called
 pub mod Calling
 pub mod Placing
+pub mod FrameWords
+pub mod Untouched
+pub mod LocalBytes
+pub mod StoredBytes
+pub mod Stores

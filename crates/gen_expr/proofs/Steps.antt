@@ -1,7 +1,9 @@
 -- What the code of a node is where its parts are known.
-use Rattle.std.proofs.Common.{◌≡◌, ap, sym, ◌∙◌, subst, ℕ, suc, false, List, [], ◌∷◌, ◌++◌, Option, Some, None}
+use Rattle.std.proofs.Common.{◌≡◌, refl, ap, sym, ◌∙◌, subst, ℕ, suc, false, List, [], ◌∷◌, ◌++◌, Some, None}
 use Rattle.std.specs.Prelude.{Result, OnOk}
 use Rattle.c_ast.specs.declared.operator.AssignOperator.{AssignOperator}
+use Rattle.c_ast.specs.declared.operator.UnaryOperator.{UnaryOperator}
+use Rattle.c_ast.specs.declared.operator.UnaryOperator.TheVariants as unary
 use Rattle.c_type_base.specs.declared.typed.StructInfo.{StructInfo}
 use Rattle.c_type_base.specs.declared.ty.Ty.{Ty}
 use Rattle.c_type_base.specs.Types.{is_struct}
@@ -9,12 +11,14 @@ use Rattle.a64_code.specs.declared.instr.Reg.{Reg}
 use Rattle.sym_code.specs.declared.item.SymCode.{SymCode}
 use Rattle.gen_base.specs.Accesses.{OnStack, Behind, load_scalar, store_scalar}
 use Rattle.gen_base.specs.Code.{Code, Appends, plain, in_turn}
+use Rattle.block_meaning.specs.Operators.{int_in}
+use Rattle.gen_base.specs.Integers.{on_integer}
 use Rattle.gen_base.specs.Laws.Appending.{first_appended}
 use Rattle.gen_base.specs.Operators.{combined}
 use Rattle.gen_base.specs.Registers.{left, scratch}
 use Rattle.gen_base.specs.Waiting.{keep, fetch}
 use Rattle.gen_expr.specs.Coded.{Coded, read}
-use Rattle.gen_expr.specs.Nodes.{compound_value}
+use Rattle.gen_expr.specs.Nodes.{compound_value, unary_value}
 
 module _ (e : Coded) (ty : Ty) (same : e.ty ≡ ty) (scalar : is_struct ty ≡ false) (t : ℕ) (r : Reg) (at : ℕ) where
   not_struct : is_struct e.ty ≡ false
@@ -52,3 +56,18 @@ compound-behind result structs o place b ty other t next r old first second thir
     (first_appended result old first new (place.pointer t r) (plain (keep t r) ∷ b.value (suc t) r ∷ tail) placed
     (first_appended result first second new (plain (keep t r)) (b.value (suc t) r ∷ tail) kept
     (first_appended result second third new (b.value (suc t) r) tail raised typed)))
+
+-- an operator on the value of its operand
+pub unary-integer : (o : UnaryOperator) (e : Coded) (ty : Ty) (t : ℕ) (r : Reg) (at : ℕ) → (o ≡ unary.AddressOf → ⊥) → e.ty ≡ ty →
+    in_turn (e.value t r ∷ plain (on_integer o (int_in ty) r) ∷ []) at ≡ unary_value o e t r at
+unary-integer unary.AddressOf e ty t r at other same = absurd (other refl)
+unary-integer unary.Dereference e ty t r at other same =
+    ap (λ ty. in_turn (e.value t r ∷ plain (on_integer unary.Dereference (int_in ty) r) ∷ []) at) (sym same)
+unary-integer unary.Plus e ty t r at other same =
+    ap (λ ty. in_turn (e.value t r ∷ plain (on_integer unary.Plus (int_in ty) r) ∷ []) at) (sym same)
+unary-integer unary.Minus e ty t r at other same =
+    ap (λ ty. in_turn (e.value t r ∷ plain (on_integer unary.Minus (int_in ty) r) ∷ []) at) (sym same)
+unary-integer unary.Complement e ty t r at other same =
+    ap (λ ty. in_turn (e.value t r ∷ plain (on_integer unary.Complement (int_in ty) r) ∷ []) at) (sym same)
+unary-integer unary.Not e ty t r at other same =
+    ap (λ ty. in_turn (e.value t r ∷ plain (on_integer unary.Not (int_in ty) r) ∷ []) at) (sym same)

@@ -1,12 +1,12 @@
 //! The value of an expression.
 
-ghost use Rattle.std.specs.Prelude.{◌≡◌, ◌≤◌, ◌+◌, [], ◌∷◌, OnOk};
+ghost use Rattle.std.specs.Prelude.{◌≤◌, ◌+◌, OnOk};
 ghost use Rattle.frame_layout.specs.Needs.{need, node_need};
-ghost use Rattle.gen_base.specs.Code.{Appends, in_turn, plain};
-ghost use Rattle.gen_base.specs.Integers.{is_other};
+ghost use Rattle.gen_base.specs.Code.{Appends};
 ghost use Rattle.gen_expr.specs.Coded as spec;
 ghost use Rattle.gen_expr.specs.Expressions.{coded, coded_node, expression_code};
 ghost use Rattle.gen_expr.specs.Laws.WaitingLaws.{place_by};
+ghost use Rattle.gen_expr.specs.Nodes.{unary_value};
 
 use crate::assign::{assign, step};
 use crate::binary::{binary, index};
@@ -19,8 +19,8 @@ use c_ast::UnaryOperator;
 use c_type_base::{TExpr, TNode, Ty, Typed, is_struct};
 use frame_layout::Frame;
 use gen_base::{
-    bytes_of, push, push_convert, push_instr, push_load, push_load_local, push_moves,
-    push_paying_convert,
+    bytes_of, int_in, push, push_convert, push_instr, push_load, push_load_local, push_moves,
+    push_on_integer, push_paying_convert,
 };
 use std::alloc::AllocError;
 use sym_code::{SymCode, SymItem};
@@ -70,7 +70,8 @@ fn value_of(
     match node {
         TNode::Constant(number, _) => push_moves(code, to.reg, *number),
         TNode::Paren(inner) => value(unit, frame, inner, to, code),
-        TNode::Unary(operator, operand) => Err(AllocError),
+        TNode::Unary(UnaryOperator::Dereference, _) => Ok(()),
+        TNode::Unary(operator, operand) => unary(unit, frame, *operator, operand, to, code),
         TNode::Binary(operator, left, right) => {
             binary(unit, frame, *operator, left, right, to, code)
         }
@@ -84,7 +85,7 @@ fn value_of(
             value(unit, frame, operand, to, code)?;
             push_paying_convert(code, &operand.ty, ty, to.reg)
         }
-        TNode::SizeofExpr(operand) => { push_moves(code, to.reg, bytes_of(unit, &operand.ty)) }
+        TNode::SizeofExpr(operand) => push_moves(code, to.reg, bytes_of(unit, &operand.ty)),
         TNode::SizeofName(ty) => push_moves(code, to.reg, bytes_of(unit, ty)),
         TNode::Call(callee, arguments) => {
             call(unit, frame, *callee, arguments.as_slice(), to, code)
@@ -97,6 +98,32 @@ fn value_of(
             push_convert(code, &operand.ty, ty, to.reg)
         }
         _ => Ok(()),
+    }
+}
+
+// Appends an operator on one operand, which is no dereference.
+#[cycle(value)]
+#[tactic(auto, using(crate::specs::Laws::CodeLaws::coded_ty))]
+fn unary(
+    unit: &Typed,
+    frame: &Frame,
+    operator: UnaryOperator,
+    operand: &TExpr,
+    to: Destination,
+    code: &mut SymCode,
+) -> Result<(), AllocError>
+    requires { to.temp + need operand.now ≤ 32765 }
+    ensures { OnOk result (Appends code.old (unary_value operator (coded unit.now.structs frame.now operand.now) to.temp to.reg) code.new) }
+{
+    match operator {
+        UnaryOperator::AddressOf => {
+            place(unit, frame, operand, true, to, code)?;
+            push_instr(code, Instr::Nop)
+        }
+        _ => {
+            value(unit, frame, operand, to, code)?;
+            push_on_integer(code, operator, int_in(&operand.ty), to.reg)
+        }
     }
 }
 
@@ -127,7 +154,8 @@ fn place_of(
     code: &mut SymCode,
 ) -> Result<(), AllocError>
     requires { to.temp + node_need node.now ≤ 32765 }
-    ensures { OnOk result (Appends code.old (place_by pays (coded_node unit.now.structs frame.now node.now ty.now) to.temp to.reg) code.new) }
+    ensures { OnOk result (Appends code.old
+        (place_by pays (coded_node unit.now.structs frame.now node.now ty.now) to.temp to.reg) code.new) }
 {
     match node {
         TNode::Text(number) => push(code, SymItem::TextAddress(*number, to.reg)),

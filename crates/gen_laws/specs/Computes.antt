@@ -27,12 +27,15 @@ pub record Computes (instrs : List Instr) (into : Reg) (value : ℕ) (spares : �
   pub registers : (r : ℕ) → r ≢ into.0 → spares r → to.register r ≡ from.register r
   pub same : SameButResults from to
 
--- what a list spares: all other registers, or all but one
+-- what a list spares: all other registers, all but one, or all but X16 and X17
 abbrev pub all : ℕ → Type 0
 all r = Unit {0}
 
 abbrev pub all_but : Reg → ℕ → Type 0
 all_but q r = r ≢ q.0
+
+abbrev pub all_but_both : ℕ → Type 0
+all_but_both r = (r ≢ 16) × (r ≢ 17)
 
 -- a register for values: X9 to X15
 pub record IsForValues (r : Reg) : Type 0 where

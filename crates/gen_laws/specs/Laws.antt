@@ -12,3 +12,9 @@ pub mod Conversions
 pub mod Moves
 pub mod Pointers
 pub mod TwoPointers
+pub mod Stepping
+pub mod Lengths
+pub mod Combining
+pub mod Accesses
+pub mod Operators
+pub mod PointerLengths

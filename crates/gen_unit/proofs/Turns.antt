@@ -1,18 +1,87 @@
--- A turn of the loops over items.
-use Rattle.std.proofs.Common.{◌≡◌, ℕ, suc, ◌+◌, ◌<◌, List, [], ◌∷◌, ◌++◌, length, drop, get_or, map, refl, ap, sym, ◌∙◌, arith}
-use Rattle.std.proofs.Common.{drop-cons, append_assoc}
+-- The loop over items that appends their words.
+use Rattle.std.proofs.Common.{◌≡◌, ℕ, zero, suc, ◌+◌, ◌-◌, ◌^◌, ◌<◌, ◌≤◌, Bool, true, false, not, List, [], ◌∷◌, ◌++◌, length, drop, get_or, map}
+use Rattle.std.proofs.Common.{refl, ap, sym, ◌∙◌, arith, drop-cons, append_assoc, append-nil, slice_get}
+use Rattle.std.proofs.lemmas.List.{length-map}
+use Rattle.a64_code.specs.declared.instr.Reg.{Reg}
+use Rattle.a64_laws.specs.Branches.{Branch, OnZero, OnOther}
 use Rattle.sym_code.specs.declared.item.SymItem.{SymItem}
-use Rattle.gen_unit.specs.Labels.{end_of}
-use Rattle.gen_unit.specs.Words.{Form, item_length}
+use Rattle.sym_code.specs.declared.item.SymItem.TheVariants as item
+use Rattle.tag_plan.specs.Lists.{enter_list, leave_list}
+use Rattle.gen_unit.specs.declared.output.Output.{Output}
+use Rattle.gen_unit.specs.Appended.{Gains}
+use Rattle.gen_unit.specs.Labels.{words_in}
+use Rattle.gen_unit.specs.Words.{Word, Targets, Form, whole, branch_words, address_of, item_words, item_length}
+use Rattle.gen_unit.proofs.Gains.{gains_none, gains_then, gains_as, gains_length}
 
-pub drop-here : {A : Type 0} (xs : List A) (i : ℕ) (x : A) → i < length xs → x ≡ get_or xs i x → drop i xs ≡ x ∷ drop (i + 1) xs
+-- ---- how many words an item becomes hangs on neither its place nor that of labels
+
+branch_length : (long : Bool) (taken contrary : Branch) (at to from there : ℕ) →
+    length (map whole (branch_words long taken contrary at to)) ≡ length (map whole (branch_words long taken contrary from there))
+branch_length false taken contrary at to from there = refl
+branch_length true taken contrary at to from there = refl
+
+pub item_words-length : (f : Form) (ts : Targets) (at : ℕ) (i : SymItem) → length (item_words f ts at i) ≡ item_length f i
+item_words-length f ts at (item.Plain i) = refl
+item_words-length f ts at (item.Label n) = refl
+item_words-length f ts at (item.Jump n) = refl
+item_words-length f ts at (item.JumpIfZero r n) = branch_length f.long (OnZero true r) (OnOther true r) at (ts.label n) 0 0
+item_words-length f ts at (item.JumpIfNotZero r n) = branch_length f.long (OnOther true r) (OnZero true r) at (ts.label n) 0 0
+item_words-length f ts at (item.SlotAddress n r) = refl
+item_words-length f ts at (item.GlobalAddress n r) = refl
+item_words-length f ts at (item.ExternAddress n r) = refl
+item_words-length f ts at (item.TextAddress n r) = refl
+item_words-length f ts at (item.CallFunction n) = refl
+item_words-length f ts at (item.CallExtern n) = refl
+item_words-length f ts at item.Leave = refl
+item_words-length f ts at (item.EnterScope slots) = refl
+item_words-length f ts at (item.LeaveScope first last) = refl
+
+-- ---- the loop
+
+drop-here : {A : Type 0} (xs : List A) (i : ℕ) (x : A) → i < length xs → x ≡ get_or xs i x → drop i xs ≡ x ∷ drop (i + 1) xs
 drop-here xs i x within is =
     let next : suc i ≡ i + 1 = omega arith in
     drop-cons xs i x within ∙ ap (λ j. get_or xs i x ∷ drop j xs) next ∙ ap (λ y. y ∷ drop (i + 1) xs) (sym is)
 
-pub end_turn : (f : Form) (is : List SymItem) (k : ℕ) (i : SymItem) (place next words all : ℕ) → k < length is → i ≡ get_or is k i →
-    words ≡ item_length f i → next ≡ place + words → end_of f place (drop k is) ≡ all → end_of f next (drop (k + 1) is) ≡ all
-end_turn f is k i place next words all within there length_is next_is passed =
-    ap (λ at. end_of f at (drop (k + 1) is)) (next_is ∙ ap (λ n. place + n) length_is)
-    ∙ ap (end_of f place) (sym (drop-here is k i within there))
-    ∙ passed
+drop-all : {A : Type 0} (xs : List A) (i : ℕ) → length xs ≤ i → drop i xs ≡ []
+drop-all [] zero past = refl
+drop-all [] (suc i) past = refl
+drop-all (x ∷ xs) zero past = absurd (omega (arith, past))
+drop-all (x ∷ xs) (suc i) past = drop-all xs i (omega (arith, past))
+
+-- some words are appended, and those of the items that are left, from a place on, are the rest of all
+pub record Standing (f : Form) (ts : Targets) (at : ℕ) (is : List SymItem) (k place : ℕ) (old new : Output) : Type 0 where
+  pub words : List Word
+  pub gained : Gains old words new
+  pub left : words ++ words_in f ts place (drop k is) ≡ words_in f ts at is
+  pub near : place < 2 ^ 25
+
+pub stands_first : (f : Form) (ts : Targets) (at : ℕ) (is : List SymItem) (out : Output) → at < 2 ^ 25 →
+    Standing f ts at is 0 at out out
+stands_first f ts at is out near = record { words = []; gained = gains_none out; left = refl; near = near }
+
+pub stands_next : (f : Form) (ts : Targets) (at : ℕ) (is : List SymItem) (k place next : ℕ) (i : SymItem) (a b c : Output) →
+    k < length is → i ≡ get_or is k i → Standing f ts at is k place a b → Gains b (item_words f ts place i) c →
+    next ≡ place + (length c.words.items - length b.words.items) → next < 2 ^ 25 → Standing f ts at is (k + 1) next a c
+stands_next f ts at is k place next i a b c within there before turn next_is near = record {
+  words = before.words ++ item_words f ts place i;
+  gained = gains_then before.gained turn;
+  left =
+      append_assoc before.words (item_words f ts place i) (words_in f ts next (drop (k + 1) is))
+      ∙ ap (λ n. before.words ++ (item_words f ts place i ++ words_in f ts n (drop (k + 1) is))) place_is
+      ∙ ap (λ is. before.words ++ words_in f ts place is) (sym (drop-here is k i within there))
+      ∙ before.left;
+  near = near;
+}
+  where
+    place_is : next ≡ place + item_length f i
+    place_is = omega (arith, next_is, gains_length turn, item_words-length f ts place i)
+
+pub stands_last : (f : Form) (ts : Targets) (at : ℕ) (is : List SymItem) (k place : ℕ) (old new : Output) → length is ≤ k →
+    Standing f ts at is k place old new → Gains old (words_in f ts at is) new
+stands_last f ts at is k place old new past stands =
+    gains_as
+    (sym (append-nil stands.words)
+    ∙ ap (λ is. stands.words ++ words_in f ts place is) (sym (drop-all is k past))
+    ∙ stands.left)
+    stands.gained

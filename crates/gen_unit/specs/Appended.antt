@@ -48,6 +48,7 @@ targets_of l = record { label = λ n. unwrap_or (entry_of l.places.items n) l.en
 pub record AreLabels (f : Form) (at : ℕ) (is : List SymItem) (l : Labels) : Type 0 where
   pub each : (n : ℕ) → unwrap_or (entry_of l.places.items n) l.end ≡ label_in f at is n
   pub end : l.end ≡ end_of f at is
+  pub long : l.long ≡ f.long
 
 -- ---- forms
 

@@ -1,6 +1,7 @@
 //! The code of a translation unit: the words of its functions, and what they want of the linker.
 #![tactic(auto)]
 
+mod items;
 mod jumps;
 mod labels;
 mod lengths;
@@ -8,5 +9,6 @@ mod lists;
 mod output;
 mod parts;
 mod scopes;
+mod table;
 
 pub use parts::{CodeReloc, CodeTarget, Place, UnitCode};

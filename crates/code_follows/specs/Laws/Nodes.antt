@@ -3,6 +3,13 @@ pub mod Paren
 pub mod Convert
 pub mod SizeOf
 pub mod Named
+pub mod Cast
+pub mod Signed
 pub mod Integers
 pub mod Operated
 pub mod OnIntegers
+pub mod Local
+pub mod Decay
+pub mod Denied
+pub mod Chosen
+pub mod Logical

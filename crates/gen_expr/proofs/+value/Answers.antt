@@ -1,6 +1,7 @@
 use Rattle.std.proofs.Common.{◌≡◌, true, false, sym, ◌∙◌, arith, [], ◌∷◌, length, map, Some, None}
 use Rattle.std.proofs.lemmas.Grind.{common_steps}
 use Rattle.frame_layout.specs.Needs.{need}
+use Rattle.block_meaning.specs.Operators.{int_in}
 use Rattle.gen_base.specs.Accesses.{OnStack, Behind, load_scalar}
 use Rattle.gen_base.specs.Code.{plain, in_turn}
 use Rattle.gen_base.specs.Registers.{left, scratch}
@@ -8,9 +9,11 @@ use Rattle.gen_expr.specs.Coded.{read}
 use Rattle.gen_expr.specs.Expressions.{coded}
 use Rattle.gen_expr.specs.Laws.CodeLaws.{coded_ty}
 use Rattle.gen_expr.specs.Laws.WaitingLaws.{first_waits_is}
+use Rattle.gen_base.specs.Integers.{on_integer}
 use Rattle.gen_base.specs.Laws.Appending.{appended_as}
+use Rattle.gen_expr.specs.Nodes.{unary_value}
 use Rattle.gen_expr.specs.Laws.ArgumentLaws.{fetch_arguments-is}
-use Rattle.gen_expr.proofs.Steps.{compound-behind, read-local, read-place}
+use Rattle.gen_expr.proofs.Steps.{compound-behind, read-local, read-place, unary-integer}
 use Rattle.gen_expr.proofs.Turns.{keep_turn, room_here, room_left, within_sum}
 use Rattle.gen_expr.proofs.Weight.{weight}
 use Rattle.gen_expr.proofs.+value.Goals as goal
@@ -152,3 +155,15 @@ call::keep_arguments-loop-argument-preserved t c =
           keep_turn (coded c.args.unit.now.structs c.args.frame.now) xs i x c.loop-argument.temp c.args.to.reg _ _ _ _
           c.loop-argument-test.true c.argument-item.is c.loop-argument.invariant.code c.in_ok-value.ensures c.in_ok-push_keep.ensures;
     }
+
+pub value::unary-returns-in_ok-value-in_default : goal.value::unary-returns-in_ok-value-in_default
+value::unary-returns-in_ok-value-in_default t c =
+    let s = c.args.unit.now.structs in
+    let e = c.args.operand.now in
+    let code = coded s c.args.frame.now e in
+    let to = c.args.to in
+    appended_as _ c.args.code.now c.push_on_integer.new.code
+    (in_turn (code.value to.temp to.reg ∷ plain (on_integer c.args.operator (int_in e.ty) to.reg) ∷ []))
+    (unary_value c.args.operator code to.temp to.reg)
+    (unary-integer c.args.operator code e.ty to.temp to.reg _ c.in_default.not-AddressOf (coded_ty s c.args.frame.now e))
+    (grind (arith, common_steps))

@@ -73,3 +73,6 @@ invariant-call::keep_arguments-loop-argument l = record {
       ≡ l.initial.code.items.items
       ++ keep_arguments l.to.temp l.to.reg (map (coded l.unit.structs l.frame) l.arguments) (length l.initial.code.items.items);
 }
+
+abbrev pub decreases-value::unary : goal.decreases-value::unary
+decreases-value::unary l = 8 * weight l.operand.now + 6

@@ -18,7 +18,7 @@ use Rattle.gen_base.specs.Conversions.{extend, wrap_into, has_all, between_integ
 use Rattle.gen_laws.specs.Computes.{Computes, IsOf, IsOfSome, all}
 use Rattle.gen_laws.specs.Operations.{converted_number}
 use Rattle.gen_laws.specs.Laws.Computing.{Computes-nil, Computes-put, Computes-is, Computes-constant}
-use Rattle.gen_laws.specs.Laws.Numbers.{IsOf-lt, wrap-long, wrap-extends}
+use Rattle.gen_laws.specs.Laws.Numbers.{IsOf-lt, few_bits, wrap-long, wrap-extends}
 
 -- ---- which values a type has
 
@@ -63,17 +63,6 @@ of_within int.Int n fits (inr high) = grind (arith, nat_tests)
 of_within int.UInt n fits within = omega (arith, within)
 of_within int.Long n fits within = omega (arith, fits, wrap-long n)
 of_within int.ULong n fits within = omega (arith, fits)
-
-few_bits : (t : IntType) → bits_of t ≤ 64
-few_bits int.Char = omega arith
-few_bits int.SignedChar = omega arith
-few_bits int.UnsignedChar = omega arith
-few_bits int.Short = omega arith
-few_bits int.UShort = omega arith
-few_bits int.Int = omega arith
-few_bits int.UInt = omega arith
-few_bits int.Long = omega arith
-few_bits int.ULong = omega arith
 
 -- `has_all` of two types, by their signs and bits
 abbrev has_all_within : Bool → ℕ → Bool → ℕ → Bool

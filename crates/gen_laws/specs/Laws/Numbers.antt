@@ -1,5 +1,5 @@
 -- Numbers of the integer types, in the words of the meaning and in those of instructions (this project's own).
-use Rattle.std.specs.Prelude.{◌≡◌, ℕ, ◌+◌, ◌*◌, ◌-◌, ◌%◌, ◌^◌, ◌<◌, Bool, true, false, if◌then◌else◌, Option, Some, refl}
+use Rattle.std.specs.Prelude.{◌≡◌, ℕ, ◌+◌, ◌*◌, ◌-◌, ◌%◌, ◌^◌, ◌<◌, ◌≤◌, Bool, true, false, if◌then◌else◌, Option, Some, refl}
 use Rattle.std.proofs.Common.{arith, ap, sym, ◌∙◌}
 use Rattle.std.proofs.lemmas.Bool.Decides.{nat_tests}
 use Rattle.std.proofs.lemmas.Int.{ints}
@@ -7,6 +7,7 @@ use Rattle.c_ast.specs.declared.int_type.IntType.{IntType}
 use Rattle.c_ast.specs.declared.int_type.IntType.TheVariants as int
 use Rattle.c_type_base.specs.Conversions.{is_signed, bits_of, promoted, extended, wrap}
 use Rattle.mt_base.specs.Extension.{sign_extend, zero_extend}
+use Rattle.mt_base.specs.Laws.Wrapping.{wrap-wrap_wider}
 use Rattle.gen_laws.specs.Computes.{IsOf, IsPromoted}
 
 pub some_same : {A : Type 0} {x y : A} → Some x ≡ Some y → x ≡ y
@@ -18,6 +19,17 @@ each_promoted P i u l m int.UInt is = u
 each_promoted P i u l m int.Long is = l
 each_promoted P i u l m int.ULong is = m
 each_promoted P i u l m _ is = absurd (cc)
+
+pub few_bits : (t : IntType) → bits_of t ≤ 64
+few_bits int.Char = omega arith
+few_bits int.SignedChar = omega arith
+few_bits int.UnsignedChar = omega arith
+few_bits int.Short = omega arith
+few_bits int.UShort = omega arith
+few_bits int.Int = omega arith
+few_bits int.UInt = omega arith
+few_bits int.Long = omega arith
+few_bits int.ULong = omega arith
 
 -- ---- what a number is wrapped to
 
@@ -51,6 +63,10 @@ wrap-lt int.ULong n = omega arith
 -- at 64 bits nothing stands above them
 pub wrap-long : (n : ℕ) → wrap int.Long n ≡ n % 2 ^ 64
 wrap-long n = grind (arith, nat_tests)
+
+-- and none of the bits above 64 counts
+pub wrap-bits : (t : IntType) (n : ℕ) → wrap t (n % 2 ^ 64) ≡ wrap t n
+wrap-bits t n = wrap-same t (n % 2 ^ 64) n (wrap-wrap_wider (bits_of t) 64 n (few_bits t))
 
 -- it is a value of the type
 pub wrap-is_of : (t : IntType) (n : ℕ) → IsOf t (wrap t n)

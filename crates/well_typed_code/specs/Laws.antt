@@ -1,0 +1,6 @@
+pub mod Rising
+pub mod Counted
+pub mod NewScopes
+pub mod NewStatements
+pub mod NewLocals
+pub mod Functions

@@ -1,0 +1,2 @@
+pub mod FreshFunctions
+pub mod Laws
