@@ -7,5 +7,6 @@ pub mod Here
 pub mod Computing
 pub mod Converting
 pub mod Addresses
+pub mod Paying
 pub mod Nodes
 pub mod Whole

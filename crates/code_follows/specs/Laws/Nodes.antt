@@ -5,3 +5,5 @@ pub mod SizeOf
 pub mod Named
 pub mod Local
 pub mod Decay
+pub mod Address
+pub mod Target
