@@ -14,5 +14,6 @@ pub mod Operand
 pub mod Truth
 pub mod Jumping
 pub mod Pointing
+pub mod Paying
 pub mod Nodes
 pub mod Whole

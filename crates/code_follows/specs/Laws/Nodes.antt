@@ -13,3 +13,5 @@ pub mod Decay
 pub mod Denied
 pub mod Chosen
 pub mod Logical
+pub mod Address
+pub mod Target

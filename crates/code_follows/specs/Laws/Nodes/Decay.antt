@@ -15,7 +15,7 @@ use Rattle.code_follows.specs.Values.{IsOfType}
 use Rattle.code_follows.specs.Laws.Coming.{pays-some}
 use Rattle.code_follows.specs.Laws.Going.{Goes-part, Goes-done, Part-by}
 
-address_of : (t : Ty) (p : Pointer) → IsOfType (ty.Pointer t) (Address p)
+pub address_of : (t : Ty) (p : Pointer) → IsOfType (ty.Pointer t) (Address p)
 unfolding given_types
 address_of t p = tt
 
