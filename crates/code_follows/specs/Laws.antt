@@ -6,6 +6,8 @@ pub mod Going
 pub mod Here
 pub mod Computing
 pub mod Converting
+pub mod Stack
+pub mod Waiting
 pub mod Addresses
 pub mod Scalars
 pub mod Operand

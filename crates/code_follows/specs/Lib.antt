@@ -5,5 +5,6 @@ pub mod Scene
 pub mod Values
 pub mod Parts
 pub mod Steps
+pub mod Waits
 pub mod Nodes
 pub mod Laws

@@ -8,3 +8,6 @@ pub mod Signed
 pub mod Denied
 pub mod Chosen
 pub mod Logical
+pub mod Integers
+pub mod Operated
+pub mod OnIntegers
