@@ -31,8 +31,10 @@ Lies-at first last lies = record {
 }
 
 -- as few temps are enough as a part of the code needs
-pub IsFree-less : {k : Scene} {needs first : ℕ} {reg : Reg} (fewer : ℕ) → fewer ≤ needs → IsFree k needs first reg → IsFree k fewer first reg
-IsFree-less fewer less free = record { low = free.low; high = free.high; temps = omega (arith, free.temps, less); near = omega (arith, free.near, less) }
+pub IsFree-less : {k : Scene} {needs first : ℕ} {reg : Reg} (fewer : ℕ) → fewer ≤ needs → IsFree k needs first reg →
+    IsFree k fewer first reg
+IsFree-less fewer less free = record { low = free.low; high = free.high; temps = omega (arith, free.temps, less); near = omega (arith,
+    free.near, less) }
 
 -- the address of a label, which is no instruction
 pub record IsLabel (k : Scene) (n from to : ℕ) : Type 0 where
@@ -114,7 +116,8 @@ pub false_number : (n : ℕ) → not (nat_eq n 0) ≡ false → n ≡ 0
 false_number zero is = refl
 false_number (suc n) is = grind (arith, nat_tests)
 
-pub Goes-jump : {A : Type 0} {k : Scene} {first : ℕ} {reg : Reg} {alone : Bool} {result : Result A} {s : State} {to leaves : ℕ} {a : Account}
+pub Goes-jump : {A : Type 0} {k : Scene} {first : ℕ} {reg : Reg} {alone : Bool} {result : Result A} {s : State} {to leaves : ℕ}
+    {a : Account}
     {owes spare from middle : ℕ} {m : Run A} {now : MeaningState} {t : State} (left : ℕ) (goes : GoesTo k.code middle t) →
     On k first reg alone s from a owes spare now t → owes ≤ 1 → 2 + left ≤ spare →
     (On k first reg alone s middle (later goes.steps a) 0 left now (at_pc middle t) →

@@ -86,9 +86,12 @@ IsAt-on on = record {
 
 -- ---- an undefined step that is no access
 
-pub Goes-undefined : {A : Type 0} {k : Scene} {first : ℕ} {reg : Reg} {alone : Bool} {result : Result A} {s : State} {to leaves at : ℕ} {a : Account}
-    {owes spare : ℕ} {run : Run A} {now : MeaningState} {t : State} (u : Undefined) → run now ≡ Stops (IsUndefined u) now → u.access ≡ None →
-    k.code.Inside t → On k first reg alone s at a owes spare now t → owes ≤ 1 → 1 ≤ spare → Goes k first reg alone result s to leaves a run now t
+pub Goes-undefined : {A : Type 0} {k : Scene} {first : ℕ} {reg : Reg} {alone : Bool} {result : Result A} {s : State}
+    {to leaves at : ℕ} {a : Account}
+    {owes spare : ℕ} {run : Run A} {now : MeaningState} {t : State} (u : Undefined) → run now ≡ Stops (IsUndefined u) now →
+    u.access ≡ None →
+    k.code.Inside t → On k first reg alone s at a owes spare now t → owes ≤ 1 → 1 ≤ spare →
+        Goes k first reg alone result s to leaves a run now t
 Goes-undefined {k = k} {first} {reg} {alone} {result} {s} {to} {leaves} {a = a} {now = now} {t} u is none inside on pays enough = record {
   bounded = subst (λ r. Bounded (setting k.code) a (λ v. sparing leaves) t (Gave k first reg alone result s to) (outcome_of r)) (sym is)
       (finishes (record { least = omega (arith, on.least, pays); most = omega (arith, on.most, enough) })
@@ -102,7 +105,8 @@ Goes-undefined {k = k} {first} {reg} {alone} {result} {s} {to} {leaves} {a = a} 
 -- ---- the node
 
 -- What a list of instructions does for a run: it computes the number of what the run gives, or the run is undefined, but for no access.
-pub data Does {B : Type 0} (result : Result B) (instrs : List Instr) (reg : Reg) (run : Run B) (now : MeaningState) (s : State) : Type 0 where
+pub data Does {B : Type 0} (result : Result B) (instrs : List Instr) (reg : Reg) (run : Run B) (now : MeaningState) (s : State)
+    : Type 0 where
   computes_it : (w : B) (n : ℕ) → run now ≡ gives w now → Computes instrs reg n all s → result w now n → Does result instrs reg run now s
   is_undefined : (u : Undefined) → run now ≡ Stops (IsUndefined u) now → u.access ≡ None → Does result instrs reg run now s
 
@@ -120,7 +124,8 @@ pub record Listed (instrs : List Instr) : Type 0 where
   pub few : Few 1 32 (length instrs)
 
 -- such a list, for each value of the operand
-pub record DoesRest {A B : Type 0} (k : Scene) (given : Result A) (result : Result B) (instrs : Reg → List Instr) (f : A → Run B) : Type 0 where
+pub record DoesRest {A B : Type 0} (k : Scene) (given : Result A) (result : Result B) (instrs : Reg → List Instr) (f : A → Run B)
+    : Type 0 where
   pub list : (reg : Reg) → Listed (instrs reg)
   pub does : (reg : Reg) (v : A) (now : MeaningState) (s : State) → Operand k given reg v now s → Does result (instrs reg) reg (f v) now s
 
@@ -134,7 +139,8 @@ pub Goes-does : {B : Type 0} {k : Scene} {first : ℕ} {reg : Reg} {alone : Bool
     Does result instrs reg run now t → Goes k first reg alone result s to value_leaves a run now t
 Goes-does {reg = reg} {alone} {result} {now = now} {instrs = instrs} has list low on pays enough (computes_it w n is puts holds) =
     Goes-same is
-    (Goes-computes value_leaves has list.quiet puts (Suits-own alone reg low) on (omega (arith, pays, list.few.some)) (omega (arith, list.few.few, enough))
+    (Goes-computes value_leaves has list.quiet puts (Suits-own alone reg low) on (omega (arith, pays, list.few.some))
+    (omega (arith, list.few.few, enough))
     (λ done. Goes-done w done (omega arith) (subst (λ (m : ℕ). result w now m) (sym puts.holds) holds)))
 Goes-does {instrs = instrs} has list low on pays enough (is_undefined u is none) =
     let first = begins instrs list.few.some has in
@@ -142,7 +148,8 @@ Goes-does {instrs = instrs} has list low on pays enough (is_undefined u is none)
     (first.has.inside _ (IsAt-on on))
     on pays (omega (arith, enough))
 
-pub operand_part : {A B : Type 0} {k : Scene} {emits : Emits} {needs leaves : ℕ} {alone : Bool} {given : Result A} {result : Result B} {m : Run A}
+pub operand_part : {A B : Type 0} {k : Scene} {emits : Emits} {needs leaves : ℕ} {alone : Bool} {given : Result A} {result : Result B}
+    {m : Run A}
     {f : A → Run B} {instrs : Reg → List Instr} → IsScene k → Part k emits needs leaves alone given m → IsKept given →
     DoesRest k given result instrs f →
     Part k (λ t r. in_turn (emits t r ∷ plain (instrs r) ∷ [])) needs value_leaves alone result (and_then m (λ v. unit_then (f v)))

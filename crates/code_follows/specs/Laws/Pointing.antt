@@ -58,7 +58,8 @@ record Within (b : Block) (offset : ℕ) : Type 0 where
   live : b.live ≡ true
   within : offset ≤ b.size
 
-by_live : (b : Block) (offset : ℕ) (live fits : Bool) → b.live ≡ live → (live && fits) ≡ true → (fits ≡ true → offset ≤ b.size) → Within b offset
+by_live : (b : Block) (offset : ℕ) (live fits : Bool) → b.live ≡ live → (live && fits) ≡ true → (fits ≡ true → offset ≤ b.size) →
+    Within b offset
 by_live b offset true fits live both less = record { live = live; within = less both }
 by_live b offset false fits live both less = absurd (cc)
 
@@ -101,7 +102,8 @@ module _ {k : Scene} (locals : LocalsLie k) {now : MeaningState} {s : State} (re
 
       by_kind : (kind : Kind) → b.kind ≡ kind → LiesAbove (site_of g now number b) b.size
       by_kind NullBlock is =
-          let none : number ≡ 0 = injects.stands.null_alone number b lives.is is in absurd (let e : false ≡ true = grind (arith, nat_tests) in cc)
+          let none : number ≡ 0 = injects.stands.null_alone number b lives.is is in absurd (let e : false ≡ true = grind (arith,
+              nat_tests) in cc)
       by_kind (Local call local) is = locals.lie now s number b call local relates lives is
       by_kind (Global unit i) is = at (Global unit i) is (of_file (Global unit i) is refl)
       by_kind (Text unit i) is = at (Text unit i) is (of_file (Text unit i) is refl)

@@ -30,7 +30,8 @@ use Rattle.code_follows.specs.Laws.Truth.{PointersTrue, ValueIs-truth, Goes-trut
 
 -- the code behind the condition
 abbrev both_ways : Reg → Items → Items → ℕ → Items
-both_ways r a b l = in_turn (only (item.JumpIfZero r l) ∷ a ∷ only (item.Jump (suc l)) ∷ only (item.Label l) ∷ b ∷ only (item.Label (suc l)) ∷ [])
+both_ways r a b l = in_turn (only (item.JumpIfZero r l) ∷ a ∷ only (item.Jump (suc l)) ∷ only (item.Label l) ∷ b ∷ only (item.Label
+    (suc l)) ∷ [])
 
 -- where it is 0 the second way, which ends at the end, and else the first, from which a jump leads there
 record LiesBoth (k : Scene) (r : Reg) (a b : Items) (from to : ℕ) : Type 0 where
@@ -75,25 +76,31 @@ module _ (k : Scene) (scene : IsScene k) (pointers : PointersTrue k) (depth : �
 
   -- from the branch on
   goes_both : {first : ℕ} {reg : Reg} {s : State} {from to : ℕ} {acc : Account} {spare : ℕ} {now : MeaningState} {u : State} →
-      IsFree k (max (need a) (need b)) first reg → LiesBoth k reg ((coded_in k a).value first reg) ((coded_in k b).value first reg) from to →
+      IsFree k (max (need a) (need b)) first reg → LiesBoth k reg ((coded_in k a).value first reg)
+      ((coded_in k b).value first reg) from to →
       On k first reg false s from acc 1 spare now u → 16 ≤ spare →
-      Goes k first reg false (ValueIs (given_in k) t) s to value_leaves acc (choice (not (nat_eq (u.register reg.0) 0)) (value a) (value b)) now u
+      Goes k first reg false (ValueIs (given_in k) t) s to value_leaves acc (choice (not (nat_eq (u.register reg.0) 0)) (value a)
+      (value b)) now u
   unfolding value
   goes_both {first} {reg} {s} {from} {to} {acc} {spare} {now} {u} free both on enough =
       Goes-choice (not (nat_eq (u.register reg.0) 0))
       (λ yes.
-      Goes-jump 14 (on_other_jump both.branch (omega (arith, free.high)) u (IsAt-on on) (true_number (u.register reg.0) yes)) on (omega arith)
+      Goes-jump 14 (on_other_jump both.branch (omega (arith, free.high)) u (IsAt-on on)
+          (true_number (u.register reg.0) yes)) on (omega arith)
       (omega (arith, enough)) (λ there.
       Goes-same (and_then-gives (value a) now)
-      (Goes-part ((one.around a.span).part.yields first reg both.start both.end (IsFree-less (need a) (le_left (need a) (need b)) free) both.first)
+      (Goes-part ((one.around a.span).part.yields first reg both.start both.end (IsFree-less (need a) (le_left (need a)
+      (need b)) free) both.first)
       (omega arith) (λ alone. absurd (cc)) (pays-some scene) there (λ v then w n came gave.
       Goes-jump value_leaves (both.over.jumps w (IsAt-on came)) came (omega arith) (omega arith)
       (λ done. Goes-done v done (omega arith) (typed one_is gave.result_is))))))
       (λ no.
-      Goes-jump 14 (on_zero_jump both.branch (omega (arith, free.high)) u (IsAt-on on) (false_number (u.register reg.0) no)) on (omega arith)
+      Goes-jump 14 (on_zero_jump both.branch (omega (arith, free.high)) u (IsAt-on on)
+          (false_number (u.register reg.0) no)) on (omega arith)
       (omega (arith, enough)) (λ there.
       Goes-same (and_then-gives (value b) now)
-      (Goes-part ((other.around b.span).part.yields first reg both.other to (IsFree-less (need b) (le_right (need a) (need b)) free) both.second)
+      (Goes-part ((other.around b.span).part.yields first reg both.other to (IsFree-less (need b) (le_right (need a)
+      (need b)) free) both.second)
       (omega arith) (λ alone. absurd (cc)) (pays-some scene) there (λ v then w n came gave.
       Goes-done v came (omega arith) (typed other_is gave.result_is)))))
 

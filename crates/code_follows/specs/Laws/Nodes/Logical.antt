@@ -144,7 +144,8 @@ module _ (k : Scene) (scene : IsScene k) (pointers : PointersTrue k) (depth : �
   or_goes false is = refl
 
   -- behind the truth of the first
-  or_part : {first : ℕ} {reg : Reg} {s : State} {l from to : ℕ} {acc : Account} {spare : ℕ} {now : MeaningState} {u : State} (holds : Bool) →
+  or_part : {first : ℕ} {reg : Reg} {s : State} {l from to : ℕ} {acc : Account} {spare : ℕ} {now : MeaningState}
+      {u : State} (holds : Bool) →
       u.register reg.0 ≡ truth holds →
       IsFree k (need b) first reg → LiesSecond k (item.JumpIfNotZero reg l) reg ((coded_in k b).value first reg) l from to →
       On k first reg false s from acc 0 spare now u → 41 ≤ spare →
