@@ -1,16 +1,15 @@
 -- Bit by bit (ISO C11 6.5.10 to 6.5.12): what the lists compute, and that it is a value of the type.
-use Rattle.std.specs.Prelude.{◌≡◌, ℕ, ◌+◌, ◌-◌, ◌*◌, ◌/◌, ◌%◌, ◌^◌, ◌<◌, true, bit_and, bit_or, bit_xor, ◌⊎◌, refl}
+use Rattle.std.specs.Prelude.{◌≡◌, ℕ, ◌+◌, ◌-◌, ◌*◌, ◌/◌, ◌^◌, ◌<◌, true, bit_and, bit_or, bit_xor, ◌⊎◌, refl}
 use Rattle.std.proofs.Common.{arith, ap, ap₂, ◌∙◌, inl, inr, div-add-mod', mod-lt, pow_pos}
 use Rattle.std.proofs.Math.Nat.{div-eq_of_lt}
 use Rattle.std.proofs.lemmas.Bool.Decides.{nat_tests}
 use Rattle.std.proofs.lemmas.Nat.{and_shr, or_shr, xor_shr}
 use Rattle.c_ast.specs.declared.int_type.IntType.{IntType}
 use Rattle.c_ast.specs.declared.int_type.IntType.TheVariants as int
-use Rattle.c_type_base.specs.Conversions.{bits_of, wrap}
 use Rattle.a64_code.specs.declared.instr.Reg.{Reg}
 use Rattle.a64_code.specs.State.{State}
 use Rattle.a64_code.specs.Stepped.{Leads}
-use Rattle.a64_laws.specs.Forms.{Operation, And, Or, Xor, result_of, puts_register}
+use Rattle.a64_laws.specs.Forms.{Operation, result_of, puts_register}
 use Rattle.a64_laws.specs.Laws.Results.{operated}
 use Rattle.gen_base.specs.Integers.{bitwise}
 use Rattle.gen_base.specs.Registers.{left}

@@ -1,7 +1,7 @@
 -- A value in another type (ISO C11 6.3.1.3, 6.3.2.3): what the lists compute is what the meaning computes (this project's own).
-use Rattle.std.specs.Prelude.{◌≡◌, ℕ, ◌+◌, ◌-◌, ◌%◌, ◌^◌, ◌<◌, ◌≤◌, Bool, true, false, ◌&&◌, ◌||◌, nat_le, nat_lt, ◌⊎◌, [], Option, Some, None}
+use Rattle.std.specs.Prelude.{◌≡◌, ℕ, ◌+◌, ◌-◌, ◌^◌, ◌<◌, ◌≤◌, Bool, true, false, ◌&&◌, ◌||◌, nat_le, nat_lt, ◌⊎◌, [], Option, Some, None}
 use Rattle.std.specs.Prelude.{if◌then◌else◌, refl}
-use Rattle.std.proofs.Common.{arith, ap, sym, ◌∙◌, inl, inr, pow_mono}
+use Rattle.std.proofs.Common.{arith, ap, ◌∙◌, inl, inr, pow_mono}
 use Rattle.std.proofs.lemmas.Bool.{cases_lt}
 use Rattle.std.proofs.lemmas.Bool.Decides.{nat_tests}
 use Rattle.mt_base.specs.Extension.{sign_extend, zero_extend}
@@ -14,7 +14,7 @@ use Rattle.c_type_base.specs.Types.{TyLayer, int_of}
 use Rattle.a64_code.specs.declared.instr.Reg.{Reg}
 use Rattle.a64_code.specs.State.{State}
 use Rattle.a64_laws.specs.Laws.Extending.{sign_extended, zero_extended}
-use Rattle.gen_base.specs.Conversions.{extend, wrap_into, has_all, between_integers, into_integer, into_pointer, into_type, convert}
+use Rattle.gen_base.specs.Conversions.{extend, wrap_into, has_all, between_integers, into_integer, into_type, convert}
 use Rattle.gen_laws.specs.Computes.{Computes, IsOf, IsOfSome, all}
 use Rattle.gen_laws.specs.Operations.{converted_number}
 use Rattle.gen_laws.specs.Laws.Computing.{Computes-nil, Computes-put, Computes-is, Computes-constant}

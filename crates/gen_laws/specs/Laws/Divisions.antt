@@ -1,19 +1,17 @@
--- Quotients and remainders (ISO C11 6.5.5): toward zero, as the meaning has them, of values of one type by one that is not 0.
-use Rattle.std.specs.Prelude.{◌≡◌, ◌≢◌, ℕ, zero, suc, ◌+◌, ◌-◌, ◌*◌, ◌/◌, ◌%◌, ◌^◌, ◌<◌, ◌≤◌, ℤ, pos, negsuc, neg_ℤ, Bool, true, false}
-use Rattle.std.specs.Prelude.{if◌then◌else◌, ◌&&◌, ◌==◌, leb, int_div, int_rem, refl}
+-- Quotients (ISO C11 6.5.5): toward zero, as the meaning has them, of values of one type.
+use Rattle.std.specs.Prelude.{◌≡◌, ℕ, zero, suc, ◌+◌, ◌-◌, ◌/◌, ◌%◌, ◌^◌, ◌<◌, ℤ, pos, negsuc, neg_ℤ, Bool, true, false}
+use Rattle.std.specs.Prelude.{if◌then◌else◌, leb, int_div, int_rem, refl}
 use Rattle.std.proofs.Common.{arith, ap, ap₂, sym, subst, ◌∙◌, inl, inr}
 use Rattle.std.proofs.Math.Nat.{div-le_self, div-zero, mod-le}
 use Rattle.std.proofs.lemmas.Bool.{cases_lt, cases_eq, ne_eqb}
 use Rattle.std.proofs.lemmas.Bool.Decides.{nat_tests}
-use Rattle.std.proofs.lemmas.Int.{ints}
-use Rattle.mt_base.specs.Extension.{sign_extend}
 use Rattle.mt_base.specs.TwosComplement.{to_signed, from_signed}
 use Rattle.mt_base.specs.Laws.Extension.{to_signed-sign_extend}
 use Rattle.mt_base.specs.Laws.Wrapping.{wrap_below}
 use Rattle.mt_base.specs.Laws.TwosComplement.{to_signed-wrap, to_signed_low, to_signed_high, from_signed-lt}
 use Rattle.c_ast.specs.declared.int_type.IntType.{IntType}
 use Rattle.c_ast.specs.declared.int_type.IntType.TheVariants as int
-use Rattle.c_type_base.specs.Arithmetic.{negated, differ, quotient, remainder, with_sign as signed_by}
+use Rattle.c_type_base.specs.Arithmetic.{negated, differ, quotient, with_sign as signed_by}
 use Rattle.c_type_base.specs.Conversions.{is_signed, bits_of, wrap}
 use Rattle.a64_alu.specs.Dividing.{divide_unsigned, divide_signed}
 use Rattle.a64_alu.specs.Width.{width}
@@ -29,7 +27,7 @@ use Rattle.gen_base.specs.Registers.{left}
 use Rattle.gen_laws.specs.Computes.{Computes, Operands, IsOf, IsPromoted, all}
 use Rattle.gen_laws.specs.Laws.Arithmetic.{operated_as, signed-computes}
 use Rattle.gen_laws.specs.Laws.Computing.{Computes-is}
-use Rattle.gen_laws.specs.Laws.Numbers.{IsOf-lt, each_promoted, wrap-same, wrap-long, wrap-is_of, wrap-extends}
+use Rattle.gen_laws.specs.Laws.Numbers.{IsOf-lt, each_promoted, wrap-same, wrap-long, wrap-extends}
 
 -- ---- signed numbers by their sign and their magnitude
 

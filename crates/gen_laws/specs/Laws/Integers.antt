@@ -1,14 +1,12 @@
 -- Operators on two integers of one type: the list of each computes what the meaning computes (this project's own).
-use Rattle.std.specs.Prelude.{◌≡◌, ◌≢◌, ℕ, ◌+◌, ◌^◌, ◌<◌, Bool, true, false, List, [], ◌∷◌, map, nat_eq, Option, Some, None, refl}
-use Rattle.std.specs.Prelude.{if◌then◌else◌}
+use Rattle.std.specs.Prelude.{◌≡◌, ◌≢◌, ℕ, ◌+◌, ◌^◌, ◌<◌, true, false, [], ◌∷◌, map, Some, None, refl}
 use Rattle.std.proofs.Common.{arith, subst, sym, ◌∙◌}
 use Rattle.std.proofs.lemmas.Bool.{cases_eq, ne_eqb}
 use Rattle.std.proofs.Common.{inl, inr}
 use Rattle.c_ast.specs.declared.int_type.IntType.{IntType}
 use Rattle.c_ast.specs.declared.operator.BinaryOperator.{BinaryOperator}
 use Rattle.c_ast.specs.declared.operator.BinaryOperator.TheVariants as binary
-use Rattle.c_type_base.specs.Arithmetic.{binary_value, divided, negated, quotient, remainder, shifted_left}
-use Rattle.c_type_base.specs.Conversions.{bits_of, wrap}
+use Rattle.c_type_base.specs.Arithmetic.{binary_value, divided, quotient, remainder}
 use Rattle.block_meaning.specs.ExpressionsInOrder.{Group, Arithmetic, Shift, Comparison, Logical, group_of}
 use Rattle.a64_code.specs.declared.instr.Reg.{Reg}
 use Rattle.a64_code.specs.State.{State}

@@ -1,7 +1,7 @@
 -- How many instructions the lists have at most, and that there is one where the meaning spends a unit of work (this project's own).
-use Rattle.std.specs.Prelude.{◌≡◌, ◌≢◌, ℕ, suc, ◌+◌, ◌≤◌, Bool, true, false, nat_le, List, [], ◌∷◌, ◌++◌, length, Option, Some, None, refl}
+use Rattle.std.specs.Prelude.{◌≢◌, ◌≤◌, Bool, true, false, nat_le, [], length, Option, Some, None, refl}
 use Rattle.std.specs.Prelude.{if◌then◌else◌}
-use Rattle.std.proofs.Common.{arith, length-append}
+use Rattle.std.proofs.Common.{arith}
 use Rattle.c_ast.specs.declared.int_type.IntType.{IntType}
 use Rattle.c_ast.specs.declared.operator.BinaryOperator.{BinaryOperator}
 use Rattle.c_ast.specs.declared.operator.BinaryOperator.TheVariants as binary
@@ -12,11 +12,9 @@ use Rattle.c_type_base.specs.declared.ty.Ty.TheOpen.{Ty-F}
 use Rattle.c_type_base.specs.Conversions.{is_signed, bits_of}
 use Rattle.c_type_base.specs.Types.{TyLayer, int_of}
 use Rattle.block_meaning.specs.ExpressionsInOrder.{Logical, group_of}
-use Rattle.a64_code.specs.declared.instr.Instr.{Instr}
 use Rattle.a64_code.specs.declared.instr.Reg.{Reg}
-use Rattle.gen_base.specs.Conversions.{extend, wrap_into, has_all, between_integers, into_integer, into_type, convert}
-use Rattle.gen_base.specs.Integers.{is_wide, with_sign, sign_of, remaining, on_integer}
-use Rattle.gen_base.specs.Registers.{left, scratch}
+use Rattle.gen_base.specs.Conversions.{extend, wrap_into, has_all, between_integers, into_type, convert}
+use Rattle.gen_base.specs.Integers.{is_wide, with_sign, on_integer}
 use Rattle.gen_laws.specs.Operations.{integer_instrs}
 use Rattle.gen_laws.specs.Laws.Moves.{few_moves}
 

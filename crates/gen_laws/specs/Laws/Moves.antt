@@ -1,5 +1,5 @@
 -- How many moves put a constant: one to four (this project's own).
-use Rattle.std.specs.Prelude.{ℕ, zero, suc, ◌+◌, ◌≡◌, ◌/◌, ◌%◌, ◌^◌, ◌≤◌, true, List, [], ◌∷◌, ◌++◌, length}
+use Rattle.std.specs.Prelude.{ℕ, zero, suc, ◌+◌, ◌≡◌, ◌/◌, ◌%◌, ◌^◌, ◌≤◌, true, List, ◌∷◌, ◌++◌, length}
 use Rattle.std.proofs.Common.{arith, length-append}
 use Rattle.a64_code.specs.declared.instr.Instr.{Instr}
 use Rattle.a64_code.specs.declared.instr.Instr.TheVariants.{Movz}

@@ -1,11 +1,11 @@
 -- Numbers of the integer types, in the words of the meaning and in those of instructions (this project's own).
-use Rattle.std.specs.Prelude.{◌≡◌, ℕ, ◌+◌, ◌*◌, ◌-◌, ◌%◌, ◌^◌, ◌<◌, ◌≤◌, Bool, true, false, if◌then◌else◌, Option, Some, refl}
-use Rattle.std.proofs.Common.{arith, ap, sym, ◌∙◌}
+use Rattle.std.specs.Prelude.{◌≡◌, ℕ, ◌%◌, ◌^◌, ◌<◌, ◌≤◌, Bool, if◌then◌else◌, Some, refl}
+use Rattle.std.proofs.Common.{arith, ap, sym}
 use Rattle.std.proofs.lemmas.Bool.Decides.{nat_tests}
 use Rattle.std.proofs.lemmas.Int.{ints}
 use Rattle.c_ast.specs.declared.int_type.IntType.{IntType}
 use Rattle.c_ast.specs.declared.int_type.IntType.TheVariants as int
-use Rattle.c_type_base.specs.Conversions.{is_signed, bits_of, promoted, extended, wrap}
+use Rattle.c_type_base.specs.Conversions.{is_signed, bits_of, extended, wrap}
 use Rattle.mt_base.specs.Extension.{sign_extend, zero_extend}
 use Rattle.mt_base.specs.Laws.Wrapping.{wrap-wrap_wider}
 use Rattle.gen_laws.specs.Computes.{IsOf, IsPromoted}

@@ -18,7 +18,7 @@ use Rattle.sym_code.specs.declared.item.SymItem.TheVariants as item
 use Rattle.gen_base.specs.Integers.{on_integers}
 use Rattle.gen_base.specs.Operators.{wrapped_size, operated, combined, element}
 use Rattle.gen_base.specs.Pointers.{pointer_and_number, number_and_pointer, on_two_pointers}
-use Rattle.gen_base.specs.Registers.{left, scratch}
+use Rattle.gen_base.specs.Registers.{scratch}
 use Rattle.gen_laws.specs.Computes.{Computes, Operands, all_but}
 use Rattle.gen_laws.specs.Laws.Computing.{Computes-is}
 use Rattle.gen_laws.specs.Laws.Pointers.{add_pointer-computes, take_pointer-computes, number_first-computes}

@@ -1,43 +1,27 @@
 -- Pointers and numbers of objects (ISO C11 6.5.6, 6.5.8, 6.5.9): what the lists compute is what the meaning computes. A pointer's number is
 -- its offset behind a base, modulo 2^64.
-use Rattle.std.specs.Prelude.{◌≡◌, ◌≢◌, ℕ, ◌+◌, ◌-◌, ◌*◌, ◌%◌, ◌^◌, ◌<◌, ◌≤◌, Bool, true, false, ◌||◌, leb, nat_eq, not, List, [], ◌∷◌, ◌++◌}
-use Rattle.std.specs.Prelude.{int_lt, int_le, Option, Some, if◌then◌else◌, refl}
+use Rattle.std.specs.Prelude.{◌≡◌, ℕ, ◌+◌, ◌*◌, ◌%◌, ◌^◌, ◌<◌, ◌≤◌, true, [], ◌∷◌, ◌++◌}
 use Rattle.std.proofs.Common.{arith, ap, ap₂, sym, ◌∙◌, inl, inr}
 use Rattle.std.proofs.Math.Nat.{add-mul}
 use Rattle.std.proofs.lemmas.Bool.{cases_eq}
-use Rattle.std.proofs.lemmas.Bool.Decides.{nat_tests}
-use Rattle.std.proofs.lemmas.Int.{ints}
-use Rattle.mt_base.specs.TwosComplement.{to_signed}
 use Rattle.mt_base.specs.Wrapping.{wrapping_sub}
-use Rattle.mt_base.specs.Laws.Wrapping.{wrapping_sub_is, same_remainder}
-use Rattle.c_ast.specs.declared.int_type.IntType.TheVariants as int
-use Rattle.c_ast.specs.declared.operator.BinaryOperator.{BinaryOperator}
+use Rattle.mt_base.specs.Laws.Wrapping.{wrapping_sub_is}
 use Rattle.c_ast.specs.declared.operator.BinaryOperator.TheVariants as binary
-use Rattle.c_type_base.specs.Arithmetic.{negated, quotient, truth, is_negative}
-use Rattle.block_meaning.specs.declared.value.Pointer.{Pointer}
-use Rattle.block_meaning.specs.Compare.{difference, within_block, is_before, is_same}
-use Rattle.a64_alu.specs.Dividing.{divide_signed}
+use Rattle.c_type_base.specs.Arithmetic.{negated}
 use Rattle.a64_code.specs.declared.instr.Instr.{Instr}
-use Rattle.a64_code.specs.declared.instr.Instr.TheVariants.{Madd, Msub, Sdiv}
+use Rattle.a64_code.specs.declared.instr.Instr.TheVariants.{Madd, Msub}
 use Rattle.a64_code.specs.declared.instr.Reg.{Reg}
 use Rattle.a64_code.specs.State.{State}
 use Rattle.a64_code.specs.Stepped.{Leads}
 use Rattle.a64_code.specs.Effect.{effect}
 use Rattle.a64_laws.specs.Constants.{constant_moves}
-use Rattle.a64_laws.specs.Forms.{Sub, DivideSigned, operation_instr, puts_register}
-use Rattle.a64_laws.specs.Relations.{Relation, Less, AtMost, holds}
-use Rattle.a64_laws.specs.Sequences.{WithNumber, comparison_instrs, bit_of}
+use Rattle.a64_laws.specs.Forms.{puts_register}
 use Rattle.a64_laws.specs.Laws.Comparing.{multiplied_and_added, multiplied_and_taken}
-use Rattle.a64_laws.specs.Laws.Results.{operated}
-use Rattle.gen_base.specs.Pointers.{advance, retreat, objects_apart, by_difference, on_two_pointers, pointer_and_number, number_and_pointer}
+use Rattle.gen_base.specs.Pointers.{advance, retreat, pointer_and_number, number_and_pointer}
 use Rattle.gen_base.specs.Registers.{left, scratch}
-use Rattle.gen_laws.specs.Computes.{Computes, Operands, all, all_but}
-use Rattle.gen_laws.specs.Laws.Comparisons.{compare-computes}
-use Rattle.gen_laws.specs.Laws.Computing.{Computes-put, Computes-is, Computes-fewer, Computes-then, Computes-again, Computes-constant}
-use Rattle.gen_laws.specs.Laws.Computing.{Computes-comparison}
-use Rattle.gen_laws.specs.Laws.Divisions.{divided_long}
+use Rattle.gen_laws.specs.Computes.{Computes, Operands, all_but}
+use Rattle.gen_laws.specs.Laws.Computing.{Computes-put, Computes-fewer, Computes-then, Computes-constant}
 use Rattle.gen_laws.specs.Laws.Moves.{few_moves}
-use Rattle.gen_laws.specs.Laws.Numbers.{some_same}
 
 -- ---- so many objects on, or back
 

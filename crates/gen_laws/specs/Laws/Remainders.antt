@@ -1,13 +1,12 @@
 -- Remainders (ISO C11 6.5.5), which have the sign of the first number: what their list computes is what the meaning computes.
-use Rattle.std.specs.Prelude.{◌≡◌, ◌≢◌, ℕ, ◌+◌, ◌*◌, ◌%◌, ◌^◌, ◌<◌, Bool, true, false, int_rem, refl}
-use Rattle.std.proofs.Common.{arith, ap, ap₂, sym, subst, ◌∙◌}
-use Rattle.std.proofs.Math.Nat.{mod-le}
+use Rattle.std.specs.Prelude.{◌≡◌, ◌≢◌, ℕ, ◌+◌, ◌%◌, ◌^◌, ◌<◌, Bool, int_rem, refl}
+use Rattle.std.proofs.Common.{arith, ap, ap₂, sym, ◌∙◌}
 use Rattle.std.proofs.lemmas.Bool.Decides.{nat_tests}
 use Rattle.mt_base.specs.TwosComplement.{to_signed, from_signed}
 use Rattle.c_ast.specs.declared.int_type.IntType.{IntType}
 use Rattle.c_ast.specs.declared.int_type.IntType.TheVariants as int
 use Rattle.c_type_base.specs.Arithmetic.{remainder}
-use Rattle.c_type_base.specs.Conversions.{is_signed, bits_of, wrap}
+use Rattle.c_type_base.specs.Conversions.{bits_of, wrap}
 use Rattle.a64_alu.specs.Width.{width, of_width}
 use Rattle.a64_code.specs.declared.instr.Reg.{Reg}
 use Rattle.a64_code.specs.State.{State, with_value}

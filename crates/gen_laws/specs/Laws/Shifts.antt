@@ -1,12 +1,10 @@
 -- Shifts (ISO C11 6.5.7): what the lists compute is what the meaning computes, for any count.
-use Rattle.std.specs.Prelude.{◌≡◌, ℕ, suc, ◌+◌, ◌-◌, ◌*◌, ◌/◌, ◌%◌, ◌^◌, ◌<◌, ◌≤◌, Bool, true, false, if◌then◌else◌, ◌&&◌, leb, refl}
+use Rattle.std.specs.Prelude.{◌≡◌, ℕ, ◌+◌, ◌-◌, ◌*◌, ◌/◌, ◌%◌, ◌^◌, ◌<◌, Bool, true, false, if◌then◌else◌, leb, refl}
 use Rattle.std.proofs.Common.{arith, ap, ap₂, sym, subst, ◌∙◌, inl, inr}
 use Rattle.std.proofs.lemmas.Bool.{cases_lt}
 use Rattle.std.proofs.lemmas.Bool.Decides.{nat_tests}
-use Rattle.std.proofs.lemmas.Int.{ints}
 use Rattle.std.proofs.Math.Nat.{div-le_self}
 use Rattle.std.proofs.lemmas.Nat.{mul-mod_first, shr_le}
-use Rattle.mt_base.specs.Extension.{sign_extend}
 use Rattle.mt_base.specs.Shifts.{arithmetic_shift_right}
 use Rattle.mt_base.specs.Laws.Extension.{to_signed-sign_extend}
 use Rattle.mt_base.specs.Laws.Shifts.{to_signed-arithmetic_shift_right, arithmetic_shift_right-lt}
@@ -14,12 +12,12 @@ use Rattle.mt_base.specs.Laws.TwosComplement.{to_signed-wrap, to_signed_low, to_
 use Rattle.mt_base.specs.TwosComplement.{to_signed, from_signed}
 use Rattle.c_ast.specs.declared.int_type.IntType.{IntType}
 use Rattle.c_ast.specs.declared.int_type.IntType.TheVariants as int
-use Rattle.c_type_base.specs.Arithmetic.{is_negative, shifted_left, shifted_right}
+use Rattle.c_type_base.specs.Arithmetic.{shifted_left, shifted_right}
 use Rattle.c_type_base.specs.Conversions.{is_signed, bits_of, wrap}
 use Rattle.a64_code.specs.declared.instr.Reg.{Reg}
 use Rattle.a64_code.specs.State.{State}
 use Rattle.a64_laws.specs.Forms.{Operation, ShiftLeft, ShiftRight, ShiftRightSigned}
-use Rattle.gen_base.specs.Integers.{is_wide, operation, shift_right}
+use Rattle.gen_base.specs.Integers.{operation, shift_right}
 use Rattle.gen_laws.specs.Computes.{Computes, Operands, IsOf, IsPromoted, all}
 use Rattle.gen_laws.specs.Laws.Arithmetic.{operated_as, operation-computes}
 use Rattle.gen_laws.specs.Laws.Computing.{Computes-is}

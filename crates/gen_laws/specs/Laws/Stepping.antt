@@ -1,7 +1,7 @@
 -- `++` and `--` (ISO C11 6.5.2.4, 6.5.3.1): the value after comes into X16, and the register keeps the value before.
-use Rattle.std.specs.Prelude.{◌≡◌, ℕ, ◌+◌, ◌-◌, ◌*◌, ◌%◌, ◌^◌, ◌<◌, Bool, true, false, List, [], ◌∷◌, ◌++◌, Some, None}
+use Rattle.std.specs.Prelude.{◌≡◌, ℕ, ◌+◌, ◌-◌, ◌*◌, ◌%◌, ◌^◌, ◌<◌, Bool, true, false, List, Some, None}
 use Rattle.std.specs.Prelude.{if◌then◌else◌, refl}
-use Rattle.std.proofs.Common.{arith, ap, ap₂, sym, ◌∙◌}
+use Rattle.std.proofs.Common.{arith, ap, ap₂, ◌∙◌}
 use Rattle.std.proofs.lemmas.Bool.{lt-ltb}
 use Rattle.mt_base.specs.Wrapping.{wrapping_sub}
 use Rattle.mt_base.specs.Laws.Wrapping.{wrapping_mul-wrap_right}
@@ -12,15 +12,13 @@ use Rattle.c_type_base.specs.Conversions.{wrap}
 use Rattle.c_type_base.specs.Sizes.{size}
 use Rattle.c_type_base.specs.Types.{target_of}
 use Rattle.block_meaning.specs.Operators.{int_in, is_increment, by_one}
-use Rattle.a64_code.specs.declared.instr.Instr.{Instr}
 use Rattle.a64_code.specs.declared.instr.Instr.TheVariants.{AddImm, SubImm}
 use Rattle.a64_code.specs.declared.instr.Reg.{Reg}
 use Rattle.a64_code.specs.State.{State}
 use Rattle.a64_code.specs.Stepped.{Leads}
 use Rattle.a64_code.specs.Effect.{effect}
-use Rattle.a64_laws.specs.Constants.{constant_moves}
 use Rattle.a64_laws.specs.Forms.{Add, Sub, operation_instr, puts_register}
-use Rattle.a64_laws.specs.Laws.Results.{number_added, operated}
+use Rattle.a64_laws.specs.Laws.Results.{operated}
 use Rattle.gen_base.specs.Operators.{wrapped_size, number_stepped, pointer_stepped, stepped}
 use Rattle.gen_base.specs.Registers.{left}
 use Rattle.gen_laws.specs.Computes.{Computes, IsForValues, all}

@@ -1,8 +1,8 @@
 -- Two pointers into one block (ISO C11 6.5.6, 6.5.8, 6.5.9): their difference, and how they compare, as the meaning has it. The number of
 -- each is its offset behind one base, modulo 2^64.
-use Rattle.std.specs.Prelude.{◌≡◌, ◌≢◌, ℕ, ◌+◌, ◌-◌, ◌%◌, ◌^◌, ◌<◌, ◌≤◌, Bool, true, false, ◌||◌, leb, nat_eq, not, [], ◌∷◌, ◌++◌}
-use Rattle.std.specs.Prelude.{Some, if◌then◌else◌, refl}
-use Rattle.std.proofs.Common.{arith, ap, ap₂, sym, ◌∙◌}
+use Rattle.std.specs.Prelude.{◌≡◌, ℕ, ◌+◌, ◌%◌, ◌^◌, ◌<◌, Bool, true, ◌||◌, nat_eq, not, [], ◌∷◌}
+use Rattle.std.specs.Prelude.{Some}
+use Rattle.std.proofs.Common.{arith, ap, ap₂, ◌∙◌}
 use Rattle.std.proofs.lemmas.Bool.Decides.{nat_tests}
 use Rattle.std.proofs.lemmas.Int.{ints}
 use Rattle.mt_base.specs.Wrapping.{wrapping_sub}
@@ -21,7 +21,7 @@ use Rattle.a64_laws.specs.Forms.{Sub, DivideSigned, operation_instr, puts_regist
 use Rattle.a64_laws.specs.Relations.{Relation, Equal, Unequal, Less, AtMost, holds}
 use Rattle.a64_laws.specs.Sequences.{WithNumber, bit_of}
 use Rattle.a64_laws.specs.Laws.Results.{operated}
-use Rattle.gen_base.specs.Pointers.{objects_apart, by_difference, on_two_pointers}
+use Rattle.gen_base.specs.Pointers.{by_difference, on_two_pointers}
 use Rattle.gen_base.specs.Registers.{left, scratch}
 use Rattle.gen_laws.specs.Computes.{Computes, Operands, all, all_but}
 use Rattle.gen_laws.specs.Laws.Comparisons.{compare-computes}

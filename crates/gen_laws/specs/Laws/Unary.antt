@@ -1,14 +1,12 @@
 -- Operators on one integer of a promoted type (ISO C11 6.5.3.3): what their lists compute is what the meaning computes.
-use Rattle.std.specs.Prelude.{◌≡◌, ℕ, ◌+◌, ◌-◌, ◌*◌, ◌%◌, ◌^◌, ◌<◌, [], ◌∷◌, Some, refl}
-use Rattle.std.proofs.Common.{arith, ap, sym, ◌∙◌}
+use Rattle.std.specs.Prelude.{◌≡◌, ℕ, ◌+◌, ◌-◌, ◌%◌, ◌^◌, ◌<◌, [], ◌∷◌, Some, refl}
+use Rattle.std.proofs.Common.{arith, ◌∙◌}
 use Rattle.std.proofs.lemmas.Bool.{lt-ltb}
-use Rattle.std.proofs.lemmas.Bool.Decides.{nat_tests}
 use Rattle.mt_base.specs.Wrapping.{wrapping_sub}
 use Rattle.c_ast.specs.declared.int_type.IntType.{IntType}
-use Rattle.c_ast.specs.declared.int_type.IntType.TheVariants as int
 use Rattle.c_ast.specs.declared.operator.UnaryOperator.{UnaryOperator}
 use Rattle.c_ast.specs.declared.operator.UnaryOperator.TheVariants as unary
-use Rattle.c_type_base.specs.Arithmetic.{negated, truth, unary_value}
+use Rattle.c_type_base.specs.Arithmetic.{negated, unary_value}
 use Rattle.c_type_base.specs.Conversions.{bits_of, wrap}
 use Rattle.a64_alu.specs.Width.{width, of_width}
 use Rattle.a64_code.specs.declared.instr.Instr.TheVariants.{SubReg, SubImm, Nop}
@@ -19,8 +17,8 @@ use Rattle.a64_code.specs.Effect.{effect}
 use Rattle.a64_laws.specs.Forms.{next, zero_register, puts_register}
 use Rattle.a64_laws.specs.Laws.Extending.{passed_over}
 use Rattle.a64_laws.specs.Laws.Runs.{Runs-one}
-use Rattle.gen_base.specs.Integers.{is_wide, with_sign, is_zero, on_integer}
-use Rattle.gen_laws.specs.Computes.{Computes, IsOf, IsPromoted, all}
+use Rattle.gen_base.specs.Integers.{is_wide, on_integer}
+use Rattle.gen_laws.specs.Computes.{Computes, IsPromoted, all}
 use Rattle.gen_laws.specs.Laws.Arithmetic.{signed-computes}
 use Rattle.gen_laws.specs.Laws.Comparisons.{is_zero-computes}
 use Rattle.gen_laws.specs.Laws.Computing.{Computes-put, Computes-is, Computes-again}
