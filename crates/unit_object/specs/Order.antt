@@ -5,7 +5,9 @@ use Rattle.c_ast.specs.declared.program.Program.{Program}
 use Rattle.c_type_base.specs.declared.typed.GlobalInfo.{GlobalInfo}
 use Rattle.c_type_base.specs.declared.typed.InitPiece.{InitPiece}
 use Rattle.c_type_base.specs.declared.typed.Typed.{Typed}
-use Rattle.c_types.specs.Files.{mentions, name_in, once}
+use Rattle.c_types.specs.Files.{mentions, name_in}
+use Rattle.c_types.specs.Tables.{with_name}
+use Rattle.mean_link.specs.Names.{declared}
 use Rattle.c_types.specs.declared.names.Mention.{Mention}
 use Rattle.c_types.specs.Ordered.{globals_by, option_list}
 
@@ -13,9 +15,14 @@ use Rattle.c_types.specs.Ordered.{globals_by, option_list}
 abbrev pub mentioned : Program → List Mention
 mentioned p = flat_map mentions p.items
 
+-- some names, and behind them others where they are not there yet
+abbrev pub each_once : List (List ℕ) → List (List ℕ) → List (List ℕ)
+each_once names [] = names
+each_once names (n ∷ ns) = each_once (with_name names n) ns
+
 -- the names of functions and objects, each where it is first declared
 abbrev pub first_declared : Program → List (List ℕ)
-first_declared p = once [] (map name_in (mentioned p))
+first_declared p = each_once [] (declared p)
 
 abbrev pub defines_object : Mention → Bool
 defines_object m = m.defines && not m.function

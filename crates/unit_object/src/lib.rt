@@ -2,6 +2,7 @@
 #![tactic(auto)]
 
 mod data;
+mod names;
 mod numbers;
 mod objects;
 mod relocs;

@@ -6,4 +6,5 @@ use Rattle.unit_object.proofs.objects.all_bytes.Given as goal
 -- the bytes of those that are left follow
 abbrev pub invariant-loop-number : goal.invariant-loop-number
 invariant-loop-number l =
-    l.out.items ++ spec.all_bytes l.structs (chosen l.globals (drop l.number-index l.numbers)) ≡ spec.all_bytes l.structs (chosen l.globals l.numbers)
+    l.out.items ++ spec.all_bytes l.structs (chosen l.globals (drop l.number-index l.numbers))
+    ≡ spec.all_bytes l.structs (chosen l.globals l.numbers)
