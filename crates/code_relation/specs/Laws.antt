@@ -9,6 +9,7 @@ pub mod Changing
 pub mod Writing
 pub mod Storing
 pub mod Stored
+pub mod Slots
 pub mod Keeps
 pub mod Framed
 pub mod Called

@@ -1,7 +1,6 @@
 -- Cells are stored to a live local of the innermost call, in its slot behind the temps, or to a file-scope object: the relation holds on,
 -- and what is kept of frames is kept (this project's own).
-use Rattle.std.specs.Prelude.{◌≡◌, ◌≢◌, ℕ, ◌+◌, ◌-◌, ◌*◌, ◌<◌, ◌≤◌, true, false, List, [], ◌∷◌, length, slice_get, Option, Some, None}
-use Rattle.std.specs.Prelude.{if◌then◌else◌}
+use Rattle.std.specs.Prelude.{◌≡◌, ◌≢◌, ℕ, ◌+◌, ◌-◌, ◌*◌, ◌<◌, ◌≤◌, true, false, List, ◌∷◌, length, slice_get, Some}
 use Rattle.std.proofs.Common.{arith, ap, sym, subst, inl, inr, ◌∙◌, true≢false}
 use Rattle.std.proofs.lemmas.Bool.{cases_lt}
 use Rattle.std.proofs.lemmas.Bool.Decides.{nat_tests}
@@ -11,7 +10,7 @@ use Rattle.frame_layout.specs.declared.frame.Slot.{Slot}
 use Rattle.a64_code.specs.State.{State}
 use Rattle.a64_laws.specs.Laws.Effects.InRange.{IsInRange}
 use Rattle.block_meaning.specs.declared.cell.Cell.{Cell}
-use Rattle.block_meaning.specs.declared.kind.Kind.TheVariants.{NullBlock, Local, Global}
+use Rattle.block_meaning.specs.declared.kind.Kind.TheVariants.{NullBlock, Local}
 use Rattle.block_meaning.specs.Blocks.{Block, null_block}
 use Rattle.block_meaning.specs.Meaning.{open_bytes}
 use Rattle.block_meaning.specs.Running.{Call, Context, State as MeaningState}
@@ -20,7 +19,7 @@ use Rattle.code_relation.specs.Bases.{HaveBaseWords}
 use Rattle.code_relation.specs.Calls.{stack_end, lowest, frame_of, LieInOrder}
 use Rattle.code_relation.specs.Injects.{Injects}
 use Rattle.code_relation.specs.Kept.{KeepsFrom}
-use Rattle.code_relation.specs.Loaded.{on_stack, NoObjectAt}
+use Rattle.code_relation.specs.Loaded.{on_stack}
 use Rattle.code_relation.specs.Sites.{Given, Lives, units_of, site_of, site_of_local, site_of_slot, site_by, slot_in, has_byte}
 use Rattle.code_relation.specs.Stands.{AreCalls}
 use Rattle.code_relation.specs.Laws.Changing.{changed}
