@@ -19,7 +19,8 @@ x9 = record { 0 = 9 }
 wraps : (s : State) → Operands x9 (2 ^ 31 - 1) 1 s → s.pc + 12 < 2 ^ 64 →
     Computes (AddReg false x9 left x9 ∷ Sbfm true 0 31 x9 x9 ∷ []) x9 (2 ^ 64 - 2 ^ 31) (all_but scratch) s
 wraps s given room =
-    integers-compute int.Int x9 (2 ^ 31 - 1) 1 (2 ^ 64 - 2 ^ 31) s given room binary.Add (λ same. absurd (cc)) refl refl (λ other. refl) refl
+    integers-compute int.Int x9 (2 ^ 31 - 1) 1 (2 ^ 64 - 2 ^ 31) s given room binary.Add (λ same. absurd (cc)) refl refl
+    (λ other. refl) refl
 
 -- -1 is below 1 as a long, and not as an unsigned long
 below : (s : State) → Operands x9 (2 ^ 64 - 1) 1 s → s.pc + 12 < 2 ^ 64 →

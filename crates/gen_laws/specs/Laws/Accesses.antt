@@ -82,13 +82,15 @@ near_store k offset r s n size =
 
 -- ---- behind a register, whose tag is that of the granule
 
-far_load : (l : Load) (at tag : ℕ) (p r : Reg) (s : State) (n : ℕ) → load_size l ≡ n → p.0 < 31 → r.0 < 31 → Points (s.register p.0) at tag →
+far_load : (l : Load) (at tag : ℕ) (p r : Reg) (s : State) (n : ℕ) → load_size l ≡ n → p.0 < 31 → r.0 < 31 →
+    Points (s.register p.0) at tag →
     at % n ≡ 0 → IsReadable s at n → s.tag (granule_of at) ≡ tag →
     effect (load_from l (Behind p) r) s ≡ Leads (puts_register r (extended l (load n s.byte at)) s)
 far_load l at tag p r s n size base small points =
     subst (λ (n : ℕ). at % n ≡ 0 → IsReadable s at n → s.tag (granule_of at) ≡ tag →
     effect (load_from l (Behind p) r) s ≡ Leads (puts_register r (extended l (load n s.byte at)) s)) size
-    (λ aligned readable agrees. load_through l 0 at tag p r s base small (points_there l (s.register p.0) at tag points) aligned readable agrees)
+    (λ aligned readable agrees. load_through l 0 at tag p r s base small (points_there l
+    (s.register p.0) at tag points) aligned readable agrees)
   where
     points_there : (l : Load) (pointer at tag : ℕ) → Points pointer at tag → Points ((pointer + 0 * load_size l) % 2 ^ 64) at tag
     points_there l pointer at tag points = record { is_at = omega (arith, points.is_at); has_tag = omega (arith, points.has_tag) }

@@ -12,7 +12,8 @@ use Rattle.c_type_base.specs.Conversions.{is_signed}
 use Rattle.block_meaning.specs.ExpressionsInOrder.{Comparison, group_of}
 use Rattle.a64_code.specs.declared.instr.Reg.{Reg}
 use Rattle.a64_code.specs.State.{State}
-use Rattle.a64_laws.specs.Relations.{Relation, Equal, Unequal, Lower, Higher, LowerOrSame, HigherOrSame, Less, Greater, AtMost, AtLeast, holds}
+use Rattle.a64_laws.specs.Relations.{Relation, Equal, Unequal, Lower, Higher, LowerOrSame}
+use Rattle.a64_laws.specs.Relations.{HigherOrSame, Less, Greater, AtMost, AtLeast, holds}
 use Rattle.a64_laws.specs.Sequences.{With, WithNumber, bit_of}
 use Rattle.gen_base.specs.Integers.{signed_or, relation, compare, is_zero, is_other}
 use Rattle.gen_base.specs.Registers.{left}

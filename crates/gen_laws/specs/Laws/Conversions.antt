@@ -86,10 +86,26 @@ wider sign bits other fewer n fits few has within = elim (cases_lt bits 64) [
   | inr whole ↦ all_within sign bits n fits whole few
 ]
   where
-    by_signs : (sign other : Bool) → bits < 64 → has_all_within sign bits other fewer ≡ true → IsWithin other fewer n → IsWithin sign bits n
-    by_signs true true narrow has (inl low) = inl (omega (arith, low, pow_mono (let e : fewer - 1 ≤ bits - 1 = grind (arith, nat_tests) in e)))
-    by_signs true true narrow has (inr high) = inr (omega (arith, high, pow_mono (let e : fewer - 1 ≤ bits - 1 = grind (arith, nat_tests) in e)))
-    by_signs true false narrow has within = inl (omega (arith, within, pow_mono (let e : fewer ≤ bits - 1 = grind (arith, nat_tests) in e)))
+    by_signs : (sign other : Bool) → bits < 64 → has_all_within sign bits other fewer ≡ true → IsWithin other fewer n →
+        IsWithin sign bits n
+    by_signs true true narrow has (inl low) = inl (omega (
+      arith,
+      low,
+      pow_mono (let e : fewer - 1 ≤ bits - 1 = grind
+          (arith, nat_tests) in e),
+    ))
+    by_signs true true narrow has (inr high) = inr (omega (
+      arith,
+      high,
+      pow_mono (let e : fewer - 1 ≤ bits - 1 = grind
+          (arith, nat_tests) in e),
+    ))
+    by_signs true false narrow has within = inl (omega (
+      arith,
+      within,
+      pow_mono (let e : fewer ≤ bits - 1 = grind
+          (arith, nat_tests) in e),
+    ))
     by_signs false true narrow has within = absurd (let e : false ≡ true = grind (arith, nat_tests) in cc)
     by_signs false false narrow has within = omega (arith, within, pow_mono (let e : fewer ≤ bits = grind (arith, nat_tests) in e))
 
@@ -102,11 +118,13 @@ has_all-is_of t s n has is =
 -- ---- any number as a value of an integer type
 
 module _ (r : Reg) (n : ℕ) (s : State) (small : r.0 < 31) (is : s.register r.0 ≡ n) (fits : n < 2 ^ 64) (room : s.pc + 4 < 2 ^ 64) where
-  signs : (t : IntType) (bits : ℕ) → 0 < bits → bits ≤ 64 → sign_extend bits 64 n ≡ wrap t n → Computes (extend true bits r) r (wrap t n) all s
+  signs : (t : IntType) (bits : ℕ) → 0 < bits → bits ≤ 64 → sign_extend bits 64 n ≡ wrap t n →
+      Computes (extend true bits r) r (wrap t n) all s
   signs t bits some most same =
       Computes-is (ap (sign_extend bits 64) is ∙ same) (Computes-put _ r _ s (sign_extended true bits r r s small small some most) room)
 
-  zeros : (t : IntType) (bits : ℕ) → 0 < bits → bits ≤ 64 → zero_extend bits n ≡ wrap t n → Computes (extend false bits r) r (wrap t n) all s
+  zeros : (t : IntType) (bits : ℕ) → 0 < bits → bits ≤ 64 → zero_extend bits n ≡ wrap t n →
+      Computes (extend false bits r) r (wrap t n) all s
   zeros t bits some most same =
       Computes-is (ap (zero_extend bits) is ∙ same) (Computes-put _ r _ s (zero_extended true bits r r s small small some most) room)
 

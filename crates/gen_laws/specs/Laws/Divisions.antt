@@ -131,7 +131,8 @@ uint_same a is = sym is
 -- SDIV of two numbers of 64 bits
 pub divided_long : (a b : ℕ) → a < 2 ^ 64 → b < 2 ^ 64 → divide_signed 64 a b ≡ quotient int.Long a b
 divided_long a b first second =
-    sym (wrap_below 64 _ (subst (λ n. n < 2 ^ 64) (sym (divided_signed true a b)) (from_signed-lt 64 (int_div (to_signed 64 a) (to_signed 64 b)))))
+    sym (wrap_below 64 _ (subst (λ n. n < 2 ^ 64) (sym (divided_signed true a b)) (from_signed-lt 64 (int_div (to_signed 64 a)
+    (to_signed 64 b)))))
     ∙ sym (wrap-long (divide_signed 64 a b)) ∙ ap (wrap int.Long) (divided_signed true a b ∙ quotient_bits a b first second)
 
 divided_is : (t : IntType) (a b : ℕ) → IsPromoted t → IsOf t a → IsOf t b →
@@ -139,7 +140,8 @@ divided_is : (t : IntType) (a b : ℕ) → IsPromoted t → IsOf t a → IsOf t 
 divided_is t a b promoted first second =
     each_promoted (λ t. IsOf t a → IsOf t b → wrap t (operated_as (division_of (is_signed t)) t a b) ≡ quotient t a b)
     (λ p q. int_wraps (divide_signed 32 (a % 2 ^ 32) (b % 2 ^ 32) % 2 ^ 32) (int_div (to_signed 64 a) (to_signed 64 b)) _
-    (ap (λ n. n % 2 ^ 32) (divided_signed false (a % 2 ^ 32) (b % 2 ^ 32) ∙ ap₂ (λ y z. from_signed 32 (int_div y z)) (int_signed a p) (int_signed b q))
+    (ap (λ n. n % 2 ^ 32) (divided_signed false (a % 2 ^ 32) (b % 2 ^ 32) ∙ ap₂ (λ y z. from_signed 32 (int_div y z)) (int_signed a p)
+    (int_signed b q))
     ∙ wrap_below 32 _ (from_signed-lt 32 (int_div (to_signed 64 a) (to_signed 64 b))))
     (quotient_bits a b (IsOf-lt int.Int a p) (IsOf-lt int.Int b q)))
     (λ p q. ap (λ n. n % 2 ^ 32 % 2 ^ 32) (divided_unsigned (a % 2 ^ 32) (b % 2 ^ 32)
@@ -167,7 +169,8 @@ division-computes t r a b s promoted first second given room =
     (done DivideSigned int.Int) (done DivideUnsigned int.UInt) (done DivideSigned int.Long) (done DivideUnsigned int.ULong) t promoted)
     room)
   where
-    done : (o : Operation) (t : IntType) → effect (operation_instr o (is_wide t) r left r) s ≡ Leads (puts_register r (operated_as o t a b) s)
+    done : (o : Operation) (t : IntType) → effect (operation_instr o (is_wide t) r left r) s ≡ Leads (puts_register r
+        (operated_as o t a b) s)
     done o t =
         operated o (is_wide t) r left r s (omega (arith, given.for_values.to)) (omega arith) (omega (arith, given.for_values.to))
         ∙ ap₂ (λ m n. Leads (puts_register r (operated_as o t m n) s)) given.first given.second

@@ -83,7 +83,8 @@ module _ (t : IntType) (r : Reg) (a b n : ℕ) (s : State) (given : Operands r a
   shifting binary.ShiftLeft group promoted first is =
       Computes-fewer (λ q spared. tt) (Computes-is (some_same is) (shift_left-computes t r a b s promoted given (omega (arith, room))))
   shifting binary.ShiftRight group promoted first is =
-      Computes-fewer (λ q spared. tt) (Computes-is (some_same is) (shift_right-computes t r a b s promoted first given (omega (arith, room))))
+      Computes-fewer (λ q spared. tt) (Computes-is (some_same is) (shift_right-computes t r a b s promoted first given (omega
+      (arith, room))))
   shifting _ group promoted first is = absurd (cc)
 
   -- of any integer type
@@ -110,7 +111,8 @@ module _ (t : IntType) (r : Reg) (a b n : ℕ) (s : State) (given : Operands r a
   integers-compute o evaluates promoted first second is = by_group (group_of o) refl
     where
       by_group : (g : Group) → group_of o ≡ g → Computes (integer_instrs o t r) r n (all_but scratch) s
-      by_group Arithmetic group = arithmetic o group promoted first (second (λ shift. absurd (let e : Arithmetic ≡ Shift = sym group ∙ shift in cc))) is
+      by_group Arithmetic group = arithmetic o group promoted first (second (λ shift. absurd (let e : Arithmetic ≡ Shift = sym group
+          ∙ shift in cc))) is
       by_group Shift group = shifting o group promoted first is
       by_group Comparison group = comparing o group is
       by_group Logical group = absurd (evaluates group)
@@ -119,14 +121,18 @@ module _ (t : IntType) (r : Reg) (a b n : ℕ) (s : State) (given : Operands r a
 
 pub arithmetic-is_of : (o : BinaryOperator) (t : IntType) (a b n : ℕ) → group_of o ≡ Arithmetic → IsPromoted t → IsOf t a → IsOf t b →
     binary_value o t a b ≡ Some n → IsOf t n
-arithmetic-is_of binary.BitAnd t a b n group promoted first second is = subst (IsOf t) (some_same is) (and-is_of t a b promoted first second)
+arithmetic-is_of binary.BitAnd t a b n group promoted first second is = subst (IsOf t) (some_same is)
+    (and-is_of t a b promoted first second)
 arithmetic-is_of binary.BitOr t a b n group promoted first second is = subst (IsOf t) (some_same is) (or-is_of t a b promoted first second)
-arithmetic-is_of binary.BitXor t a b n group promoted first second is = subst (IsOf t) (some_same is) (xor-is_of t a b promoted first second)
+arithmetic-is_of binary.BitXor t a b n group promoted first second is = subst (IsOf t) (some_same is)
+    (xor-is_of t a b promoted first second)
 arithmetic-is_of binary.Multiply t a b n group promoted first second is = subst (IsOf t) (some_same is) (wrap-is_of t _)
 arithmetic-is_of binary.Add t a b n group promoted first second is = subst (IsOf t) (some_same is) (wrap-is_of t _)
 arithmetic-is_of binary.Subtract t a b n group promoted first second is = subst (IsOf t) (some_same is) (wrap-is_of t _)
-arithmetic-is_of binary.Divide t a b n group promoted first second is = subst (IsOf t) (divided_some (quotient t) a b n is).is (wrap-is_of t _)
-arithmetic-is_of binary.Remainder t a b n group promoted first second is = subst (IsOf t) (divided_some (remainder t) a b n is).is (wrap-is_of t _)
+arithmetic-is_of binary.Divide t a b n group promoted first second is = subst (IsOf t) (divided_some (quotient t) a b n is).is
+    (wrap-is_of t _)
+arithmetic-is_of binary.Remainder t a b n group promoted first second is = subst (IsOf t) (divided_some (remainder t) a b n is).is
+    (wrap-is_of t _)
 arithmetic-is_of _ t a b n group promoted first second is = absurd (cc)
 
 pub shifting-is_of : (o : BinaryOperator) (t : IntType) (a b n : ℕ) → group_of o ≡ Shift → IsPromoted t → IsOf t a →

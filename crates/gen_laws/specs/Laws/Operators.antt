@@ -50,7 +50,8 @@ combined-pointer structs o s t target r at some = rw some refl
 times_wrapped : (p k bytes : ℕ) → (p + k * (bytes % 2 ^ 64)) % 2 ^ 64 ≡ (p + k * bytes) % 2 ^ 64
 times_wrapped p k bytes = omega (arith, wrapping_mul-wrap_right 64 k bytes)
 
-module _ (structs : List StructInfo) (target : Ty) (r : Reg) (a b : ℕ) (s : State) (given : Operands r a b s) (room : s.pc + 20 < 2 ^ 64) where
+module _ (structs : List StructInfo) (target : Ty) (r : Reg) (a b : ℕ) (s : State) (given : Operands r a b s)
+    (room : s.pc + 20 < 2 ^ 64) where
   pub pointer_added : Computes (pointer_and_number binary.Add (wrapped_size structs target) r) r ((a + b * size structs target) % 2 ^ 64)
       (all_but scratch) s
   pointer_added = Computes-is (times_wrapped a b (size structs target))

@@ -57,7 +57,8 @@ element-few bytes (Some target) r = and_one scratch bytes (Madd true scratch lef
 stepped_by-few : (structs : List StructInfo) (step : Step) (t : Ty) (target : Option Ty) (r : Reg) →
     FewOf 5 (stepped_by structs step t target r)
 stepped_by-few structs step t None r = record { some = omega arith; most = omega (arith, wrap_into-few (int_in t) left) }
-stepped_by-few structs step t (Some target) r = and_one left (wrapped_size structs target) (operation_instr (if is_increment step then Add else Sub) true left r left)
+stepped_by-few structs step t (Some target) r = and_one left (wrapped_size structs target) (operation_instr
+    (if is_increment step then Add else Sub) true left r left)
 
 pub stepped-few : (structs : List StructInfo) (step : Step) (t : Ty) (r : Reg) → FewOf 5 (stepped structs step t r)
 stepped-few structs step t r = stepped_by-few structs step t (target_of t) r

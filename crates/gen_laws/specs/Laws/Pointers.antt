@@ -1,4 +1,5 @@
--- Pointers and numbers of objects (ISO C11 6.5.6, 6.5.8, 6.5.9): what the lists compute is what the meaning computes. A pointer's number is
+-- Pointers and numbers of objects (ISO C11 6.5.6, 6.5.8, 6.5.9): what the lists compute is what the meaning computes. A pointer's number
+-- is
 -- its offset behind a base, modulo 2^64.
 use Rattle.std.specs.Prelude.{◌≡◌, ℕ, ◌+◌, ◌*◌, ◌%◌, ◌^◌, ◌<◌, ◌≤◌, true, [], ◌∷◌, ◌++◌}
 use Rattle.std.proofs.Common.{arith, ap, ap₂, sym, ◌∙◌, inl, inr}
@@ -64,7 +65,8 @@ with_constant bytes instr pointer count into p n value s given fits room leads =
     (omega (arith, c.runs.pc, room, (few_moves scratch bytes).most))))
     (λ q other spared. spared)
   where
-    other : (q : ℕ) → q ≤ 16 → (c : Computes (constant_moves scratch bytes) scratch bytes (all_but scratch) s) → c.to.register q ≡ s.register q
+    other : (q : ℕ) → q ≤ 16 → (c : Computes (constant_moves scratch bytes) scratch bytes (all_but scratch) s) →
+        c.to.register q ≡ s.register q
     other q low c = c.registers q (λ same. absurd (omega (arith, same, low))) (λ same. absurd (omega (arith, same, low)))
 
 pub advance-computes : (bytes : ℕ) (pointer count into : Reg) (p n : ℕ) (s : State) → Counted pointer count into p n s → bytes < 2 ^ 64 →
@@ -72,7 +74,8 @@ pub advance-computes : (bytes : ℕ) (pointer count into : Reg) (p n : ℕ) (s :
 advance-computes bytes pointer count into p n s given fits room =
     with_constant bytes (Madd true scratch pointer count into) pointer count into p n ((p + n * bytes) % 2 ^ 64) s given fits room
     (λ t bytes_are pointer_is count_is.
-    multiplied_and_added true scratch pointer count into t (omega arith) (omega (arith, given.pointer_low)) (omega (arith, given.count_low))
+    multiplied_and_added true scratch pointer count into t (omega arith) (omega (arith, given.pointer_low)) (omega
+    (arith, given.count_low))
     (omega (arith, given.into_low))
     ∙ ap₂ (λ k m. Leads (puts_register into ((t.register pointer.0 + k * m) % 2 ^ 64) t)) count_is bytes_are
     ∙ ap (λ k. Leads (puts_register into ((k + n * bytes) % 2 ^ 64) t)) pointer_is)
@@ -92,7 +95,8 @@ pub retreat-computes : (bytes : ℕ) (pointer count into : Reg) (p n : ℕ) (s :
 retreat-computes bytes pointer count into p n s given count_fits fits room =
     with_constant bytes (Msub true scratch pointer count into) pointer count into p n ((p + negated n * bytes) % 2 ^ 64) s given fits room
     (λ t bytes_are pointer_is count_is.
-    multiplied_and_taken true scratch pointer count into t (omega arith) (omega (arith, given.pointer_low)) (omega (arith, given.count_low))
+    multiplied_and_taken true scratch pointer count into t (omega arith) (omega (arith, given.pointer_low)) (omega
+    (arith, given.count_low))
     (omega (arith, given.into_low))
     ∙ ap₂ (λ k m. Leads (puts_register into (wrapping_sub 64 (t.register pointer.0) (k * m)) t)) count_is bytes_are
     ∙ ap (λ k. Leads (puts_register into k t)) (ap (λ k. wrapping_sub 64 k (n * bytes)) pointer_is ∙ back p n bytes count_fits))

@@ -93,5 +93,6 @@ remaining-computes t r a b s promoted first second some given room =
     (Computes-again
     (instrs-compute (sign_of t) (is_wide t) r a b s given (some_at b t promoted second some) (omega (arith, room)))
     (λ c. Computes-fewer (λ q spared. tt)
-    (with_sign-computes t r (left_of t a b) c.to promoted (omega (arith, given.for_values.to)) c.holds (left-lt t a b promoted given.first_fits)
+    (with_sign-computes t r (left_of t a b) c.to promoted (omega (arith, given.for_values.to)) c.holds
+    (left-lt t a b promoted given.first_fits)
     (omega (arith, c.runs.pc, room)))))

@@ -52,7 +52,8 @@ shift_left-computes t r a b s promoted given room =
 
 -- ---- to the right, with zeros above
 
-right_zeros : (t : IntType) → is_signed t ≡ false → (a b : ℕ) → IsPromoted t → IsOf t a → wrap t (operated_as ShiftRight t a b) ≡ shifted_right t a b
+right_zeros : (t : IntType) → is_signed t ≡ false → (a b : ℕ) → IsPromoted t → IsOf t a →
+    wrap t (operated_as ShiftRight t a b) ≡ shifted_right t a b
 right_zeros int.UInt unsigned a b promoted is =
     rw (count, let e : a % 2 ^ 32 ≡ a = omega (arith, is) in e) (omega (arith, is, shr_le a (b % 32)))
   where
@@ -63,7 +64,8 @@ right_zeros _ unsigned a b promoted is = absurd (cc)
 
 -- ---- to the right, with the sign above: the signed number is divided and rounded down
 
-shifted_signed : (a d : ℕ) → a < 2 ^ 64 → from_signed 64 (shr_z (to_signed 64 a) d) ≡ (if leb (2 ^ 63) a then 2 ^ 64 - 1 - (2 ^ 64 - 1 - a) / d else a / d)
+shifted_signed : (a d : ℕ) → a < 2 ^ 64 → from_signed 64 (shr_z (to_signed 64 a) d) ≡ (if leb (2 ^ 63) a then 2 ^ 64 - 1 -
+    (2 ^ 64 - 1 - a) / d else a / d)
 shifted_signed a d fits = elim (cases_lt (a % 2 ^ 64) (2 ^ 63)) [
   | inl low ↦ rw (to_signed_low 64 a low) (grind (arith, nat_tests, div-le_self a d))
   | inr high ↦ rw (to_signed_high 64 a high) (grind (arith, nat_tests, div-le_self (2 ^ 64 - 1 - a) d))
@@ -85,7 +87,13 @@ right_signs int.Int signed a b promoted is =
     whole : to_signed 32 a ≡ to_signed 64 a
     whole = sym (to_signed-sign_extend 32 64 a (omega arith) (omega arith)) ∙ ap (to_signed 64) (wrap-extends int.Int a ∙ sym is)
 right_signs int.Long signed a b promoted is =
-    omega (arith, wrap-long (arithmetic_shift_right 64 a (b % 64)), arithmetic_shift_right-lt 64 a (b % 64), shifted_signed a (2 ^ (b % 64)) (IsOf-lt int.Long a is))
+    omega (
+      arith,
+      wrap-long (arithmetic_shift_right 64 a (b % 64)),
+      arithmetic_shift_right-lt 64 a (b % 64),
+      shifted_signed a (2 ^
+          (b % 64)) (IsOf-lt int.Long a is),
+    )
 right_signs _ signed a b promoted is = absurd (cc)
 
 -- ---- by the sign of the type

@@ -44,7 +44,8 @@ module _ (r : Reg) (b : ℕ) (s : State) (given : IsForValues r) (is : s.registe
   number_stepped-computes structs step t none room =
       rw none (Computes-again (Computes-put (number_stepped step r) left _ s (one_on (is_increment step)) (omega (arith, room)))
       (λ c. Computes-is (wrap-bits (int_in t) (b + by_one step))
-      (wrap-computes left ((b + by_one step) % 2 ^ 64) c.to (omega arith) c.holds (omega arith) (omega (arith, c.runs.pc, room)) (int_in t))))
+      (wrap-computes left ((b + by_one step) % 2 ^ 64) c.to (omega arith) c.holds (omega arith) (omega (arith, c.runs.pc, room))
+      (int_in t))))
 
   -- ---- pointers
 

@@ -48,7 +48,8 @@ apart base p q a b are = omega (arith, are.first, are.second, are.first_fits, ar
 
 -- of the numbers in two registers
 subtracted : (first second into : Reg) (a b : ℕ) (s : State) → first.0 < 31 → second.0 < 31 → into.0 < 31 → s.register first.0 ≡ a →
-    s.register second.0 ≡ b → s.pc + 4 < 2 ^ 64 → Computes (operation_instr Sub true second first into ∷ []) into (wrapping_sub 64 a b) all s
+    s.register second.0 ≡ b → s.pc + 4 < 2 ^ 64 → Computes (operation_instr Sub true second first into ∷ []) into
+    (wrapping_sub 64 a b) all s
 subtracted first second into a b s first_low second_low low first_is second_is room =
     Computes-put _ into (wrapping_sub 64 a b) s
     (operated Sub true second first into s second_low first_low low
@@ -62,9 +63,11 @@ pub objects_apart-computes : (bytes : ℕ) (r : Reg) (base : ℕ) (p q : Pointer
 objects_apart-computes bytes r base p q a b s are given fits room =
     Computes-again
     (Computes-fewer (λ q spared. tt) (Computes-is (apart base p q a b are)
-    (subtracted left r r a b s (omega arith) (omega (arith, given.for_values.to)) (omega (arith, given.for_values.to)) given.first given.second
+    (subtracted left r r a b s (omega arith) (omega (arith, given.for_values.to)) (omega
+    (arith, given.for_values.to)) given.first given.second
     (omega (arith, room)))))
-    (λ c. with_constant bytes (Sdiv true scratch r r) r r r (difference p q) (difference p q) (quotient int.Long (difference p q) bytes) c.to
+    (λ c. with_constant bytes (Sdiv true scratch r r) r r r (difference p q) (difference p q) (quotient int.Long
+    (difference p q) bytes) c.to
     (record {
       pointer_low = omega (arith, given.for_values.to);
       count_low = omega (arith, given.for_values.to);
@@ -84,7 +87,8 @@ differ : (first second : Reg) (rel : Relation) (r : Reg) (base : ℕ) (p q : Poi
     first.0 < 31 → second.0 < 31 → r.0 < 31 → s.register first.0 ≡ a → s.register second.0 ≡ b → s.pc + 12 < 2 ^ 64 →
     Computes (by_difference first second rel r) r (bit_of (holds rel 64 (difference p q) 0)) all s
 differ first second rel r base p q a b s are first_low second_low low first_is second_is room =
-    Computes-again (Computes-is (apart base p q a b are) (subtracted first second r a b s first_low second_low low first_is second_is (omega (arith, room))))
+    Computes-again (Computes-is (apart base p q a b are) (subtracted first second r a b s first_low second_low low first_is second_is
+    (omega (arith, room))))
     (λ c. Computes-is (ap (λ n. bit_of (holds rel 64 n 0)) c.holds)
     (Computes-comparison rel (WithNumber 0) r r c.to (omega arith) low low (omega (arith, c.holds)) (omega (arith, c.runs.pc, room))))
 
@@ -98,7 +102,8 @@ at_most p q first second = grind (arith, ints, nat_tests)
 same : (base : ℕ) (p q : Pointer) (a b : ℕ) → AreInOne base p q a b → bit_of (holds Equal 64 a b) ≡ truth (nat_eq p.offset q.offset)
 same base p q a b are = grind (arith, nat_tests, are.first, are.second, are.first_fits, are.second_fits)
 
-other : (base : ℕ) (p q : Pointer) (a b : ℕ) → AreInOne base p q a b → bit_of (holds Unequal 64 a b) ≡ truth (not (nat_eq p.offset q.offset))
+other : (base : ℕ) (p q : Pointer) (a b : ℕ) → AreInOne base p q a b →
+    bit_of (holds Unequal 64 a b) ≡ truth (not (nat_eq p.offset q.offset))
 other base p q a b are = grind (arith, nat_tests, are.first, are.second, are.first_fits, are.second_fits)
 
 -- a comparison within the block
