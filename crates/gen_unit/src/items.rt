@@ -104,8 +104,16 @@ fn push_item(
         SymItem::SlotAddress(slot, into) => {
             push_all(out, address(alloc, frame, *slot, *into)?.as_slice())
         }
-        SymItem::GlobalAddress(number, into) => push_object(out, CodeTarget::Global(*number), *into),
-        SymItem::ExternAddress(number, into) => push_object(out, CodeTarget::Extern(*number), *into),
+        SymItem::GlobalAddress(number, into) => push_object(
+            out,
+            CodeTarget::Global(*number),
+            *into,
+        ),
+        SymItem::ExternAddress(number, into) => push_object(
+            out,
+            CodeTarget::Extern(*number),
+            *into,
+        ),
         SymItem::TextAddress(number, into) => push_text(out, *number, *into),
         SymItem::CallFunction(number) => push_call(out, CodeTarget::Function(*number)),
         SymItem::CallExtern(number) => push_call(out, CodeTarget::Extern(*number)),

@@ -64,5 +64,9 @@ pub fn labels(
         note(&mut places, item, place)?;
         place = after(place, item_length(alloc, frame, long, item)?)?;
     }
-    Ok(Labels { places, end: place, long })
+    Ok(Labels {
+        places,
+        end: place,
+        long,
+    })
 }
