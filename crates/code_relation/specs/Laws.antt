@@ -12,6 +12,7 @@ pub mod Stored
 pub mod Slots
 pub mod Keeps
 pub mod Framed
+pub mod Registers
 pub mod Called
 pub mod Calling
 pub mod Placing
