@@ -8,10 +8,9 @@ pub mod Reading
 pub mod Changing
 pub mod Writing
 pub mod Storing
-pub mod Stored
-pub mod Slots
 pub mod Keeps
 pub mod Framed
+pub mod Registers
 pub mod Called
 pub mod Calling
 pub mod Placing
