@@ -33,8 +33,16 @@ Lies-at first last lies = record {
 -- as few temps are enough as a part of the code needs
 pub IsFree-less : {k : Scene} {needs first : ℕ} {reg : Reg} (fewer : ℕ) → fewer ≤ needs → IsFree k needs first reg →
     IsFree k fewer first reg
-IsFree-less fewer less free = record { low = free.low; high = free.high; temps = omega (arith, free.temps, less); near = omega (arith,
-    free.near, less) }
+IsFree-less fewer less free = record {
+  low = free.low;
+  high = free.high;
+  temps = omega (arith, free.temps, less);
+  near = omega (
+    arith,
+    free.near,
+    less,
+  );
+}
 
 -- the address of a label, which is no instruction
 pub record IsLabel (k : Scene) (n from to : ℕ) : Type 0 where

@@ -91,7 +91,7 @@ pub Goes-undefined : {A : Type 0} {k : Scene} {first : ℕ} {reg : Reg} {alone :
     {owes spare : ℕ} {run : Run A} {now : MeaningState} {t : State} (u : Undefined) → run now ≡ Stops (IsUndefined u) now →
     u.access ≡ None →
     k.code.Inside t → On k first reg alone s at a owes spare now t → owes ≤ 1 → 1 ≤ spare →
-        Goes k first reg alone result s to leaves a run now t
+    Goes k first reg alone result s to leaves a run now t
 Goes-undefined {k = k} {first} {reg} {alone} {result} {s} {to} {leaves} {a = a} {now = now} {t} u is none inside on pays enough = record {
   bounded = subst (λ r. Bounded (setting k.code) a (λ v. sparing leaves) t (Gave k first reg alone result s to) (outcome_of r)) (sym is)
       (finishes (record { least = omega (arith, on.least, pays); most = omega (arith, on.most, enough) })

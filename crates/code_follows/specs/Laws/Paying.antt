@@ -1,5 +1,5 @@
 -- A part whose unit of work a NOP pays for (this project's own).
-use Rattle.std.specs.Prelude.{◌≡◌, ℕ, ◌+◌, ◌≤◌, Bool, [], ◌∷◌, refl}
+use Rattle.std.specs.Prelude.{ℕ, ◌≤◌, Bool, [], ◌∷◌, refl}
 use Rattle.std.proofs.Common.{arith, ap, sym, subst}
 use Rattle.a64_code.specs.declared.instr.Instr.TheVariants.{Nop}
 use Rattle.block_meaning.specs.declared.value.Pointer.{Pointer}
@@ -26,7 +26,8 @@ pub Part-paid : {A B : Type 0} {k : Scene} {emits : Emits} {needs more : ℕ} {a
     {run : Run A} (leaves : ℕ) (f : A → B) → IsScene k → leaves ≤ 90 →
     ((x : A) (now : MeaningState) (n : ℕ) → result x now n → other (f x) (spent now) n) → Part k emits needs more alone result run →
     Part k (λ t r. in_turn (emits t r ∷ plain (Nop ∷ []) ∷ [])) needs leaves alone other (and_then run (λ x. unit_gives (f x)))
-Part-paid {emits = emits} {alone = alone} {other = other} leaves f scene fits gives part = Part-by (λ first reg from to free lies a now s on.
+Part-paid {emits = emits} {alone = alone} {other = other} leaves f scene fits gives part = Part-by
+    (λ first reg from to free lies a now s on.
     let parts = Lies-turn (emits first reg) (plain (Nop ∷ []) ∷ []) lies in
     let rest = Lies-turn (plain (Nop ∷ [])) [] parts.back in
     Goes-part (part.yields first reg from parts.middle free parts.front) (omega arith) (λ is. (refl, is)) (pays-some scene) on

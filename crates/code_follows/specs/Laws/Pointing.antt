@@ -102,8 +102,10 @@ module _ {k : Scene} (locals : LocalsLie k) {now : MeaningState} {s : State} (re
 
       by_kind : (kind : Kind) → b.kind ≡ kind → LiesAbove (site_of g now number b) b.size
       by_kind NullBlock is =
-          let none : number ≡ 0 = injects.stands.null_alone number b lives.is is in absurd (let e : false ≡ true = grind (arith,
-              nat_tests) in cc)
+          let none : number ≡ 0 = injects.stands.null_alone number b lives.is is in absurd (let e : false ≡ true = grind (
+            arith,
+            nat_tests,
+          ) in cc)
       by_kind (Local call local) is = locals.lie now s number b call local relates lives is
       by_kind (Global unit i) is = at (Global unit i) is (of_file (Global unit i) is refl)
       by_kind (Text unit i) is = at (Text unit i) is (of_file (Text unit i) is refl)

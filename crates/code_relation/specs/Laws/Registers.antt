@@ -1,5 +1,5 @@
 -- A register other than X28 gets a number: the relation holds on (this project's own).
-use Rattle.std.specs.Prelude.{◌≡◌, ◌≢◌, ℕ, List, refl}
+use Rattle.std.specs.Prelude.{◌≢◌, ℕ, List, refl}
 use Rattle.std.proofs.lemmas.Bool.{ne_eqb}
 use Rattle.c_type_base.specs.declared.typed.Typed.{Typed}
 use Rattle.a64_code.specs.declared.instr.Reg.{Reg}

@@ -76,7 +76,7 @@ module _ (k : Scene) (scene : IsScene k) (depth : ℕ) (t : Ty) (e : TExpr) (fol
       let n : ℕ = s.register reg.0 in
       let puts : Computes (convert e.ty t reg) reg (converted_number (int_of e.ty) (out-Ty t) n) all s =
       convert-computes reg n s (omega (arith, given.high)) refl (ValueIs-lt e.ty v n (Converts-scalar types) given.is)
-          (omega (arith, given.room))
+      (omega (arith, given.room))
       e.ty t (ValueIs-some e.ty v n given.is) in
       record {
         number = converted_number (int_of e.ty) (out-Ty t) n;

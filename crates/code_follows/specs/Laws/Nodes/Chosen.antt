@@ -86,7 +86,7 @@ module _ (k : Scene) (scene : IsScene k) (pointers : PointersTrue k) (depth : 鈩
       Goes-choice (not (nat_eq (u.register reg.0) 0))
       (位 yes.
       Goes-jump 14 (on_other_jump both.branch (omega (arith, free.high)) u (IsAt-on on)
-          (true_number (u.register reg.0) yes)) on (omega arith)
+      (true_number (u.register reg.0) yes)) on (omega arith)
       (omega (arith, enough)) (位 there.
       Goes-same (and_then-gives (value a) now)
       (Goes-part ((one.around a.span).part.yields first reg both.start both.end (IsFree-less (need a) (le_left (need a)
@@ -96,7 +96,7 @@ module _ (k : Scene) (scene : IsScene k) (pointers : PointersTrue k) (depth : 鈩
       (位 done. Goes-done v done (omega arith) (typed one_is gave.result_is))))))
       (位 no.
       Goes-jump 14 (on_zero_jump both.branch (omega (arith, free.high)) u (IsAt-on on)
-          (false_number (u.register reg.0) no)) on (omega arith)
+      (false_number (u.register reg.0) no)) on (omega arith)
       (omega (arith, enough)) (位 there.
       Goes-same (and_then-gives (value b) now)
       (Goes-part ((other.around b.span).part.yields first reg both.other to (IsFree-less (need b) (le_right (need a)

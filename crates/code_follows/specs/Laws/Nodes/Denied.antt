@@ -59,7 +59,7 @@ denied_follows k scene pointers depth e follows scalar = record {
     by_truth : (reg : Reg) (v : Value) (now : MeaningState) (s : State) → Operand k (ValueIs (given_in k) e.ty) reg v now s →
         TruthIs k.here e.span v (s.register reg.0) now →
         Does (ValueIs (given_in k) int_type) (is_zero reg) reg (and_then (is_true k.here e.span v)
-            (λ b. gives (number_of_truth (not b)))) now s
+        (λ b. gives (number_of_truth (not b)))) now s
     by_truth reg v now s given (known is) =
         let zero : Bool = nat_eq (s.register reg.0) 0 in
         computes_it (number_of_truth (not (not zero))) (truth (not (not zero)))

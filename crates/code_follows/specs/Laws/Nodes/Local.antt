@@ -2,9 +2,7 @@
 use Rattle.std.specs.Prelude.{ℕ, true, false, refl}
 use Rattle.c_type_base.specs.declared.expr.TNode.TheOpen.{TNode-F}
 use Rattle.c_type_base.specs.declared.ty.Ty.{Ty}
-use Rattle.a64_code.specs.declared.instr.Reg.{Reg}
 use Rattle.block_meaning.specs.Expressions.{starts}
-use Rattle.block_meaning.specs.Running.{Context}
 use Rattle.sym_code.specs.declared.item.SymItem.TheVariants as item
 use Rattle.gen_base.specs.Code.{only}
 use Rattle.code_follows.specs.Leaves.{place_leaves}

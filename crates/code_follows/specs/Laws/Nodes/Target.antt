@@ -7,16 +7,15 @@ use Rattle.c_type_base.specs.declared.expr.TExpr.{TExpr}
 use Rattle.c_type_base.specs.declared.expr.TNode.TheOpen.{TNode-F}
 use Rattle.c_type_base.specs.declared.ty.Ty.{Ty, out-Ty}
 use Rattle.c_type_base.specs.declared.ty.Ty.TheOpen.{Ty-F}
-use Rattle.block_meaning.specs.declared.value.Pointer.{Pointer}
 use Rattle.block_meaning.specs.declared.value.Value.{Value}
 use Rattle.block_meaning.specs.declared.value.Value.TheVariants.{Address}
 use Rattle.block_meaning.specs.Running.{Result as Result', Goes, Stops, Run, gives, goes_on, unit_gives, and_then, State as MeaningState}
 use Rattle.block_meaning.specs.Values.{pointer_in}
 use Rattle.code_relation.specs.Numbers.{IsNumber, Holds}
 use Rattle.code_relation.specs.Sites.{Given}
-use Rattle.code_follows.specs.Leaves.{bare_leaves, place_leaves}
-use Rattle.code_follows.specs.Parts.{owed, Part, ValueFollows, PlaceNode, coded_in}
-use Rattle.code_follows.specs.Scene.{Scene, IsScene, given_in}
+use Rattle.code_follows.specs.Leaves.{place_leaves}
+use Rattle.code_follows.specs.Parts.{owed, ValueFollows, PlaceNode}
+use Rattle.code_follows.specs.Scene.{Scene, IsScene}
 use Rattle.code_follows.specs.Values.{IsOfLevel, ValueIs, PlaceIs}
 use Rattle.code_follows.specs.Laws.Coming.{pays-some}
 use Rattle.code_follows.specs.Laws.Going.{Goes-part, Goes-done, Part-by}
