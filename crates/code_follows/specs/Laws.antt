@@ -14,6 +14,7 @@ pub mod Operand
 pub mod Truth
 pub mod Jumping
 pub mod Pointing
+pub mod LocalSites
 pub mod Paying
 pub mod Nodes
 pub mod Whole

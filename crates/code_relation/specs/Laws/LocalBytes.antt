@@ -52,6 +52,7 @@ module _ {g : Given} {here : Context} {now : MeaningState} {s : State} (injects 
     pub of : Call
     pub of_is : slice_get now.calls call ≡ Some of
     pub slot : Slot
+    pub site_is : site_of g now number b ≡ site_of_slot g now.calls of (Some slot)
     pub start_is : (site_of g now number b).start ≡ lowest of + slot.start
     pub behind : IsBehindWords (frame_of (units_of g) of.function) slot
     pub holds : b.size ≤ slot.bytes
@@ -67,12 +68,15 @@ module _ {g : Given} {here : Context} {now : MeaningState} {s : State} (injects 
       (slice_get (frame (structs_of (units_of g) c.function.unit) l.function).slots k) =
       slot_of_local (structs_of (units_of g) c.function.unit) l.function k l.info l.info_is in
       let slot_is : slot_in g c k ≡ Some has.slot = ap (λ (f : Frame). slice_get f.slots k) frame_same ∙ has.is in
+      let site_same : site_of g now number b ≡ site_of_slot g now.calls c (Some has.slot) =
+      ap (λ kind. site_by g now.calls kind number) kind_is ∙ ap (λ o. site_of_local g now.calls o k) l.call_is
+      ∙ ap (λ o. site_of_slot g now.calls c o) slot_is in
       record {
         of = c;
         of_is = l.call_is;
         slot = has.slot;
-        start_is = ap (λ kind. (site_by g now.calls kind number).start) kind_is
-            ∙ ap (λ o. (site_of_local g now.calls o k).start) l.call_is ∙ ap (λ o. (site_of_slot g now.calls c o).start) slot_is;
+        site_is = site_same;
+        start_is = ap (λ y. y.start) site_same;
         behind = subst (λ f. IsBehindWords f has.slot) (sym frame_same)
             (slot_behind (structs_of (units_of g) c.function.unit)
             (laid_out g.program order c.function l.function l.function_is) l.function k has.slot has.is);
