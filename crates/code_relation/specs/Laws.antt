@@ -19,3 +19,5 @@ pub mod Untouched
 pub mod LocalBytes
 pub mod StoredBytes
 pub mod Stores
+pub mod TempBytes
+pub mod WholeFrames
