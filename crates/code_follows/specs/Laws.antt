@@ -8,6 +8,7 @@ pub mod Computing
 pub mod Converting
 pub mod Stack
 pub mod Waiting
+pub mod Temps
 pub mod Addresses
 pub mod Scalars
 pub mod Operand
