@@ -17,5 +17,6 @@ pub mod Jumping
 pub mod Pointing
 pub mod LocalSites
 pub mod Paying
+pub mod Dividing
 pub mod Nodes
 pub mod Whole
