@@ -7,7 +7,9 @@ pub mod Cast
 pub mod Signed
 pub mod Integers
 pub mod Operated
+pub mod Divided
 pub mod OnIntegers
+pub mod TwoIntegers
 pub mod Local
 pub mod Decay
 pub mod Denied
