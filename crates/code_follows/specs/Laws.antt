@@ -1,6 +1,8 @@
 pub mod Layers
 pub mod Lying
 pub mod Walking
+pub mod Lasting
+pub mod Keeping
 pub mod Coming
 pub mod Going
 pub mod Here
