@@ -18,5 +18,7 @@ pub mod Jumping
 pub mod Pointing
 pub mod LocalSites
 pub mod Paying
+pub mod Operands
+pub mod Moving
 pub mod Nodes
 pub mod Whole
