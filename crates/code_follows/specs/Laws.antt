@@ -1,6 +1,8 @@
 pub mod Layers
 pub mod Lying
 pub mod Walking
+pub mod Lasting
+pub mod Keeping
 pub mod Coming
 pub mod Going
 pub mod Here
@@ -18,5 +20,7 @@ pub mod Pointing
 pub mod LocalSites
 pub mod Paying
 pub mod Dividing
+pub mod Operands
+pub mod Moving
 pub mod Nodes
 pub mod Whole

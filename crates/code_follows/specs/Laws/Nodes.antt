@@ -17,3 +17,4 @@ pub mod Chosen
 pub mod Logical
 pub mod Address
 pub mod Target
+pub mod Element
