@@ -10,6 +10,7 @@ pub mod Operated
 pub mod Divided
 pub mod OnIntegers
 pub mod TwoIntegers
+pub mod Both
 pub mod Local
 pub mod Decay
 pub mod Denied

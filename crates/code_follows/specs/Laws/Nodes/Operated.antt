@@ -55,7 +55,7 @@ plain_code structs binary.And a b t r other = absurd (other refl)
 plain_code structs binary.Or a b t r other = absurd (other refl)
 plain_code structs _ a b t r other = refl
 
-plain_need : (o : BinaryOperator) (a b : ℕ) → group_of o ≢ Logical → both o a b ≡ waiting a b
+pub plain_need : (o : BinaryOperator) (a b : ℕ) → group_of o ≢ Logical → both o a b ≡ waiting a b
 plain_need binary.And a b other = absurd (other refl)
 plain_need binary.Or a b other = absurd (other refl)
 plain_need _ a b other = refl
