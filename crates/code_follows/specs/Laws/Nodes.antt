@@ -10,7 +10,6 @@ pub mod Operated
 pub mod Divided
 pub mod OnIntegers
 pub mod TwoIntegers
-pub mod Both
 pub mod Local
 pub mod Decay
 pub mod Denied
@@ -19,3 +18,5 @@ pub mod Logical
 pub mod Address
 pub mod Target
 pub mod Element
+pub mod Both
+pub mod PointerSteps
