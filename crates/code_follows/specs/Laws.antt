@@ -17,6 +17,7 @@ pub mod Truth
 pub mod Jumping
 pub mod Pointing
 pub mod LocalSites
+pub mod Differing
 pub mod Paying
 pub mod Operands
 pub mod Moving
