@@ -18,6 +18,7 @@ pub mod Truth
 pub mod Jumping
 pub mod Pointing
 pub mod LocalSites
+pub mod Differing
 pub mod Paying
 pub mod Dividing
 pub mod Operands
