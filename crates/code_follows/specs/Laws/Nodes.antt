@@ -20,3 +20,4 @@ pub mod Target
 pub mod Element
 pub mod Both
 pub mod PointerSteps
+pub mod PointersApart
