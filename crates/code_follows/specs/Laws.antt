@@ -21,5 +21,6 @@ pub mod Differing
 pub mod Paying
 pub mod Operands
 pub mod Moving
+pub mod PointerValues
 pub mod Nodes
 pub mod Whole

@@ -16,3 +16,5 @@ pub mod Logical
 pub mod Address
 pub mod Target
 pub mod Element
+pub mod OnPointers
+pub mod OnTwoPointers
