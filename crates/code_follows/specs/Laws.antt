@@ -23,5 +23,6 @@ pub mod Paying
 pub mod Dividing
 pub mod Operands
 pub mod Moving
+pub mod PointerValues
 pub mod Nodes
 pub mod Whole

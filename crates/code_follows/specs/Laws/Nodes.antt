@@ -21,3 +21,5 @@ pub mod Element
 pub mod Both
 pub mod PointerSteps
 pub mod PointersApart
+pub mod OnPointers
+pub mod OnTwoPointers

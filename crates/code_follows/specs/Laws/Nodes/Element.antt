@@ -38,37 +38,14 @@ use Rattle.code_follows.specs.Laws.Computing.{are_quiet-append, constant_quiet}
 use Rattle.code_follows.specs.Laws.Here.{structs_here, PlacePart-paid}
 use Rattle.code_follows.specs.Laws.Keeping.{value_lasts}
 use Rattle.code_follows.specs.Laws.Layers.{coded-ty}
-use Rattle.code_follows.specs.Laws.Moving.{IsNumber-moved, by_objects}
+use Rattle.code_follows.specs.Laws.Moving.{moves_on}
 use Rattle.code_follows.specs.Laws.Nodes.Integers.{IntegerIs, ValueIs-integer, target-none}
 use Rattle.code_follows.specs.Laws.Nodes.Operated.{value_part}
 use Rattle.code_follows.specs.Laws.Operand.{Listed, ValueIs-spent}
 use Rattle.code_follows.specs.Laws.Operands.{DoesBoth, computes_it, operands_part}
+use Rattle.code_follows.specs.Laws.PointerValues.{AddressIs, ValueIs-address, size_here}
 use Rattle.code_follows.specs.Laws.Waiting.{values_last}
 use Rattle.code_follows.specs.Laws.Walking.{are_quiet}
-
--- ---- pointers
-
--- a value is a pointer, and this is its number
-pub record AddressIs (g : Given) (v : Value) (now : MeaningState) (n : ℕ) : Type 0 where
-  pub pointer : Pointer
-  pub is : v ≡ Address pointer
-  pub number : IsNumber g now pointer n
-
-level_address : (g : Given) (now : MeaningState) (l : TyLayer) (t : Ty) (v : Value) (n : ℕ) → target_of_level l ≡ Some t →
-    IsOfLevel l v → Holds g now v n → AddressIs g v now n
-level_address g now (Ty-F.Pointer u) t (Address p) n is of holds = record { pointer = p; is = refl; number = holds }
-level_address g now (Ty-F.Pointer u) t _ n is of holds = absurd of
-level_address g now _ t v n is of holds = absurd (cc)
-
-pub ValueIs-address : {g : Given} {now : MeaningState} {s t : Ty} {v : Value} {n : ℕ} → target_of s ≡ Some t → ValueIs g s v now n →
-    AddressIs g v now n
-ValueIs-address {g} {now} {s} {t} {v} {n} is value = level_address g now (out-Ty s) t v n is value.of value.holds
-
--- so many objects of a size on
-pub moves_on : {g : Given} {now : MeaningState} {p : Pointer} {n : ℕ} (count bytes : ℕ) → IsNumber g now p n →
-    IsNumber g now (moved p (count * bytes)) ((n + count * (bytes % 2 ^ 64)) % 2 ^ 64)
-moves_on {g} {now} {p} {n} count bytes is =
-    subst (λ (m : ℕ). IsNumber g now (moved p (count * bytes)) m) (sym (by_objects n count bytes)) (IsNumber-moved (count * bytes) is)
 
 -- ---- the list
 
@@ -85,28 +62,20 @@ element_listed bytes target reg = record {
         are_quiet-append (constant_moves scratch bytes) (Madd true scratch left reg reg ∷ []) (constant_quiet scratch bytes) refl
 
 module _ {k : Scene} (scene : IsScene k) (t : Ty) where
-  sized : ℕ
-  sized = size (structs_in k) t
-
-  size_here : {now : MeaningState} {s : State} → Relates (given_in k) k.here now s → bytes_of k.here t ≡ sized
-  unfolding sized
-  size_here relates = ap (λ structs. size structs t) (structs_here scene relates)
-
   -- the pointer comes first
   element_does : (s u : Ty) → target_of s ≡ Some t → is_integer u ≡ true →
       DoesBoth k (ValueIs (given_in k) s) (ValueIs (given_in k) u) (PlaceIs (given_in k)) (element (wrapped_size (structs_in k) t) (Some t))
       (λ v w. gives (element_at (bytes_of k.here t) v w))
-  unfolding sized
   element_does s u of integer = record {
     list = λ reg. element_listed (wrapped_size (structs_in k) t) (Some t) reg;
     does = λ reg v w now m both.
         let one = ValueIs-address {s = s} of both.first in
         let count : ℕ = m.register reg.0 in
         let two : IntegerIs (int_in u) w count = ValueIs-integer u w count integer both.second in
-        computes_it (moved one.pointer (count * sized)) ((m.register 16 + count * wrapped_size (structs_in k) t) % 2 ^ 64)
+        computes_it (moved one.pointer (count * size (structs_in k) t)) ((m.register 16 + count * wrapped_size (structs_in k) t) % 2 ^ 64)
         (ap (λ x. gives (element_at (bytes_of k.here t) x w) now) one.is
         ∙ ap (λ x. gives (element_at (bytes_of k.here t) (Address one.pointer) x) now) two.is
-        ∙ ap (λ bytes. gives (moved one.pointer (count * bytes)) now) (size_here both.relates))
+        ∙ ap (λ bytes. gives (moved one.pointer (count * bytes)) now) (size_here scene t both.relates))
         (advance-computes (wrapped_size (structs_in k) t) left reg reg (m.register 16) count m (record {
           pointer_low = omega arith;
           count_low = omega (arith, both.high);
@@ -114,24 +83,23 @@ module _ {k : Scene} (scene : IsScene k) (t : Ty) where
           pointer_is = refl;
           count_is = refl;
         }) (omega arith) (omega (arith, both.room)))
-        (record { is = moves_on count sized one.number });
+        (record { is = moves_on count (size (structs_in k) t) one.number });
   }
 
   -- the pointer comes second
   second_does : (s u : Ty) → is_integer s ≡ true → target_of u ≡ Some t →
       DoesBoth k (ValueIs (given_in k) s) (ValueIs (given_in k) u) (PlaceIs (given_in k)) (element (wrapped_size (structs_in k) t) None)
       (λ v w. gives (element_at (bytes_of k.here t) v w))
-  unfolding sized
   second_does s u integer of = record {
     list = λ reg. element_listed (wrapped_size (structs_in k) t) None reg;
     does = λ reg v w now m both.
         let count : ℕ = m.register 16 in
         let one : IntegerIs (int_in s) v count = ValueIs-integer s v count integer both.first in
         let two = ValueIs-address {s = u} of both.second in
-        computes_it (moved two.pointer (count * sized)) ((m.register reg.0 + count * wrapped_size (structs_in k) t) % 2 ^ 64)
+        computes_it (moved two.pointer (count * size (structs_in k) t)) ((m.register reg.0 + count * wrapped_size (structs_in k) t) % 2 ^ 64)
         (ap (λ x. gives (element_at (bytes_of k.here t) x w) now) one.is
         ∙ ap (λ x. gives (element_at (bytes_of k.here t) (Number count) x) now) two.is
-        ∙ ap (λ bytes. gives (moved two.pointer (count * bytes)) now) (size_here both.relates))
+        ∙ ap (λ bytes. gives (moved two.pointer (count * bytes)) now) (size_here scene t both.relates))
         (advance-computes (wrapped_size (structs_in k) t) reg left reg (m.register reg.0) count m (record {
           pointer_low = omega (arith, both.high);
           count_low = omega arith;
@@ -139,7 +107,7 @@ module _ {k : Scene} (scene : IsScene k) (t : Ty) where
           pointer_is = refl;
           count_is = refl;
         }) (omega arith) (omega (arith, both.room)))
-        (record { is = moves_on count sized two.number });
+        (record { is = moves_on count (size (structs_in k) t) two.number });
   }
 
   -- an index by what is known of the first operand's type
