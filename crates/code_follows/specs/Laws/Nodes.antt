@@ -18,3 +18,4 @@ pub mod Target
 pub mod Element
 pub mod OnPointers
 pub mod OnTwoPointers
+pub mod PointersOperated

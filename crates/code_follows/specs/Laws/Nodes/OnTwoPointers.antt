@@ -1,7 +1,7 @@
 -- What the lists of operators on two pointers do (ISO C11 6.5.6, 6.5.8, 6.5.9), with both in registers.
-use Rattle.std.specs.Prelude.{◌≡◌, ℕ, ◌+◌, ◌*◌, ◌%◌, ◌^◌, ◌<◌, Bool, true, false, nat_eq, not, slice_get, Option, Some, None, [], ◌∷◌, refl}
+use Rattle.std.specs.Prelude.{◌≡◌, ℕ, ◌+◌, ◌*◌, ◌^◌, ◌<◌, Bool, true, false, nat_eq, not, slice_get, Option, Some, None, [], ◌∷◌, refl}
 use Rattle.std.specs.Prelude.{if◌then◌else◌}
-use Rattle.std.proofs.Common.{arith, ap, sym, subst, ◌∙◌}
+use Rattle.std.proofs.Common.{arith, ap, sym, ◌∙◌}
 use Rattle.std.proofs.lemmas.Bool.{eqb-true}
 use Rattle.c_ast.specs.declared.int_type.IntType.TheVariants as int
 use Rattle.c_ast.specs.declared.operator.BinaryOperator.{BinaryOperator}
@@ -31,7 +31,7 @@ use Rattle.code_relation.specs.Relates.{Relates}
 use Rattle.code_relation.specs.Sites.{Given, Site, site_by, site_of}
 use Rattle.gen_base.specs.Operators.{wrapped_size}
 use Rattle.gen_base.specs.Pointers.{on_two_pointers}
-use Rattle.gen_base.specs.Registers.{left, scratch}
+use Rattle.gen_base.specs.Registers.{scratch}
 use Rattle.gen_laws.specs.Computes.{IsOf, Computes, Operands, all_but}
 use Rattle.gen_laws.specs.Laws.Computing.{Computes-is, Computes-fewer}
 use Rattle.gen_laws.specs.Laws.Numbers.{some_same, wrap-is_of}
