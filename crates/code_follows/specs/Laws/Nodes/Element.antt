@@ -57,7 +57,8 @@ element_listed bytes target reg = record {
 module _ {k : Scene} (scene : IsScene k) (t : Ty) where
   -- the pointer comes first
   element_does : (s u : Ty) → target_of s ≡ Some t → is_integer u ≡ true →
-      DoesBoth k (ValueIs (given_in k) s) (ValueIs (given_in k) u) (PlaceIs (given_in k)) (element (wrapped_size (structs_in k) t) (Some t))
+      DoesBoth k (ValueIs (given_in k) s) (ValueIs (given_in k) u) (PlaceIs (given_in k))
+      (element (wrapped_size (structs_in k) t) (Some t))
       (λ v w. gives (element_at (bytes_of k.here t) v w))
   element_does s u of integer = record {
     list = λ reg. element_listed (wrapped_size (structs_in k) t) (Some t) reg;
@@ -89,7 +90,8 @@ module _ {k : Scene} (scene : IsScene k) (t : Ty) where
         let count : ℕ = m.register 16 in
         let one : IntegerIs (int_in s) v count = ValueIs-integer s v count integer both.first in
         let two = ValueIs-address {s = u} of both.second in
-        computes_it (moved two.pointer (count * size (structs_in k) t)) ((m.register reg.0 + count * wrapped_size (structs_in k) t) % 2 ^ 64)
+        computes_it (moved two.pointer (count * size (structs_in k) t))
+        ((m.register reg.0 + count * wrapped_size (structs_in k) t) % 2 ^ 64)
         (ap (λ x. gives (element_at (bytes_of k.here t) x w) now) one.is
         ∙ ap (λ x. gives (element_at (bytes_of k.here t) (Number count) x) now) two.is
         ∙ ap (λ bytes. gives (moved two.pointer (count * bytes)) now) (size_here scene t both.relates))
@@ -107,7 +109,8 @@ module _ {k : Scene} (scene : IsScene k) (t : Ty) where
   index_follows : WaitingLaws k → (depth : ℕ) (a i : TExpr) (target : Option Ty) → ValueFollows k depth a → ValueFollows k depth i →
       target_of a.ty ≡ target →
       DoesBoth k (ValueIs (given_in k) a.ty) (ValueIs (given_in k) i.ty) (PlaceIs (given_in k))
-      (element (wrapped_size (structs_in k) t) target) (λ v w. gives (element_at (bytes_of k.here t) v w)) → PlaceNode k depth t (TNode-F.Index a i)
+      (element (wrapped_size (structs_in k) t) target) (λ v w. gives (element_at (bytes_of k.here t) v w)) →
+      PlaceNode k depth t (TNode-F.Index a i)
   index_follows waits depth a i target first second target_is does =
       let whole = operands_part place_leaves (coded_in k a).value (coded_in k i) (omega arith) scene waits (value_part a first)
       (value_part i second) (value_lasts k.bound k.here depth i.span i) (values_last k a.ty) (λ v now n is. ValueIs-spent is)
