@@ -23,3 +23,4 @@ pub mod PointerSteps
 pub mod PointersApart
 pub mod OnPointers
 pub mod OnTwoPointers
+pub mod PointersOperated

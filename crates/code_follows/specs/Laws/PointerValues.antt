@@ -16,7 +16,7 @@ use Rattle.code_relation.specs.Numbers.{IsNumber, Holds}
 use Rattle.code_relation.specs.Relates.{Relates}
 use Rattle.code_relation.specs.Sites.{Given}
 use Rattle.code_follows.specs.Scene.{Scene, IsScene, given_in, structs_in}
-use Rattle.code_follows.specs.Values.{IsOfLevel, IsOfType, ValueIs}
+use Rattle.code_follows.specs.Values.{IsOfLevel, ValueIs}
 use Rattle.code_follows.specs.Laws.Here.{structs_here}
 
 -- a value is a pointer, and this is its number

@@ -1,33 +1,26 @@
 -- What the lists of operators on pointers do (ISO C11 6.5.6, 6.5.8, 6.5.9), with both operands in registers.
-use Rattle.std.specs.Prelude.{◌≡◌, ℕ, ◌+◌, ◌*◌, ◌%◌, ◌^◌, ◌<◌, Bool, true, false, nat_eq, List, [], ◌∷◌, ◌++◌, Some, None, refl, if◌then◌else◌}
-use Rattle.std.proofs.Common.{arith, ap, ap₂, sym, subst, ◌∙◌}
-use Rattle.std.proofs.lemmas.Bool.{eqb-true}
-use Rattle.c_ast.specs.declared.int_type.IntType.TheVariants as int
-use Rattle.c_ast.specs.declared.operator.BinaryOperator.{BinaryOperator}
+use Rattle.std.specs.Prelude.{◌≡◌, ℕ, ◌+◌, ◌*◌, ◌%◌, ◌^◌, true, [], ◌∷◌, ◌++◌, Some, refl}
+use Rattle.std.proofs.Common.{arith, ap, ◌∙◌}
 use Rattle.c_ast.specs.declared.operator.BinaryOperator.TheVariants as binary
 use Rattle.c_ast.specs.declared.token.Span.{Span}
-use Rattle.c_type_base.specs.Arithmetic.{negated, quotient, truth}
-use Rattle.c_type_base.specs.Laws.Opened.{given_types}
+use Rattle.c_type_base.specs.Arithmetic.{negated}
 use Rattle.c_type_base.specs.Sizes.{size}
 use Rattle.c_type_base.specs.Types.{is_integer, target_of}
 use Rattle.c_type_base.specs.declared.ty.Ty.{Ty}
-use Rattle.c_type_base.specs.declared.ty.Ty.TheVariants as ty
 use Rattle.a64_code.specs.declared.instr.Instr.{Instr}
-use Rattle.a64_code.specs.declared.instr.Instr.TheVariants.{Madd, Msub, Sdiv}
+use Rattle.a64_code.specs.declared.instr.Instr.TheVariants.{Madd, Msub}
 use Rattle.a64_code.specs.declared.instr.Reg.{Reg}
 use Rattle.a64_code.specs.State.{State}
 use Rattle.a64_laws.specs.Constants.{constant_moves}
 use Rattle.block_meaning.specs.Blocks.{moved}
-use Rattle.block_meaning.specs.ExpressionsInOrder.{Comparison, group_of, int_type}
 use Rattle.block_meaning.specs.Operators.{operand, operated, int_in, on_values}
 use Rattle.block_meaning.specs.Running.{gives, State as MeaningState}
-use Rattle.block_meaning.specs.declared.value.Value.{Value}
 use Rattle.block_meaning.specs.declared.value.Value.TheVariants.{Number, Address}
 use Rattle.gen_base.specs.Operators.{wrapped_size}
-use Rattle.gen_base.specs.Pointers.{pointer_and_number, number_and_pointer, on_two_pointers}
+use Rattle.gen_base.specs.Pointers.{pointer_and_number, number_and_pointer}
 use Rattle.gen_base.specs.Registers.{left, scratch}
-use Rattle.gen_laws.specs.Computes.{Computes, Operands, all_but}
-use Rattle.gen_laws.specs.Laws.PointerLengths.{pointer_and_number-few, number_and_pointer-few, on_two_pointers-few}
+use Rattle.gen_laws.specs.Computes.{Operands}
+use Rattle.gen_laws.specs.Laws.PointerLengths.{pointer_and_number-few, number_and_pointer-few}
 use Rattle.gen_laws.specs.Laws.Pointers.{add_pointer-computes, take_pointer-computes, number_first-computes}
 use Rattle.code_follows.specs.Parts.{Result}
 use Rattle.code_follows.specs.Scene.{Scene, IsScene, given_in, structs_in}
@@ -36,8 +29,8 @@ use Rattle.code_follows.specs.Laws.Computing.{are_quiet-append, constant_quiet}
 use Rattle.code_follows.specs.Laws.Moving.{moves_on}
 use Rattle.code_follows.specs.Laws.Nodes.Integers.{IntegerIs, ValueIs-integer}
 use Rattle.code_follows.specs.Laws.Operand.{Listed}
-use Rattle.code_follows.specs.Laws.Operands.{BothOperands, DoesBoth, DoesBeside, computes_it, is_undefined}
-use Rattle.code_follows.specs.Laws.PointerValues.{AddressIs, ValueIs-address, address-ValueIs, target_here}
+use Rattle.code_follows.specs.Laws.Operands.{BothOperands, DoesBoth, computes_it}
+use Rattle.code_follows.specs.Laws.PointerValues.{ValueIs-address, address-ValueIs, target_here}
 use Rattle.code_follows.specs.Laws.Walking.{are_quiet}
 
 pub operands_of : {A B : Type 0} {k : Scene} {first_result : Result A} {second_result : Result B} {reg : Reg} {v : A} {w : B}

@@ -1,7 +1,7 @@
 -- What the lists of operators on two pointers do (ISO C11 6.5.6, 6.5.8, 6.5.9), with both in registers.
-use Rattle.std.specs.Prelude.{◌≡◌, ℕ, ◌+◌, ◌*◌, ◌%◌, ◌^◌, ◌<◌, Bool, true, false, nat_eq, not, slice_get, Option, Some, None, [], ◌∷◌, refl}
+use Rattle.std.specs.Prelude.{◌≡◌, ℕ, ◌+◌, ◌*◌, ◌^◌, ◌<◌, Bool, true, false, nat_eq, not, slice_get, Option, Some, None, [], ◌∷◌, refl}
 use Rattle.std.specs.Prelude.{if◌then◌else◌}
-use Rattle.std.proofs.Common.{arith, ap, sym, subst, ◌∙◌}
+use Rattle.std.proofs.Common.{arith, ap, sym, ◌∙◌}
 use Rattle.std.proofs.lemmas.Bool.{eqb-true}
 use Rattle.c_ast.specs.declared.int_type.IntType.TheVariants as int
 use Rattle.c_ast.specs.declared.operator.BinaryOperator.{BinaryOperator}
@@ -31,7 +31,7 @@ use Rattle.code_relation.specs.Relates.{Relates}
 use Rattle.code_relation.specs.Sites.{Given, Site, site_by, site_of}
 use Rattle.gen_base.specs.Operators.{wrapped_size}
 use Rattle.gen_base.specs.Pointers.{on_two_pointers}
-use Rattle.gen_base.specs.Registers.{left, scratch}
+use Rattle.gen_base.specs.Registers.{scratch}
 use Rattle.gen_laws.specs.Computes.{IsOf, Computes, Operands, all_but}
 use Rattle.gen_laws.specs.Laws.Computing.{Computes-is, Computes-fewer}
 use Rattle.gen_laws.specs.Laws.Numbers.{some_same, wrap-is_of}
@@ -147,8 +147,9 @@ module _ {k : Scene} (scene : IsScene k) where
           (if same then within_block o p q else of_different o (known_to_differ now.blocks p q)) ≡ Some result →
           Computes (on_two_pointers o bytes reg) reg (truth result) (all_but scratch) t
       by_block true same is =
-          Computes-fewer (λ r spared. tt) (pointers-compare o bytes reg (base_at (site_of (given_in k) now p.block p_is.block)) p q result m n
-          t (in_one (eqb-true p.block q.block same) p_is q_is) given is (omega (arith, room)))
+          Computes-fewer (λ r spared. tt)
+          (pointers-compare o bytes reg (base_at (site_of (given_in k) now p.block p_is.block)) p q result m n t
+          (in_one (eqb-true p.block q.block same) p_is q_is) given is (omega (arith, room)))
       by_block false different is =
           differing o bytes reg m n (known_to_differ now.blocks p q) result t given room is
           (numbers_differ (locals_lie scene) relates p q m n different p_is q_is)
@@ -165,7 +166,8 @@ module _ {k : Scene} (scene : IsScene k) where
       by_pointers : (reg : Reg) (v w : Value) (now : MeaningState) (t : State) →
           BothOperands k (ValueIs (given_in k) s) (ValueIs (given_in k) s) reg v w now t → AddressIs (given_in k) v now (t.register 16) →
           AddressIs (given_in k) w now (t.register reg.0) →
-          DoesBeside (ValueIs (given_in k) int_type) (on_two_pointers o bytes reg) reg (operated k.here span o (operand s v) (operand s w)) now t
+          DoesBeside (ValueIs (given_in k) int_type) (on_two_pointers o bytes reg) reg
+          (operated k.here span o (operand s v) (operand s w)) now t
       by_pointers reg v w now t both one two = by_result (compared now.blocks o one.pointer two.pointer) refl
         where
           run_is : on_values k.here span o s s v w now
@@ -215,7 +217,8 @@ module _ {k : Scene} (scene : IsScene k) where
               ∙ ap (λ n. difference_known k.here span (if nat_eq one.pointer.block two.pointer.block
               then Some (apart one.pointer two.pointer n) else None) now)
               (target_here scene s u of both.relates)
-              ∙ ap (λ b. difference_known k.here span (if b then Some (apart one.pointer two.pointer (size (structs_in k) u)) else None) now) is
+              ∙ ap (λ b. difference_known k.here span (if b then Some (apart one.pointer two.pointer (size (structs_in k) u)) else None) now)
+              is
 
           by_block : (same : Bool) → nat_eq one.pointer.block two.pointer.block ≡ same →
               DoesBeside (ValueIs (given_in k) (ty.Int int.Long)) (on_two_pointers binary.Subtract (wrapped_size (structs_in k) u) reg) reg
