@@ -18,9 +18,7 @@ pub mod Logical
 pub mod Address
 pub mod Target
 pub mod Element
-pub mod Both
-pub mod PointerSteps
-pub mod PointersApart
 pub mod OnPointers
 pub mod OnTwoPointers
 pub mod PointersOperated
+pub mod AnyOperator

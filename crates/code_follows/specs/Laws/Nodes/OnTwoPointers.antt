@@ -29,11 +29,12 @@ use Rattle.block_meaning.specs.declared.value.Value.TheVariants.{Number, Address
 use Rattle.code_relation.specs.Numbers.{IsNumber, number_at}
 use Rattle.code_relation.specs.Relates.{Relates}
 use Rattle.code_relation.specs.Sites.{Given, Site, site_by, site_of}
-use Rattle.gen_base.specs.Operators.{wrapped_size}
+use Rattle.gen_base.specs.Operators.{divisor_size}
 use Rattle.gen_base.specs.Pointers.{on_two_pointers}
 use Rattle.gen_base.specs.Registers.{scratch}
 use Rattle.gen_laws.specs.Computes.{IsOf, Computes, Operands, all_but}
 use Rattle.gen_laws.specs.Laws.Computing.{Computes-is, Computes-fewer}
+use Rattle.gen_laws.specs.Laws.Divisors.{divisor-lt, divisor-divides}
 use Rattle.gen_laws.specs.Laws.Numbers.{some_same, wrap-is_of}
 use Rattle.gen_laws.specs.Laws.PointerLengths.{on_two_pointers-few}
 use Rattle.gen_laws.specs.Laws.TwoPointers.{AreInOne, objects_apart-computes, pointers-compare, equal_pointers-compute}
@@ -192,12 +193,12 @@ module _ {k : Scene} (scene : IsScene k) where
 
   -- ---- the difference
 
-  pub distance_does : (span : Span) (s u : Ty) → target_of s ≡ Some u → size (structs_in k) u < 2 ^ 64 →
+  pub distance_does : (span : Span) (s u : Ty) → target_of s ≡ Some u →
       DoesBoth k (ValueIs (given_in k) s) (ValueIs (given_in k) s) (ValueIs (given_in k) (ty.Int int.Long))
-      (on_two_pointers binary.Subtract (wrapped_size (structs_in k) u))
+      (on_two_pointers binary.Subtract (divisor_size (structs_in k) u))
       (λ v w. operated k.here span binary.Subtract (operand s v) (operand s w))
-  distance_does span s u of small = record {
-    list = λ reg. pointers_listed binary.Subtract (wrapped_size (structs_in k) u) reg;
+  distance_does span s u of = record {
+    list = λ reg. pointers_listed binary.Subtract (divisor_size (structs_in k) u) reg;
     does = λ reg v w now t both.
         by_pointers reg v w now t both (ValueIs-address {s = s} of both.first) (ValueIs-address {s = s} of both.second);
   }
@@ -205,7 +206,7 @@ module _ {k : Scene} (scene : IsScene k) where
       by_pointers : (reg : Reg) (v w : Value) (now : MeaningState) (t : State) →
           BothOperands k (ValueIs (given_in k) s) (ValueIs (given_in k) s) reg v w now t → AddressIs (given_in k) v now (t.register 16) →
           AddressIs (given_in k) w now (t.register reg.0) →
-          DoesBeside (ValueIs (given_in k) (ty.Int int.Long)) (on_two_pointers binary.Subtract (wrapped_size (structs_in k) u) reg) reg
+          DoesBeside (ValueIs (given_in k) (ty.Int int.Long)) (on_two_pointers binary.Subtract (divisor_size (structs_in k) u) reg) reg
           (operated k.here span binary.Subtract (operand s v) (operand s w)) now t
       by_pointers reg v w now t both one two = by_block (nat_eq one.pointer.block two.pointer.block) refl
         where
@@ -221,16 +222,15 @@ module _ {k : Scene} (scene : IsScene k) where
               is
 
           by_block : (same : Bool) → nat_eq one.pointer.block two.pointer.block ≡ same →
-              DoesBeside (ValueIs (given_in k) (ty.Int int.Long)) (on_two_pointers binary.Subtract (wrapped_size (structs_in k) u) reg) reg
+              DoesBeside (ValueIs (given_in k) (ty.Int int.Long)) (on_two_pointers binary.Subtract (divisor_size (structs_in k) u) reg) reg
               (operated k.here span binary.Subtract (operand s v) (operand s w)) now t
           by_block false is = is_undefined (uncompared k.here span now) (run_is false is) refl
           by_block true is =
-              let wrapped : wrapped_size (structs_in k) u ≡ size (structs_in k) u = omega (arith, small) in
               let n : ℕ = apart one.pointer two.pointer (size (structs_in k) u) in
               computes_it (Number n) n (run_is true is)
-              (Computes-is (ap (λ n. apart one.pointer two.pointer n) wrapped)
-              (objects_apart-computes (wrapped_size (structs_in k) u) reg
+              (Computes-is (divisor-divides (structs_in k) u (difference one.pointer two.pointer))
+              (objects_apart-computes (divisor_size (structs_in k) u) reg
               (base_at (site_of (given_in k) now one.pointer.block one.number.block)) one.pointer two.pointer (t.register 16)
               (t.register reg.0) t (in_one (eqb-true one.pointer.block two.pointer.block is) one.number two.number) (operands_of both)
-              (omega arith) (omega (arith, both.room))))
+              (divisor-lt (structs_in k) u) (omega (arith, both.room))))
               (long_is n (wrap-is_of int.Long _))

@@ -1,11 +1,10 @@
 -- The code of an operator with a pointer among its operands does what it means (ISO C11 6.5.6, 6.5.8, 6.5.9).
-use Rattle.std.specs.Prelude.{◌≡◌, ◌≢◌, ℕ, ◌^◌, ◌<◌, Bool, true, false, ◌||◌, List, [], ◌∷◌, Some, None, refl}
+use Rattle.std.specs.Prelude.{◌≡◌, ◌≢◌, ℕ, Bool, true, false, ◌||◌, List, [], ◌∷◌, Some, None, refl}
 use Rattle.std.proofs.Common.{arith, ap, sym, subst, ◌∙◌}
 use Rattle.c_ast.specs.declared.int_type.IntType.TheVariants as int
 use Rattle.c_ast.specs.declared.operator.BinaryOperator.{BinaryOperator}
 use Rattle.c_ast.specs.declared.operator.BinaryOperator.TheVariants as binary
 use Rattle.c_ast.specs.declared.token.Span.{Span}
-use Rattle.c_type_base.specs.Sizes.{size}
 use Rattle.c_type_base.specs.Types.{is_integer, is_pointer, target_of}
 use Rattle.c_type_base.specs.declared.expr.TExpr.{TExpr}
 use Rattle.c_type_base.specs.declared.expr.TNode.TheOpen.{TNode-F}
@@ -20,7 +19,7 @@ use Rattle.block_meaning.specs.ExpressionsInOrder as order
 use Rattle.block_meaning.specs.Operators.{operand, operated}
 use Rattle.block_meaning.specs.Running.{Run}
 use Rattle.gen_base.specs.Code.{Code as Items, plain, in_turn}
-use Rattle.gen_base.specs.Operators.{wrapped_size, operated as operated_code, operated_by}
+use Rattle.gen_base.specs.Operators.{wrapped_size, divisor_size, operated as operated_code, operated_by}
 use Rattle.gen_base.specs.Pointers.{pointer_and_number, number_and_pointer, on_two_pointers}
 use Rattle.gen_base.specs.Registers.{left}
 use Rattle.gen_expr.specs.Coded.{Emits}
@@ -86,8 +85,7 @@ pub data OnPointers (k : Scene) : BinaryOperator → Ty → Ty → Ty → Type 0
   added : {s t u : Ty} → target_of s ≡ Some u → is_integer t ≡ true → OnPointers k binary.Add s t s
   added_to : {s t u : Ty} → is_integer s ≡ true → target_of t ≡ Some u → OnPointers k binary.Add s t t
   taken : {s t u : Ty} → target_of s ≡ Some u → is_integer t ≡ true → OnPointers k binary.Subtract s t s
-  -- the bytes of what the pointers point to are one number for the meaning and for a register
-  distance : {s u : Ty} → target_of s ≡ Some u → size (structs_in k) u < 2 ^ 64 → OnPointers k binary.Subtract s s (ty.Int int.Long)
+  distance : {s u : Ty} → target_of s ≡ Some u → OnPointers k binary.Subtract s s (ty.Int int.Long)
   compares : {o : BinaryOperator} {s u : Ty} → group_of o ≡ Comparison → target_of s ≡ Some u → OnPointers k o s s int_type
 
 -- the instructions of such an operator, which do what it means
@@ -126,21 +124,21 @@ handled {k} scene (added_to {s} {t} {u} integer of) = record {
       ∙ ap (λ x. operated_by (structs_in k) binary.Add s t None x reg) of;
   does = λ span. added_to_does scene span s t u integer of;
 }
-handled {k} scene (distance {s} {u} of small) = record {
+handled {k} scene (distance {s} {u} of) = record {
   evaluates = λ same. cc;
-  instrs = on_two_pointers binary.Subtract (wrapped_size (structs_in k) u);
+  instrs = on_two_pointers binary.Subtract (divisor_size (structs_in k) u);
   code_is = λ reg.
       ap (λ x. operated_by (structs_in k) binary.Subtract s s x (target_of s) reg) of
       ∙ ap (λ x. operated_by (structs_in k) binary.Subtract s s (Some u) x reg) of;
-  does = λ span. distance_does scene span s u of small;
+  does = λ span. distance_does scene span s u of;
 }
 handled {k} {o} scene (compares {s = s} {u} group of) = record {
   evaluates = compares_only o group;
-  instrs = on_two_pointers o (wrapped_size (structs_in k) u);
+  instrs = on_two_pointers o (divisor_size (structs_in k) u);
   code_is = λ reg.
       ap (λ x. operated_by (structs_in k) o s s x (target_of s) reg) of
       ∙ ap (λ x. operated_by (structs_in k) o s s (Some u) x reg) of;
-  does = λ span. compared_does scene span o s u (wrapped_size (structs_in k) u) group of;
+  does = λ span. compared_does scene span o s u (divisor_size (structs_in k) u) group of;
 }
 
 -- an operator with a pointer among its operands
@@ -151,37 +149,32 @@ pointers_follow k scene waits depth o a b t first second on =
 
 -- ---- from what is known of trees in order
 
--- what two pointers that are subtracted point to has a number of bytes that a register holds
-abbrev pub DistanceFits : Scene → BinaryOperator → Ty → Type 0
-DistanceFits k binary.Subtract s = (u : Ty) → target_of s ≡ Some u → size (structs_in k) u < 2 ^ 64
-DistanceFits k o s = Unit {0}
-
 -- the types of the operands are integers, or one is a pointer
 pub data OperandTypes (k : Scene) (o : BinaryOperator) (s t u : Ty) : Type 0 where
   both_integers : is_integer s ≡ true → is_integer t ≡ true → OperandTypes k o s t u
   some_pointer : OnPointers k o s t u → OperandTypes k o s t u
 
-operand_types : {k : Scene} {o : BinaryOperator} {s t u : Ty} → BinaryTypes o s t u → DistanceFits k o s → OperandTypes k o s t u
-operand_types (order.arithmetic group is) fits = both_integers is is
-operand_types (order.shift group is its) fits = both_integers is its
-operand_types {k} (order.comparison {o} {t} group is) fits = by_kind (is_integer t) refl (is_pointer t) refl is
+operand_types : {k : Scene} {o : BinaryOperator} {s t u : Ty} → BinaryTypes o s t u → OperandTypes k o s t u
+operand_types (order.arithmetic group is) = both_integers is is
+operand_types (order.shift group is its) = both_integers is its
+operand_types {k} (order.comparison {o} {t} group is) = by_kind (is_integer t) refl (is_pointer t) refl is
   where
     by_kind : (integer : Bool) → is_integer t ≡ integer → (pointer : Bool) → is_pointer t ≡ pointer → (integer || pointer) ≡ true →
         OperandTypes k o t t int_type
     by_kind true is_int pointer is_ptr either = both_integers is_int is_int
     by_kind false is_int true is_ptr either = let to = points_to t is_ptr in some_pointer (compares group to.is)
     by_kind false is_int false is_ptr either = absurd (cc)
-operand_types (order.added {s} {t} is its) fits = let to = points_to s is in some_pointer (added to.is its)
-operand_types (order.added_to {s} {t} is its) fits = let to = points_to t its in some_pointer (added_to is to.is)
-operand_types (order.taken {s} {t} is its) fits = let to = points_to s is in some_pointer (taken to.is its)
-operand_types (order.distance {t} is) fits = let to = points_to t is in some_pointer (distance to.is (fits to.target to.is))
+operand_types (order.added {s} {t} is its) = let to = points_to s is in some_pointer (added to.is its)
+operand_types (order.added_to {s} {t} is its) = let to = points_to t its in some_pointer (added_to is to.is)
+operand_types (order.taken {s} {t} is its) = let to = points_to s is in some_pointer (taken to.is its)
+operand_types (order.distance {t} is) = let to = points_to t is in some_pointer (distance to.is)
 
--- An operator in order follows where it does on two integers, and where what pointers point to that are subtracted is not too large.
+-- An operator in order follows where it does on two integers.
 pub operated_on : (k : Scene) → IsScene k → WaitingLaws k → (depth : ℕ) (o : BinaryOperator) (a b : TExpr) (t : Ty) →
-    ValueFollows k depth a → ValueFollows k depth b → BinaryTypes o a.ty b.ty t → DistanceFits k o a.ty →
+    ValueFollows k depth a → ValueFollows k depth b → BinaryTypes o a.ty b.ty t →
     (is_integer a.ty ≡ true → is_integer b.ty ≡ true → ValueNode k depth t (TNode-F.Binary o a b)) →
     ValueNode k depth t (TNode-F.Binary o a b)
-operated_on k scene waits depth o a b t first second types fits integers = by_kind (operand_types types fits)
+operated_on k scene waits depth o a b t first second types integers = by_kind (operand_types types)
   where
     by_kind : OperandTypes k o a.ty b.ty t → ValueNode k depth t (TNode-F.Binary o a b)
     by_kind (both_integers is its) = integers is its
