@@ -7,6 +7,8 @@ pub mod Here
 pub mod Computing
 pub mod Converting
 pub mod Stack
+pub mod Regions
+pub mod BlockTags
 pub mod Waiting
 pub mod Addresses
 pub mod Scalars
