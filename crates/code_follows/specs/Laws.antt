@@ -17,6 +17,8 @@ pub mod Truth
 pub mod Jumping
 pub mod Pointing
 pub mod LocalSites
+pub mod BlockBytes
+pub mod Accessing
 pub mod Paying
 pub mod Nodes
 pub mod Whole

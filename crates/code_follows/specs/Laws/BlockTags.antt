@@ -29,7 +29,8 @@ object_of_file : (kind : Kind) → is_object kind ≡ true → is_of_file kind �
 object_of_file (Global unit k) is = refl
 object_of_file _ is = absurd (cc)
 
-site_of_file : (g : Given) (now : MeaningState) (kind : Kind) (number : ℕ) → is_of_file kind ≡ true →
+-- what lives for the whole run is where it was loaded
+pub site_of_file : (g : Given) (now : MeaningState) (kind : Kind) (number : ℕ) → is_of_file kind ≡ true →
     site_by g now.calls kind number ≡ g.starts number
 site_of_file g now NullBlock number is = absurd (cc)
 site_of_file g now (Local call k) number is = absurd (cc)
