@@ -19,6 +19,7 @@ pub mod Pointing
 pub mod LocalSites
 pub mod BlockBytes
 pub mod Accessing
+pub mod Judging
 pub mod Paying
 pub mod Nodes
 pub mod Whole
