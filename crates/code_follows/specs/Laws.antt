@@ -20,6 +20,8 @@ pub mod LocalSites
 pub mod BlockBytes
 pub mod Accessing
 pub mod Judging
+pub mod ScalarSizes
+pub mod LoadingScalars
 pub mod Paying
 pub mod Nodes
 pub mod Whole
