@@ -22,6 +22,7 @@ pub mod Accessing
 pub mod Judging
 pub mod ScalarSizes
 pub mod LoadingScalars
+pub mod SlotAccess
 pub mod Paying
 pub mod Nodes
 pub mod Whole
