@@ -23,6 +23,7 @@ pub mod Judging
 pub mod ScalarSizes
 pub mod LoadingScalars
 pub mod SlotAccess
+pub mod SlotScalars
 pub mod Paying
 pub mod Nodes
 pub mod Whole

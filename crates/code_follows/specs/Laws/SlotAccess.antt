@@ -24,9 +24,10 @@ use Rattle.frame_layout.specs.Parts.{part_of, parts_from, parts}
 use Rattle.frame_layout.specs.Scopes.{is_inner}
 use Rattle.frame_layout.specs.StatementNeeds.{stmt_need}
 use Rattle.frame_layout.specs.WellFormed.{of_kind}
-use Rattle.block_meaning.specs.Linkage.{structs_of, function_named}
+use Rattle.block_meaning.specs.Linkage.{structs_in, structs_of, function_in, function_named}
+use Rattle.block_meaning.specs.ProgramsInOrder.{InOrder}
 use Rattle.block_meaning.specs.Meaning.{open_bytes}
-use Rattle.block_meaning.specs.Running.{Function, Call}
+use Rattle.block_meaning.specs.Running.{Function, Call, Program}
 use Rattle.code_relation.specs.Calls.{stack_end, lowest, frame_of, LieInOrder}
 use Rattle.code_relation.specs.Calls as calls
 use Rattle.gen_base.specs.Accesses.{load_of, reached_by, reached}
@@ -67,9 +68,18 @@ is_reached t o start is = by_scalar (is_scalar t) refl o refl is
 
 -- ---- frames
 
-frame_is : (units : List Typed) (f : Function) (function : TFunction) → function_named units f ≡ Some function →
+pub frame_is : (units : List Typed) (f : Function) (function : TFunction) → function_named units f ≡ Some function →
     frame_of units f ≡ frame (structs_of units f.unit) function
 frame_is units f function is = ap (λ o. calls.frame_by units f.unit o) is
+
+-- the structs of a function's file are laid out
+pub laid_out : (p : Program) → InOrder p → (f : Function) (function : TFunction) → function_named p.units f ≡ Some function →
+    LaidOut (structs_of p.units f.unit)
+laid_out p order f function is = by_file (slice_get p.units f.unit) refl is
+  where
+    by_file : (u : Option Typed) → slice_get p.units f.unit ≡ u → function_in u f.number ≡ Some function → LaidOut (structs_in u)
+    by_file None there is = absurd (cc)
+    by_file (Some u) there is = (order.files f.unit u there).structs
 
 -- a frame has whole granules
 pub frame_whole : (units : List Typed) (f : Function) → (frame_of units f).bytes % 16 ≡ 0
@@ -103,7 +113,7 @@ part_at structs f j (x ∷ xs) zero l is = record {
 part_at structs f j (x ∷ xs) (suc k) l is = part_at structs f (suc j) xs k l is
 
 -- a safe slot stands on a multiple of its local's alignment
-safe_start : (structs : List StructInfo) (f : TFunction) → LaidOut structs → (k : ℕ) (l : LocalInfo) (s : Slot) →
+pub safe_start : (structs : List StructInfo) (f : TFunction) → LaidOut structs → (k : ℕ) (l : LocalInfo) (s : Slot) →
     slice_get f.locals k ≡ Some l → slice_get (frame structs f).slots k ≡ Some s → s.kind ≡ Safe → s.start % align structs l.ty ≡ 0
 safe_start structs f laid k l s there is safe =
     let has = part_at structs f 0 f.locals k l there in
