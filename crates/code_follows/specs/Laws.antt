@@ -3,6 +3,7 @@ pub mod Lying
 pub mod Walking
 pub mod Coming
 pub mod Going
+pub mod Knowing
 pub mod Here
 pub mod Computing
 pub mod Converting
