@@ -95,7 +95,7 @@ the_outside Outside is = refl
 the_outside _ is = absurd (cc)
 
 -- there the code is
-at_code : {k : Scene} {first : ℕ} {reg : Reg} {alone : Bool} {s : State} {a : Account} {owes spare from : ℕ} {now : MeaningState} {t : State} →
+pub at_code : {k : Scene} {first : ℕ} {reg : Reg} {alone : Bool} {s : State} {a : Account} {owes spare from : ℕ} {now : MeaningState} {t : State} →
     On k first reg alone s from a owes spare now t → IsAt k.code from t
 at_code on = record {
   pc = on.came.comes.pc;
@@ -118,6 +118,11 @@ by_access {k} {number = number} {acc} {now} {t} span relates is_at next caught b
       accesses = next.accesses;
     })
     (λ outside. caught.caught b there (outside_live b acc (is ∙ ap Some (the_outside why outside))))
+
+-- each access that leaves its local so is caught
+pub record Catches (k : Scene) : Type 0 where
+  pub catches : (from number : ℕ) (a : Access) (now : MeaningState) (t : State) → Relates (given_in k) k.here now t → IsAt k.code from t →
+      Accesses k from a number now t → CaughtIn k a now t
 
 module _ {A : Type 0} {k : Scene} (scene : IsScene k) {first : ℕ} {reg : Reg} {alone : Bool} {result : Result A} {s : State} {to leaves : ℕ}
     {a : Account} {owes spare from : ℕ} {now : MeaningState} {t : State} (on : On k first reg alone s from a owes spare now t)
