@@ -25,6 +25,7 @@ pub mod ScalarSizes
 pub mod LoadingScalars
 pub mod SlotAccess
 pub mod SlotScalars
+pub mod ScalarLoads
 pub mod Paying
 pub mod Nodes
 pub mod Whole

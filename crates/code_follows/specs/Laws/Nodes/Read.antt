@@ -1,83 +1,50 @@
 -- The code that reads an object does what it means: a scalar is loaded, from SP or through a pointer, and a struct is where it stands
 -- (ISO C11 6.3.2.1 paragraph 2).
-use Rattle.std.specs.Prelude.{◌≡◌, ℕ, zero, suc, ◌+◌, ◌*◌, ◌%◌, ◌^◌, ◌<◌, ◌≤◌, Bool, true, false, ◌||◌, [], ◌∷◌, slice_get, Option, Some, None, refl}
+use Rattle.std.specs.Prelude.{◌≡◌, ℕ, zero, suc, ◌+◌, ◌%◌, ◌<◌, Bool, true, false, ◌||◌, [], ◌∷◌, slice_get, Option, Some, None, refl}
 use Rattle.std.proofs.Common.{arith, ap, sym, subst, inl, inr, ◌∙◌}
 use Rattle.std.proofs.lemmas.Bool.{cases_Bool}
 use Rattle.c_ast.specs.declared.token.Span.{Span}
-use Rattle.c_type_base.specs.Sizes.{size, align}
+use Rattle.c_type_base.specs.Sizes.{align}
 use Rattle.c_type_base.specs.Types.{TyLayer, is_scalar, is_struct, is_there, struct_of_level}
 use Rattle.c_type_base.specs.declared.expr.TExpr.{TExpr}
 use Rattle.c_type_base.specs.declared.expr.TNode.TheOpen.{TNode-F}
 use Rattle.c_type_base.specs.declared.ty.Ty.{Ty, out-Ty}
 use Rattle.c_type_base.specs.declared.ty.Ty.TheOpen.{Ty-F}
-use Rattle.a64_code.specs.declared.instr.Instr.{Instr}
 use Rattle.a64_code.specs.declared.instr.Reg.{Reg}
 use Rattle.a64_code.specs.State.{State}
-use Rattle.a64_laws.specs.Forms.{Load, Whole, Word, Half, Byte, SignedWord, SignedHalf, SignedByte, load_size}
-use Rattle.a64_laws.specs.Laws.Effects.Open.{IsReadable}
-use Rattle.block_meaning.specs.Access.{ReadsAs, read_in, reason_against}
-use Rattle.block_meaning.specs.Blocks.{Block, pointer}
+use Rattle.block_meaning.specs.Blocks.{Block}
 use Rattle.block_meaning.specs.Expressions.{parts_at, starts, start_of}
-use Rattle.block_meaning.specs.Memory.{object, access, structs_at, read, read_scalar}
-use Rattle.block_meaning.specs.Running.{Result as Result', Goes as Goes', Stops, Run, gives, stuck, and_then, goes_on, unit_then, unit_gives, one_of, with_some}
+use Rattle.block_meaning.specs.Memory.{object, read, read_scalar}
+use Rattle.block_meaning.specs.Running.{Goes as Goes', Run, gives, and_then, goes_on, unit_then, unit_gives, one_of, with_some}
 use Rattle.block_meaning.specs.Running.{State as MeaningState}
-use Rattle.block_meaning.specs.declared.access.Access.{Access}
 use Rattle.block_meaning.specs.declared.value.Pointer.{Pointer}
 use Rattle.block_meaning.specs.declared.value.Value.{Value}
 use Rattle.block_meaning.specs.declared.value.Value.TheVariants.{Struct}
 use Rattle.code_relation.specs.Laws.Outcomes.{spent}
-use Rattle.code_relation.specs.Numbers.{IsNumber, number_at}
-use Rattle.code_relation.specs.Items.{IsAt, HasInstr}
-use Rattle.code_relation.specs.Ends.{loads}
-use Rattle.a64_laws.specs.Laws.Effects.Accesses.{IsSize}
-use Rattle.a64_laws.specs.Laws.Loads.{load_is_size}
-use Rattle.gen_laws.specs.Laws.Accesses.{IsNear}
-use Rattle.code_relation.specs.Relates.{Relates}
+use Rattle.code_relation.specs.Numbers.{IsNumber}
 use Rattle.code_relation.specs.Sites.{Given, site_of}
 use Rattle.code_runs.specs.Bounded.{Account, later}
-use Rattle.gen_base.specs.Accesses.{load_of, load_from, Where, OnStack, Behind, load_scalar}
+use Rattle.gen_base.specs.Accesses.{OnStack, Behind, load_scalar}
 use Rattle.gen_base.specs.Code.{Code as Items, plain, in_turn}
-use Rattle.gen_expr.specs.Coded.{Coded, read_slot}
+use Rattle.gen_expr.specs.Coded.{Coded, Emits, read_slot}
 use Rattle.gen_expr.specs.Coded as coded
-use Rattle.gen_laws.specs.Laws.Computing.{Computes-put}
 use Rattle.code_follows.specs.Aligned.{ComesAligned}
-use Rattle.code_follows.specs.Leaves.{bare_leaves, value_leaves, place_leaves}
-use Rattle.code_follows.specs.Parts.{Part, Goes, On, PlacePart, PlaceFollows, PointerPart, ValueNode, SlotRun, names, too_deep, owed, coded_in}
-use Rattle.code_follows.specs.Scene.{Scene, IsScene, IsFree, Lies, given_in, calls_in, structs_in}
-use Rattle.code_follows.specs.Values.{IsOfLevel, IsOfType, ValueIs, PlaceIs}
-use Rattle.code_follows.specs.Laws.Accessing.{none_against, LetsThrough, lets_through, address_in, sum_aligned, granule_aligned}
-use Rattle.code_follows.specs.Laws.Coming.{pays, pays-some, starts_low}
-use Rattle.code_follows.specs.Laws.Computing.{Suits-own}
-use Rattle.code_follows.specs.Laws.Going.{Goes-same, Goes-stuck, Goes-done, Goes-unit, Goes-some, Goes-part, Goes-computes, On-at, Part-by}
-use Rattle.code_follows.specs.Laws.Here.{and_then-gives, structs_here}
-use Rattle.code_follows.specs.Laws.Judging.{and_then-then, Accesses, Catches, at_code, Goes-scalar, Goes-cells}
+use Rattle.code_follows.specs.Leaves.{value_leaves}
+use Rattle.code_follows.specs.Parts.{Result, pointer_leaves, Part, Goes, On, PlacePart, PlaceFollows, ValueNode, SlotRun, names, too_deep, owed}
+use Rattle.code_follows.specs.Scene.{Scene, IsScene, Lies, given_in, calls_in, structs_in, frame_in}
+use Rattle.code_follows.specs.Values.{IsOfLevel, ValueIs}
+use Rattle.code_follows.specs.Laws.Coming.{pays, pays-some}
+use Rattle.code_follows.specs.Laws.Going.{spent_one, Goes-same, Goes-stuck, Goes-done, Goes-unit, Goes-some, Goes-part, Part-by}
+use Rattle.code_follows.specs.Laws.Here.{Part-same}
+use Rattle.code_follows.specs.Laws.Judging.{and_then-then, Catches}
 use Rattle.code_follows.specs.Laws.Knowing.{Goes-unit_known, Goes-part_known}
 use Rattle.code_follows.specs.Laws.Layers.{coded-ty}
-use Rattle.code_follows.specs.Laws.LoadingScalars.{PutsValue, puts_near, puts_far}
-use Rattle.code_follows.specs.Laws.Lying.{LiesBy, Lies-turn, Lies-none, HasInstrs, Lies-plain}
-use Rattle.code_follows.specs.Laws.ScalarSizes.{ScalarBytes, scalar_bytes, load_some}
-use Rattle.code_follows.specs.Laws.SlotAccess.{IsReached, is_reached}
-use Rattle.code_follows.specs.Laws.SlotScalars.{SlotIs, slot_is}
-use Rattle.code_follows.specs.Laws.Walking.{are_quiet}
+use Rattle.code_follows.specs.Laws.Lying.{Lies-turn, Lies-none, HasInstrs, Lies-plain}
+use Rattle.code_follows.specs.Laws.ScalarLoads.{loads_slot, loads_through}
+use Rattle.code_follows.specs.Laws.Paying.{IsNumber-spent}
+use Rattle.code_follows.specs.Laws.SlotScalars.{slot_is}
 
--- ---- code and runs
-
--- a load leaves memory as it is
-load_quiet : (l : Load) (w : Where) (r : Reg) → are_quiet (load_from l w r ∷ []) ≡ true
-load_quiet Whole (OnStack offset) r = refl
-load_quiet Word (OnStack offset) r = refl
-load_quiet Half (OnStack offset) r = refl
-load_quiet Byte (OnStack offset) r = refl
-load_quiet SignedWord (OnStack offset) r = refl
-load_quiet SignedHalf (OnStack offset) r = refl
-load_quiet SignedByte (OnStack offset) r = refl
-load_quiet Whole (Behind p) r = refl
-load_quiet Word (Behind p) r = refl
-load_quiet Half (Behind p) r = refl
-load_quiet Byte (Behind p) r = refl
-load_quiet SignedWord (Behind p) r = refl
-load_quiet SignedHalf (Behind p) r = refl
-load_quiet SignedByte (Behind p) r = refl
+-- ---- runs
 
 -- the name of a local, and then something
 starts-then : {A : Type 0} (o : Option ℕ) (f : Pointer → Run A) (now : MeaningState) →
@@ -97,6 +64,12 @@ unit-then {A} p f now = by_work now.work
     by_work : (work : ℕ) → goes_on (one_of work (gives p) now) f ≡ one_of work (f p) now
     by_work zero = refl
     by_work (suc left) = refl
+
+-- a unit of work that is there is spent
+unit_comes : (p : Pointer) (left : ℕ) (now : MeaningState) → now.work ≡ suc left → unit_gives p now ≡ Goes' p (spent now)
+unit_comes p left now some =
+    ap (λ (w : ℕ). one_of w (gives p) now) some
+    ∙ ap (λ (w : ℕ). gives p (record now { work = w })) (sym (spent_one left now some))
 
 struct_value : {g : Given} {now : MeaningState} (t : Ty) (p : Pointer) (n : ℕ) → is_struct t ≡ true → IsNumber g now p n →
     ValueIs g t (Struct p) now n
@@ -119,95 +92,108 @@ struct_part {k} {code} {t = t} {run} scene of_type is place span = Part-by (λ f
     (pays-some scene) on (λ p then u n came gave.
     Goes-done (Struct p) came (omega arith) (struct_value t p (u.register reg.0) is gave.result_is.is))))
 
+
 -- ---- scalars
 
--- how many bytes an access takes, and on what multiples it stands
-record AccessBytes (k : Scene) (t : Ty) (p : Pointer) (writes : Bool) : Type 0 where
-  size_is : (access k.here writes (object t p)).size ≡ load_size (load_of t)
-  align_is : (access k.here writes (object t p)).align ≡ (access k.here writes (object t p)).size
-  size_in : (access k.here writes (object t p)).size ≡ size (structs_in k) t
-  is_size : IsSize (access k.here writes (object t p)).size
-  some : 1 ≤ (access k.here writes (object t p)).size
+slot_part : {k : Scene} {code : Coded} {needs : ℕ} {t : Ty} {run : Run Pointer} → IsScene k → is_scalar t ≡ true →
+    PlacePart k code needs t run → (start : ℕ) → code.slot ≡ Some start → (span : Span) →
+    Part k (λ m r. plain (load_scalar t (OnStack start) r ∷ [])) needs value_leaves code.alone (ValueIs (given_in k) t)
+    (and_then run (λ p. read_scalar k.here span (object t p)))
+slot_part {k} {code} {t = t} {run} scene scalar place start is span = Part-by (λ first reg from to free lies a now s on.
+    by_slot first reg from to (omega (arith, free.high)) (Lies-plain (load_scalar t (OnStack start) reg ∷ []) lies) a now s on
+    (place.slot start is now))
+  where
+    f : Pointer → Run Value
+    f p = read_scalar k.here span (object t p)
 
-access_bytes : {k : Scene} {now : MeaningState} {s : State} → IsScene k → Relates (given_in k) k.here now s → (t : Ty) (p : Pointer)
-    (writes : Bool) → is_scalar t ≡ true → AccessBytes k t p writes
-access_bytes {k} scene relates t p writes scalar =
-    let bytes : ScalarBytes (structs_at k.here) t = scalar_bytes (structs_at k.here) t scalar in
-    record {
-      size_is = sym bytes.size_is;
-      align_is = bytes.align_is;
-      size_in = ap (λ structs. size structs t) (structs_here scene relates);
-      is_size = subst (λ n. IsSize n) bytes.size_is (load_is_size (load_of t));
-      some = omega (arith, bytes.size_is, load_some t);
-    }
+    by_slot : (first : ℕ) (reg : Reg) (from to : ℕ) → reg.0 < 28 → HasInstrs k (load_scalar t (OnStack start) reg ∷ []) from to →
+        (a : Account) (now : MeaningState) (s : State) → On k first reg code.alone s from a 0 0 now s → SlotRun k t start run now →
+        Goes k first reg code.alone (ValueIs (given_in k) t) s to value_leaves a (and_then run f) now s
+    by_slot first reg from to low has a now s on (too_deep stuck_is) = Goes-same (ap (λ r. goes_on r f) stuck_is) Goes-stuck
+    by_slot first reg from to low has a now s on (names local info there of_type reach run_is) =
+        Goes-same (ap (λ r. goes_on r f) run_is ∙ starts-then (k.here.local local) f now)
+        (Goes-unit on (λ owing. Goes-some (k.here.local local) (λ number named.
+        loads_slot scene t scalar span low owing (omega arith) (omega (arith, pays scene)) start number has
+        (slot_is scene owing.came.comes.relates t start local number info there of_type reach named))))
 
-module _ {k : Scene} (scene : IsScene k) {first : ℕ} {reg : Reg} {alone : Bool} {s : State} {to : ℕ} {a : Account} {owes spare from : ℕ}
-    {now : MeaningState} {u : State} (t : Ty) (scalar : is_scalar t ≡ true) (span : Span) (low : reg.0 < 28)
-    (on : On k first reg alone s from a owes spare now u) (owing : owes ≤ 1) (enough : 8 ≤ spare) where
-  -- a load that puts the value that is read
-  puts_value : (w : Where) → HasInstrs k (load_scalar t w reg ∷ []) from to → (v : Value) →
-      PutsValue (given_in k) t v now (load_scalar t w reg) reg u →
-      Goes k first reg alone (ValueIs (given_in k) t) s to value_leaves a (gives v) now u
-  puts_value w has v puts =
-      let computes = Computes-put (load_scalar t w reg) reg puts.number u puts.leads (omega (arith, starts_low has on)) in
-      Goes-computes value_leaves has (load_quiet (load_of t) w reg) computes (Suits-own alone reg low) on owing (omega (arith, enough))
-      (λ done. Goes-done v done (omega arith) (subst (λ n. ValueIs (given_in k) t v now n) (sym computes.holds) puts.is))
+pointer_part : {k : Scene} {code : Coded} {needs : ℕ} {t : Ty} {run : Run Pointer} → IsScene k → is_scalar t ≡ true → Catches k →
+    PlacePart k code needs t run → ComesAligned k t run → (span : Span) →
+    Part k (λ m r. in_turn (code.pointer m r ∷ plain (load_scalar t (Behind r) r ∷ []) ∷ [])) needs value_leaves code.alone
+    (ValueIs (given_in k) t) (and_then run (λ p. read_scalar k.here span (object t p)))
+pointer_part {k} {code} {t = t} {run} scene scalar catches place aligned span = Part-by (λ first reg from to free lies a now s on.
+    let parts = Lies-turn (code.pointer first reg) (plain (load_scalar t (Behind reg) reg ∷ []) ∷ []) lies in
+    let rest = Lies-turn (plain (load_scalar t (Behind reg) reg ∷ [])) [] parts.back in
+    let has = Lies-plain (load_scalar t (Behind reg) reg ∷ []) rest.front in
+    Goes-same (ap (λ r. goes_on r f) (place.pointer.run_is now) ∙ and_then-then place.pointer.first (owed place.pointer.owes) f now)
+    (Goes-part_known (place.pointer.part.yields first reg from parts.middle free parts.front) (omega arith) (λ alone. (refl, alone))
+    (pays-some scene) on (λ p then u n comes came gave.
+    by_owed place.pointer.owes first reg parts.middle to (omega (arith, free.high))
+    (subst (λ (x : ℕ). HasInstrs k (load_scalar t (Behind reg) reg ∷ []) parts.middle x) (Lies-none rest.back) has) (later n a) s then u p
+    came gave.result_is.is
+    (λ last b come there. aligned.aligned now s p last b on.came.comes.relates
+    (place.pointer.run_is now ∙ ap (λ r. goes_on r (owed place.pointer.owes)) comes ∙ come) there))))
+  where
+    f : Pointer → Run Value
+    f p = read_scalar k.here span (object t p)
 
-  -- a local in a safe slot
-  loads_slot : (start number : ℕ) → HasInstrs k (load_scalar t (OnStack start) reg ∷ []) from to → SlotIs k now u t start number →
-      Goes k first reg alone (ValueIs (given_in k) t) s to value_leaves a (read_scalar k.here span (object t (start_of number))) now u
-  loads_slot start number has slot =
-      let relates = on.came.comes.relates in
-      let acc : Access = access k.here false (object t (start_of number)) in
-      let bytes : AccessBytes k t (start_of number) false = access_bytes scene relates t (start_of number) false scalar in
-      let none : reason_against slot.block acc ≡ None = none_against slot.block acc (record {
-        aligned = subst (λ (n : ℕ). 0 % n ≡ 0) (sym bytes.align_is) (granule_aligned acc.size 0 bytes.is_size refl);
-        not_null = slot.not_null;
-        live = slot.lives.live;
-        within = omega (arith, slot.size_is, bytes.size_in);
-        not_text = λ writes. slot.not_text;
-      }) in
-      let is_number : IsNumber (given_in k) now (start_of number) (number_at (site_of (given_in k) now number slot.block) 0) =
-      record { block = slot.block; is = slot.lives.is; fits = omega arith; number = refl } in
-      let lets = lets_through scene relates acc slot.block (number_at (site_of (given_in k) now number slot.block) 0) slot.lives.is
-      is_number none bytes.some in
-      let at : u.sp + start ≡ address_in (given_in k) now acc slot.block = omega (arith, slot.at) in
-      Goes-same (and_then-gives (read_scalar k.here span (object t (start_of number))) now)
-      (Goes-cells on owing (omega (arith, enough)) span slot.block t (start_of number) gives
-      ((has.each 0 (load_scalar t (OnStack start) reg) refl).inside u (inside_at (at_code on))) slot.lives.is none (λ v reads.
-      puts_value (OnStack start) has v
-      (puts_near relates.injects t scalar acc bytes.size_is slot.block slot.lives v reads reg (omega (arith, low)) start at
-      (subst (λ n. IsNear u start n) (sym bytes.size_in) slot.near) (subst (λ at. IsReadable u at acc.size) (sym at) lets.readable))))
-    where
-      inside_at : IsAt k.code from u → IsAt k.code (from + 4 * 0) u
-      inside_at at = subst (λ (x : ℕ). IsAt k.code x u) (omega arith) at
+    by_owed : (owes : Bool) (first : ℕ) (reg : Reg) (from to : ℕ) → reg.0 < 28 →
+        HasInstrs k (load_scalar t (Behind reg) reg ∷ []) from to → (a : Account) (s : State) (now : MeaningState) (u : State) (p : Pointer) →
+        On k first reg code.alone s from a 0 (0 + pointer_leaves owes) now u → IsNumber (given_in k) now p (u.register reg.0) →
+        ((last : MeaningState) (b : Block) → owed owes p now ≡ Goes' p last → slice_get last.blocks p.block ≡ Some b →
+        (site_of (given_in k) last p.block b).start % align (structs_in k) t ≡ 0) →
+        Goes k first reg code.alone (ValueIs (given_in k) t) s to value_leaves a (and_then (owed owes p) f) now u
+    by_owed false first reg from to low has a s now u p on number aligned =
+        loads_through scene t scalar span low on (omega arith) (omega arith) catches p has number (λ b there. aligned now b refl there)
+    by_owed true first reg from to low has a s now u p on number aligned =
+        Goes-same (unit-then p f now) (Goes-unit_known on (λ left some owing.
+        loads_through scene t scalar span low owing (omega arith) (omega (arith, pays scene)) catches p has (IsNumber-spent number)
+        (λ b there. aligned (spent now) b (unit_comes p left now some) there)))
 
-  -- what a pointer points to
-  loads_through : Catches k → (p : Pointer) → HasInstrs k (load_scalar t (Behind reg) reg ∷ []) from to →
-      IsNumber (given_in k) now p (u.register reg.0) →
-      ((b : Block) → slice_get now.blocks p.block ≡ Some b → (site_of (given_in k) now p.block b).start % align (structs_in k) t ≡ 0) →
-      Goes k first reg alone (ValueIs (given_in k) t) s to value_leaves a (read_scalar k.here span (object t p)) now u
-  loads_through catches p has is_number aligned =
-      let relates = on.came.comes.relates in
-      let acc : Access = access k.here false (object t p) in
-      let bytes : AccessBytes k t p false = access_bytes scene relates t p false scalar in
-      let instr : HasInstr k.code from (load_scalar t (Behind reg) reg) =
-      subst (λ (x : ℕ). HasInstr k.code x (load_scalar t (Behind reg) reg)) (omega arith) (has.each 0 (load_scalar t (Behind reg) reg) refl) in
-      let next : Accesses k from acc (u.register reg.0) now u = record {
-        instr = load_scalar t (Behind reg) reg;
-        has = instr;
-        accesses = loads (load_of t) 0 reg reg (omega (arith, low)) (sym bytes.size_is)
-            (omega (arith, relates.injects.in_range.registers reg.0));
-        is_number = is_number;
-        some = bytes.some;
-      } in
-      Goes-same (and_then-gives (read_scalar k.here span (object t p)) now)
-      (Goes-scalar scene on owing (omega (arith, enough)) span acc (u.register reg.0) next
-      (catches.catches from (u.register reg.0) acc now u relates (at_code on) next) t p gives refl (λ b v lets order reads.
-      puts_value (Behind reg) has v
-      (puts_far relates.injects t scalar acc bytes.size_is b lets.lives v reads reg (omega (arith, low)) reg
-      (site_of (given_in k) now p.block b).tag (omega (arith, low)) lets.points
-      (sum_aligned acc.size (site_of (given_in k) now p.block b).start p.offset bytes.is_size
-      (subst (λ (n : ℕ). (site_of (given_in k) now p.block b).start % n ≡ 0)
-      (ap (λ structs. align structs t) (sym (structs_here scene relates)) ∙ bytes.align_is) (aligned b lets.lives.is))
-      (subst (λ (n : ℕ). p.offset % n ≡ 0) bytes.align_is order.aligned)) lets.readable lets.agrees)))
+-- ---- the node
+
+-- the same code
+Part-code : {A : Type 0} {k : Scene} {emits other : Emits} {needs leaves : ℕ} {alone : Bool} {result : Result A} {run : Run A} →
+    ((first : ℕ) (reg : Reg) → emits first reg ≡ other first reg) → Part k other needs leaves alone result run →
+    Part k emits needs leaves alone result run
+Part-code {k = k} same part = record {
+  yields = λ first reg from to free lies.
+      part.yields first reg from to free (subst (λ (c : Items). Lies k c from to) (same first reg) lies);
+}
+
+either_by : (scalar struct : Bool) → struct ≡ false → (scalar || struct) ≡ true → scalar ≡ true
+either_by true struct none either = refl
+either_by false struct none either = absurd (let both : true ≡ false = sym either ∙ none in cc)
+
+scalar_part : {k : Scene} {code : Coded} {needs : ℕ} {t : Ty} {run : Run Pointer} → IsScene k → is_scalar t ≡ true → is_struct t ≡ false →
+    Catches k → code.ty ≡ t → PlacePart k code needs t run → ComesAligned k t run → (span : Span) →
+    Part k (coded.read code) needs value_leaves code.alone (ValueIs (given_in k) t) (and_then run (λ p. read k.here span (object t p)))
+scalar_part {k} {code} {needs} {t} {run} scene scalar none catches of_type place aligned span =
+    Part-same (λ now s relates. run_is now) (by_slot code.slot refl)
+  where
+    run_is : (now : MeaningState) → and_then run (λ p. read k.here span (object t p)) now
+        ≡ and_then run (λ p. read_scalar k.here span (object t p)) now
+    run_is now = rw none refl
+
+    code_is : (o : Option ℕ) → code.slot ≡ o → (first : ℕ) (reg : Reg) → coded.read code first reg ≡ read_slot code o first reg
+    code_is o slot first reg = rw (of_type, none, slot) refl
+
+    by_slot : (o : Option ℕ) → code.slot ≡ o → Part k (coded.read code) needs value_leaves code.alone (ValueIs (given_in k) t)
+        (and_then run (λ p. read_scalar k.here span (object t p)))
+    by_slot (Some start) slot =
+        Part-code (λ first reg. code_is (Some start) slot first reg ∙ (rw of_type refl)) (slot_part scene scalar place start slot span)
+    by_slot None slot =
+        Part-code (λ first reg. code_is None slot first reg ∙ (rw of_type refl)) (pointer_part scene scalar catches place aligned span)
+
+pub read_follows : (k : Scene) → IsScene k → Catches k → (depth : ℕ) (e : TExpr) → PlaceFollows k depth e →
+    (is_scalar e.ty || is_struct e.ty) ≡ true → ComesAligned k e.ty ((parts_at (calls_in k) k.here depth).place e) →
+    ValueNode k depth e.ty (TNode-F.Read e)
+read_follows k scene catches depth e follows either aligned = record {
+  at = λ span around. record {
+    part = elim (cases_Bool (is_struct e.ty)) [
+      | inl is ↦ struct_part scene (coded-ty (structs_in k) (frame_in k) e) is follows.part e.span
+      | inr none ↦
+          scalar_part scene (either_by (is_scalar e.ty) (is_struct e.ty) none either) none catches
+          (coded-ty (structs_in k) (frame_in k) e) follows.part aligned e.span
+    ];
+  };
+}
