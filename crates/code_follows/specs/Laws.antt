@@ -26,6 +26,7 @@ pub mod LoadingScalars
 pub mod SlotAccess
 pub mod SlotScalars
 pub mod ScalarLoads
+pub mod TaggedSlots
 pub mod Paying
 pub mod Nodes
 pub mod Whole
