@@ -27,6 +27,7 @@ pub mod SlotAccess
 pub mod SlotScalars
 pub mod ScalarLoads
 pub mod TaggedSlots
+pub mod GranuleOwners
 pub mod Paying
 pub mod Nodes
 pub mod Whole
