@@ -28,6 +28,7 @@ pub mod SlotScalars
 pub mod ScalarLoads
 pub mod TaggedSlots
 pub mod GranuleOwners
+pub mod NeighbourTags
 pub mod Paying
 pub mod Nodes
 pub mod Whole

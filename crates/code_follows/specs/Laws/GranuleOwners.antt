@@ -159,7 +159,7 @@ module _ {g : Given} {here : Context} {now : MeaningState} {s : State} (injects 
 
   module _ (c : Call) (call place : ℕ) (call_is : slice_get now.calls call ≡ Some c) (among : Among c here.open_calls)
       (within : place < (frame_of (units_of g) c.function).bytes) where
-    place_on_stack : on_stack g (lowest c + place) ≡ true
+    pub place_on_stack : on_stack g (lowest c + place) ≡ true
     place_on_stack =
         let frame_c : OpenFrame c = open_frame c among in
         on_stack_by g.program.stack c.place (frame_of (units_of g) c.function).bytes place frame_c.small frame_c.fits frame_c.held within
