@@ -1,6 +1,6 @@
 -- Which live tagged block has a byte in a granule of an open frame: that of a local of the frame's own call, whose slot has the granule
 -- (this project's own).
-use Rattle.std.specs.Prelude.{◌≡◌, ℕ, ◌+◌, ◌-◌, ◌*◌, ◌/◌, ◌%◌, ◌<◌, ◌≤◌, Bool, true, false, ◌&&◌, leb, ltb, List, [], ◌∷◌, slice_get, Some, refl}
+use Rattle.std.specs.Prelude.{◌≡◌, ℕ, ◌+◌, ◌-◌, ◌%◌, ◌<◌, ◌≤◌, true, false, ◌&&◌, leb, ltb, List, [], ◌∷◌, slice_get, Some, refl}
 use Rattle.std.proofs.Common.{arith, ap, sym, subst, ◌∙◌}
 use Rattle.std.proofs.lemmas.Bool.Decides.{nat_tests}
 use Rattle.mt_base.specs.Granules.{granule_of}
@@ -29,7 +29,7 @@ use Rattle.block_meaning.specs.declared.kind.Kind.TheVariants.{NullBlock, Global
 use Rattle.code_relation.specs.Calls.{stack_end, lowest, frame_of, LieInOrder}
 use Rattle.code_relation.specs.Injects.{Injects}
 use Rattle.code_relation.specs.Loaded.{on_stack, is_stack_granule}
-use Rattle.code_relation.specs.Sites.{Given, units_of, Lives, site_of, has_byte, is_tagged_block, is_tagged_by, is_tagged_local, slot_in, is_of_file}
+use Rattle.code_relation.specs.Sites.{Given, units_of, Lives, has_byte, is_tagged_block, is_tagged_by, is_tagged_local, slot_in, is_of_file}
 use Rattle.code_relation.specs.Stands.{IsLocal}
 use Rattle.code_relation.specs.Laws.LocalBytes.{InFrame, in_frame, frame_is, laid_out}
 use Rattle.code_relation.specs.Laws.Untouched.{Among, here, there, among_calls, place_within, frame_within}

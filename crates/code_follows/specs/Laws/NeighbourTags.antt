@@ -1,5 +1,5 @@
 -- Where an access leaves a tagged slot for a neighbour, memory has the tag that the frame says, and it is not the slot's (this project's own).
-use Rattle.std.specs.Prelude.{◌≡◌, ◌≢◌, ℕ, ◌+◌, ◌*◌, ◌/◌, ◌%◌, ◌<◌, ◌≤◌, Bool, true, false, ◌&&◌, leb, ltb, List, slice_get, Some, refl}
+use Rattle.std.specs.Prelude.{◌≡◌, ◌≢◌, ℕ, ◌+◌, ◌*◌, ◌%◌, ◌<◌, ◌≤◌, Bool, true, false, ◌&&◌, leb, ltb, List, slice_get, Some, refl}
 use Rattle.std.specs.Prelude.{if◌then◌else◌}
 use Rattle.std.proofs.Common.{arith, ap, sym, subst, ◌∙◌}
 use Rattle.std.proofs.lemmas.Bool.Decides.{nat_tests}
@@ -10,11 +10,10 @@ use Rattle.mt_base.specs.Tags.{slot_tag}
 use Rattle.c_type_base.specs.declared.typed.TFunction.{TFunction}
 use Rattle.a64_code.specs.State.{State}
 use Rattle.slot_safety.specs.declared.kind.Kind.{Kind as SlotKind}
-use Rattle.slot_safety.specs.declared.kind.Kind.TheVariants.{Safe, Tagged}
+use Rattle.slot_safety.specs.declared.kind.Kind.TheVariants.{Tagged}
 use Rattle.slot_safety.specs.Kinds.{among}
 use Rattle.frame_layout.specs.declared.frame.Frame.{Frame}
 use Rattle.frame_layout.specs.declared.frame.Slot.{Slot}
-use Rattle.frame_layout.specs.Frames.{frame}
 use Rattle.frame_layout.specs.Laws.FrameLaws.{Has}
 use Rattle.frame_layout.specs.Laws.NeighbourLaws.{apart-each}
 use Rattle.frame_layout.specs.Laws.PartLaws.{parts-positive}
@@ -27,20 +26,20 @@ use Rattle.frame_layout.specs.WellFormed.{of_kind, is_tagged_slot}
 use Rattle.block_meaning.specs.Blocks.{Block}
 use Rattle.block_meaning.specs.Linkage.{structs_of, function_named}
 use Rattle.block_meaning.specs.ProgramsInOrder.{InOrder}
-use Rattle.block_meaning.specs.Running.{Function, Call, Context, State as MeaningState}
+use Rattle.block_meaning.specs.Running.{Call, Context, State as MeaningState}
 use Rattle.block_meaning.specs.declared.kind.Kind.TheVariants.{Local}
 use Rattle.code_relation.specs.Calls.{lowest, frame_of}
 use Rattle.code_relation.specs.Ends.{live_locals}
 use Rattle.code_relation.specs.Injects.{Injects}
-use Rattle.code_relation.specs.Sites.{Site, site, Given, units_of, choice_of, Lives, site_of, site_by, site_of_local, site_of_slot, has_byte, is_tagged_block}
+use Rattle.code_relation.specs.Sites.{Site, site, Given, units_of, choice_of, site_of, site_by, site_of_local, site_of_slot, has_byte, is_tagged_block}
 use Rattle.code_relation.specs.Sites.{is_tagged_by, is_tagged_local, slot_in}
 use Rattle.code_relation.specs.Tags.{NoTaggedIn}
 use Rattle.code_relation.specs.Laws.LocalBytes.{frame_is, laid_out}
 use Rattle.code_relation.specs.Laws.Untouched.{Among}
 use Rattle.code_follows.specs.Laws.BlockTags.{granule_on}
-use Rattle.code_follows.specs.Laws.GranuleOwners.{OpenFrame, open_frame, local_bytes, TaggedWell, tagged_well, IsOwner, owner_of, place_on_stack}
+use Rattle.code_follows.specs.Laws.GranuleOwners.{open_frame, local_bytes, IsOwner, owner_of, place_on_stack}
 use Rattle.code_follows.specs.Laws.GranuleOwners.{tagged_kind}
-use Rattle.code_follows.specs.Laws.TaggedSlots.{TaggedBytes, TagThere, owner, nobody, tag_there_is, LivesLocal, among_live, live_among}
+use Rattle.code_follows.specs.Laws.TaggedSlots.{TagThere, owner, nobody, tag_there_is, LivesLocal, among_live, live_among}
 
 -- a place that a slot has, as bytes
 has_bytes : (s : Slot) (place : ℕ) → has_place s place ≡ true → Has s place

@@ -38,7 +38,7 @@ use Rattle.code_follows.specs.Laws.Coming.{starts_low}
 use Rattle.code_follows.specs.Laws.Computing.{Suits-own}
 use Rattle.code_follows.specs.Laws.Going.{Goes-same, Goes-done, Goes-computes}
 use Rattle.code_follows.specs.Laws.Here.{and_then-gives, structs_here}
-use Rattle.code_follows.specs.Laws.Judging.{Accesses, Catches, at_code, Goes-scalar, Goes-cells}
+use Rattle.code_follows.specs.Laws.Judging.{Accesses, at_code, Goes-scalar, Goes-cells}
 use Rattle.code_follows.specs.Laws.LoadingScalars.{PutsValue, puts_near, puts_far}
 use Rattle.code_follows.specs.Laws.Lying.{HasInstrs}
 use Rattle.code_follows.specs.Laws.ScalarSizes.{ScalarBytes, scalar_bytes, load_some}
@@ -124,11 +124,11 @@ module _ {k : Scene} (scene : IsScene k) {first : ℕ} {reg : Reg} {alone : Bool
       inside_at at = subst (λ (x : ℕ). IsAt k.code x u) (omega arith) at
 
   -- what a pointer points to
-  pub loads_through : Catches k → (p : Pointer) → HasInstrs k (load_scalar t (Behind reg) reg ∷ []) from to →
+  pub loads_through : (p : Pointer) → HasInstrs k (load_scalar t (Behind reg) reg ∷ []) from to →
       IsNumber (given_in k) now p (u.register reg.0) →
       ((b : Block) → slice_get now.blocks p.block ≡ Some b → (site_of (given_in k) now p.block b).start % align (structs_in k) t ≡ 0) →
       Goes k first reg alone (ValueIs (given_in k) t) s to value_leaves a (read_scalar k.here span (object t p)) now u
-  loads_through catches p has is_number aligned =
+  loads_through p has is_number aligned =
       let relates = on.came.comes.relates in
       let acc : Access = access k.here false (object t p) in
       let bytes : AccessBytes k t p false = access_bytes scene relates t p false scalar in
@@ -143,8 +143,7 @@ module _ {k : Scene} (scene : IsScene k) {first : ℕ} {reg : Reg} {alone : Bool
         some = bytes.some;
       } in
       Goes-same (and_then-gives (read_scalar k.here span (object t p)) now)
-      (Goes-scalar scene on owing (omega (arith, enough)) span acc (u.register reg.0) next
-      (catches.catches from (u.register reg.0) acc now u relates (at_code on) next) t p gives refl (λ b v lets order reads.
+      (Goes-scalar scene on owing (omega (arith, enough)) span acc (u.register reg.0) next t p gives refl (λ b v lets order reads.
       puts_value (Behind reg) has v
       (puts_far relates.injects t scalar acc bytes.size_is b lets.lives v reads reg (omega (arith, low)) reg
       (site_of (given_in k) now p.block b).tag (omega (arith, low)) lets.points

@@ -24,10 +24,9 @@ use Rattle.frame_layout.specs.Parts.{part_of, parts_from, parts}
 use Rattle.frame_layout.specs.Scopes.{is_inner}
 use Rattle.frame_layout.specs.StatementNeeds.{stmt_need}
 use Rattle.frame_layout.specs.WellFormed.{of_kind}
-use Rattle.block_meaning.specs.Linkage.{structs_in, structs_of, function_in, function_named}
-use Rattle.block_meaning.specs.ProgramsInOrder.{InOrder}
+use Rattle.block_meaning.specs.Linkage.{structs_of, function_named}
 use Rattle.block_meaning.specs.Meaning.{open_bytes}
-use Rattle.block_meaning.specs.Running.{Function, Call, Program}
+use Rattle.block_meaning.specs.Running.{Function, Call}
 use Rattle.code_relation.specs.Calls.{stack_end, lowest, frame_of, LieInOrder}
 use Rattle.code_relation.specs.Calls as calls
 use Rattle.gen_base.specs.Accesses.{load_of, reached_by, reached}

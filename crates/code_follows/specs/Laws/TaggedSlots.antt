@@ -1,5 +1,5 @@
 -- Tagged slots of a frame, the tag that memory has at a place of it, and the locals of a call that live (this project's own).
-use Rattle.std.specs.Prelude.{◌≡◌, ℕ, zero, suc, ◌+◌, ◌%◌, ◌<◌, ◌≤◌, Bool, true, false, ◌||◌, nat_eq, List, [], ◌∷◌, slice_get, Some, refl}
+use Rattle.std.specs.Prelude.{◌≡◌, ℕ, zero, suc, ◌+◌, ◌%◌, ◌<◌, Bool, true, false, ◌||◌, nat_eq, List, [], ◌∷◌, slice_get, Some, refl}
 use Rattle.std.specs.Prelude.{if◌then◌else◌}
 use Rattle.std.proofs.Common.{arith, ap, sym, subst, ◌∙◌}
 use Rattle.std.proofs.lemmas.Bool.{eqb-true}
@@ -23,7 +23,7 @@ use Rattle.frame_layout.specs.Scopes.{is_inner}
 use Rattle.frame_layout.specs.StatementNeeds.{stmt_need}
 use Rattle.block_meaning.specs.Blocks.{Block}
 use Rattle.block_meaning.specs.declared.kind.Kind.{Kind as BlockKind}
-use Rattle.block_meaning.specs.declared.kind.Kind.TheVariants.{NullBlock, Global, Text, Code, Local}
+use Rattle.block_meaning.specs.declared.kind.Kind.TheVariants.{Local}
 use Rattle.code_relation.specs.Ends.{local_of_call, live_locals}
 use Rattle.gen_laws.specs.Laws.Numbers.{some_same}
 

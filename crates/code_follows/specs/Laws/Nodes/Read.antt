@@ -36,7 +36,7 @@ use Rattle.code_follows.specs.Values.{IsOfLevel, ValueIs}
 use Rattle.code_follows.specs.Laws.Coming.{pays, pays-some}
 use Rattle.code_follows.specs.Laws.Going.{spent_one, Goes-same, Goes-stuck, Goes-done, Goes-unit, Goes-some, Goes-part, Part-by}
 use Rattle.code_follows.specs.Laws.Here.{Part-same}
-use Rattle.code_follows.specs.Laws.Judging.{and_then-then, Catches}
+use Rattle.code_follows.specs.Laws.Judging.{and_then-then}
 use Rattle.code_follows.specs.Laws.Knowing.{Goes-unit_known, Goes-part_known}
 use Rattle.code_follows.specs.Laws.Layers.{coded-ty}
 use Rattle.code_follows.specs.Laws.Lying.{Lies-turn, Lies-none, HasInstrs, Lies-plain}
@@ -116,11 +116,11 @@ slot_part {k} {code} {t = t} {run} scene scalar place start is span = Part-by (�
         loads_slot scene t scalar span low owing (omega arith) (omega (arith, pays scene)) start number has
         (slot_is scene owing.came.comes.relates t start local number info there of_type reach named))))
 
-pointer_part : {k : Scene} {code : Coded} {needs : ℕ} {t : Ty} {run : Run Pointer} → IsScene k → is_scalar t ≡ true → Catches k →
+pointer_part : {k : Scene} {code : Coded} {needs : ℕ} {t : Ty} {run : Run Pointer} → IsScene k → is_scalar t ≡ true →
     PlacePart k code needs t run → ComesAligned k t run → (span : Span) →
     Part k (λ m r. in_turn (code.pointer m r ∷ plain (load_scalar t (Behind r) r ∷ []) ∷ [])) needs value_leaves code.alone
     (ValueIs (given_in k) t) (and_then run (λ p. read_scalar k.here span (object t p)))
-pointer_part {k} {code} {t = t} {run} scene scalar catches place aligned span = Part-by (λ first reg from to free lies a now s on.
+pointer_part {k} {code} {t = t} {run} scene scalar place aligned span = Part-by (λ first reg from to free lies a now s on.
     let parts = Lies-turn (code.pointer first reg) (plain (load_scalar t (Behind reg) reg ∷ []) ∷ []) lies in
     let rest = Lies-turn (plain (load_scalar t (Behind reg) reg ∷ [])) [] parts.back in
     let has = Lies-plain (load_scalar t (Behind reg) reg ∷ []) rest.front in
@@ -143,10 +143,10 @@ pointer_part {k} {code} {t = t} {run} scene scalar catches place aligned span = 
         (site_of (given_in k) last p.block b).start % align (structs_in k) t ≡ 0) →
         Goes k first reg code.alone (ValueIs (given_in k) t) s to value_leaves a (and_then (owed owes p) f) now u
     by_owed false first reg from to low has a s now u p on number aligned =
-        loads_through scene t scalar span low on (omega arith) (omega arith) catches p has number (λ b there. aligned now b refl there)
+        loads_through scene t scalar span low on (omega arith) (omega arith) p has number (λ b there. aligned now b refl there)
     by_owed true first reg from to low has a s now u p on number aligned =
         Goes-same (unit-then p f now) (Goes-unit_known on (λ left some owing.
-        loads_through scene t scalar span low owing (omega arith) (omega (arith, pays scene)) catches p has (IsNumber-spent number)
+        loads_through scene t scalar span low owing (omega arith) (omega (arith, pays scene)) p has (IsNumber-spent number)
         (λ b there. aligned (spent now) b (unit_comes p left now some) there)))
 
 -- ---- the node
@@ -165,9 +165,9 @@ either_by true struct none either = refl
 either_by false struct none either = absurd (let both : true ≡ false = sym either ∙ none in cc)
 
 scalar_part : {k : Scene} {code : Coded} {needs : ℕ} {t : Ty} {run : Run Pointer} → IsScene k → is_scalar t ≡ true → is_struct t ≡ false →
-    Catches k → code.ty ≡ t → PlacePart k code needs t run → ComesAligned k t run → (span : Span) →
+    code.ty ≡ t → PlacePart k code needs t run → ComesAligned k t run → (span : Span) →
     Part k (coded.read code) needs value_leaves code.alone (ValueIs (given_in k) t) (and_then run (λ p. read k.here span (object t p)))
-scalar_part {k} {code} {needs} {t} {run} scene scalar none catches of_type place aligned span =
+scalar_part {k} {code} {needs} {t} {run} scene scalar none of_type place aligned span =
     Part-same (λ now s relates. run_is now) (by_slot code.slot refl)
   where
     run_is : (now : MeaningState) → and_then run (λ p. read k.here span (object t p)) now
@@ -182,17 +182,17 @@ scalar_part {k} {code} {needs} {t} {run} scene scalar none catches of_type place
     by_slot (Some start) slot =
         Part-code (λ first reg. code_is (Some start) slot first reg ∙ (rw of_type refl)) (slot_part scene scalar place start slot span)
     by_slot None slot =
-        Part-code (λ first reg. code_is None slot first reg ∙ (rw of_type refl)) (pointer_part scene scalar catches place aligned span)
+        Part-code (λ first reg. code_is None slot first reg ∙ (rw of_type refl)) (pointer_part scene scalar place aligned span)
 
-pub read_follows : (k : Scene) → IsScene k → Catches k → (depth : ℕ) (e : TExpr) → PlaceFollows k depth e →
+pub read_follows : (k : Scene) → IsScene k → (depth : ℕ) (e : TExpr) → PlaceFollows k depth e →
     (is_scalar e.ty || is_struct e.ty) ≡ true → ComesAligned k e.ty ((parts_at (calls_in k) k.here depth).place e) →
     ValueNode k depth e.ty (TNode-F.Read e)
-read_follows k scene catches depth e follows either aligned = record {
+read_follows k scene depth e follows either aligned = record {
   at = λ span around. record {
     part = elim (cases_Bool (is_struct e.ty)) [
       | inl is ↦ struct_part scene (coded-ty (structs_in k) (frame_in k) e) is follows.part e.span
       | inr none ↦
-          scalar_part scene (either_by (is_scalar e.ty) (is_struct e.ty) none either) none catches
+          scalar_part scene (either_by (is_scalar e.ty) (is_struct e.ty) none either) none
           (coded-ty (structs_in k) (frame_in k) e) follows.part aligned e.span
     ];
   };
