@@ -3,7 +3,6 @@ pub mod Lying
 pub mod Walking
 pub mod Coming
 pub mod Going
-pub mod Knowing
 pub mod Here
 pub mod Computing
 pub mod Converting
@@ -28,6 +27,7 @@ pub mod Caught
 pub mod Judging
 pub mod ScalarSizes
 pub mod LoadingScalars
+pub mod Aligning
 pub mod SlotScalars
 pub mod ScalarLoads
 pub mod Paying

@@ -1,8 +1,8 @@
 -- A scalar is loaded into a register, from SP or through a pointer in it: what a read does, as words of a run (this project's own).
-use Rattle.std.specs.Prelude.{◌≡◌, ℕ, ◌+◌, ◌*◌, ◌%◌, ◌<◌, ◌≤◌, Bool, true, false, [], ◌∷◌, slice_get, Some, None, refl}
-use Rattle.std.proofs.Common.{arith, ap, sym, subst, ◌∙◌}
+use Rattle.std.specs.Prelude.{◌≡◌, ℕ, ◌+◌, ◌*◌, ◌%◌, ◌<◌, ◌≤◌, Bool, true, false, [], ◌∷◌, None, refl}
+use Rattle.std.proofs.Common.{arith, ap, sym, subst}
 use Rattle.c_ast.specs.declared.token.Span.{Span}
-use Rattle.c_type_base.specs.Sizes.{size, align}
+use Rattle.c_type_base.specs.Sizes.{size}
 use Rattle.c_type_base.specs.Types.{is_scalar}
 use Rattle.c_type_base.specs.declared.ty.Ty.{Ty}
 use Rattle.a64_code.specs.declared.instr.Reg.{Reg}
@@ -10,7 +10,6 @@ use Rattle.a64_code.specs.State.{State}
 use Rattle.a64_laws.specs.Forms.{Load, Whole, Word, Half, Byte, SignedWord, SignedHalf, SignedByte, load_size}
 use Rattle.a64_laws.specs.Laws.Effects.Open.{IsReadable}
 use Rattle.block_meaning.specs.Access.{reason_against}
-use Rattle.block_meaning.specs.Blocks.{Block}
 use Rattle.block_meaning.specs.Expressions.{start_of}
 use Rattle.block_meaning.specs.Memory.{object, access, structs_at, read_scalar}
 use Rattle.block_meaning.specs.Running.{gives}
@@ -25,7 +24,7 @@ use Rattle.a64_laws.specs.Laws.Effects.Accesses.{IsSize}
 use Rattle.a64_laws.specs.Laws.Loads.{load_is_size}
 use Rattle.gen_laws.specs.Laws.Accesses.{IsNear}
 use Rattle.code_relation.specs.Relates.{Relates}
-use Rattle.code_relation.specs.Sites.{site_of}
+use Rattle.code_relation.specs.Sites.{site_of, units_of}
 use Rattle.code_runs.specs.Bounded.{Account}
 use Rattle.gen_base.specs.Accesses.{load_of, load_from, Where, OnStack, Behind, load_scalar}
 use Rattle.gen_laws.specs.Laws.Computing.{Computes-put}
@@ -33,7 +32,9 @@ use Rattle.code_follows.specs.Leaves.{value_leaves}
 use Rattle.code_follows.specs.Parts.{Goes, On}
 use Rattle.code_follows.specs.Scene.{Scene, IsScene, given_in, structs_in}
 use Rattle.code_follows.specs.Values.{ValueIs}
-use Rattle.code_follows.specs.Laws.Accessing.{none_against, lets_through, address_in, sum_aligned, granule_aligned}
+use Rattle.code_follows.specs.Aligned.{AlignedSlots}
+use Rattle.code_follows.specs.Laws.Aligning.{aligned_there}
+use Rattle.code_follows.specs.Laws.Accessing.{none_against, lets_through, address_in, granule_aligned}
 use Rattle.code_follows.specs.Laws.Coming.{starts_low}
 use Rattle.code_follows.specs.Laws.Computing.{Suits-own}
 use Rattle.code_follows.specs.Laws.Going.{Goes-same, Goes-done, Goes-computes}
@@ -124,11 +125,10 @@ module _ {k : Scene} (scene : IsScene k) {first : ℕ} {reg : Reg} {alone : Bool
       inside_at at = subst (λ (x : ℕ). IsAt k.code x u) (omega arith) at
 
   -- what a pointer points to
-  pub loads_through : (p : Pointer) → HasInstrs k (load_scalar t (Behind reg) reg ∷ []) from to →
+  pub loads_through : AlignedSlots (units_of (given_in k)) → (p : Pointer) → HasInstrs k (load_scalar t (Behind reg) reg ∷ []) from to →
       IsNumber (given_in k) now p (u.register reg.0) →
-      ((b : Block) → slice_get now.blocks p.block ≡ Some b → (site_of (given_in k) now p.block b).start % align (structs_in k) t ≡ 0) →
       Goes k first reg alone (ValueIs (given_in k) t) s to value_leaves a (read_scalar k.here span (object t p)) now u
-  loads_through p has is_number aligned =
+  loads_through slots p has is_number =
       let relates = on.came.comes.relates in
       let acc : Access = access k.here false (object t p) in
       let bytes : AccessBytes k t p false = access_bytes scene relates t p false scalar in
@@ -147,7 +147,5 @@ module _ {k : Scene} (scene : IsScene k) {first : ℕ} {reg : Reg} {alone : Bool
       puts_value (Behind reg) has v
       (puts_far relates.injects t scalar acc bytes.size_is b lets.lives v reads reg (omega (arith, low)) reg
       (site_of (given_in k) now p.block b).tag (omega (arith, low)) lets.points
-      (sum_aligned acc.size (site_of (given_in k) now p.block b).start p.offset bytes.is_size
-      (subst (λ (n : ℕ). (site_of (given_in k) now p.block b).start % n ≡ 0)
-      (ap (λ structs. align structs t) (sym (structs_here scene relates)) ∙ bytes.align_is) (aligned b lets.lives.is))
-      (subst (λ (n : ℕ). p.offset % n ≡ 0) bytes.align_is order.aligned)) lets.readable lets.agrees)))
+      (aligned_there relates.injects scene.file.meant.in_order slots acc (record { size = bytes.is_size; align_is = bytes.align_is }) b
+      lets.lives order) lets.readable lets.agrees)))

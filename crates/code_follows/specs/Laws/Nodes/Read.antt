@@ -1,10 +1,9 @@
 -- The code that reads an object does what it means: a scalar is loaded, from SP or through a pointer, and a struct is where it stands
 -- (ISO C11 6.3.2.1 paragraph 2).
-use Rattle.std.specs.Prelude.{◌≡◌, ℕ, zero, suc, ◌+◌, ◌%◌, ◌<◌, Bool, true, false, ◌||◌, [], ◌∷◌, slice_get, Option, Some, None, refl}
+use Rattle.std.specs.Prelude.{◌≡◌, ℕ, zero, suc, ◌+◌, ◌<◌, Bool, true, false, ◌||◌, [], ◌∷◌, Option, Some, None, refl}
 use Rattle.std.proofs.Common.{arith, ap, sym, subst, inl, inr, ◌∙◌}
 use Rattle.std.proofs.lemmas.Bool.{cases_Bool}
 use Rattle.c_ast.specs.declared.token.Span.{Span}
-use Rattle.c_type_base.specs.Sizes.{align}
 use Rattle.c_type_base.specs.Types.{TyLayer, is_scalar, is_struct, is_there, struct_of_level}
 use Rattle.c_type_base.specs.declared.expr.TExpr.{TExpr}
 use Rattle.c_type_base.specs.declared.expr.TNode.TheOpen.{TNode-F}
@@ -12,32 +11,29 @@ use Rattle.c_type_base.specs.declared.ty.Ty.{Ty, out-Ty}
 use Rattle.c_type_base.specs.declared.ty.Ty.TheOpen.{Ty-F}
 use Rattle.a64_code.specs.declared.instr.Reg.{Reg}
 use Rattle.a64_code.specs.State.{State}
-use Rattle.block_meaning.specs.Blocks.{Block}
-use Rattle.block_meaning.specs.Expressions.{parts_at, starts, start_of}
+use Rattle.block_meaning.specs.Expressions.{starts, start_of}
 use Rattle.block_meaning.specs.Memory.{object, read, read_scalar}
-use Rattle.block_meaning.specs.Running.{Goes as Goes', Run, gives, and_then, goes_on, unit_then, unit_gives, one_of, with_some}
+use Rattle.block_meaning.specs.Running.{Run, gives, and_then, goes_on, unit_then, unit_gives, one_of, with_some}
 use Rattle.block_meaning.specs.Running.{State as MeaningState}
 use Rattle.block_meaning.specs.declared.value.Pointer.{Pointer}
 use Rattle.block_meaning.specs.declared.value.Value.{Value}
 use Rattle.block_meaning.specs.declared.value.Value.TheVariants.{Struct}
-use Rattle.code_relation.specs.Laws.Outcomes.{spent}
 use Rattle.code_relation.specs.Numbers.{IsNumber}
-use Rattle.code_relation.specs.Sites.{Given, site_of}
+use Rattle.code_relation.specs.Sites.{Given, units_of}
 use Rattle.code_runs.specs.Bounded.{Account, later}
 use Rattle.gen_base.specs.Accesses.{OnStack, Behind, load_scalar}
 use Rattle.gen_base.specs.Code.{Code as Items, plain, in_turn}
 use Rattle.gen_expr.specs.Coded.{Coded, Emits, read_slot}
 use Rattle.gen_expr.specs.Coded as coded
-use Rattle.code_follows.specs.Aligned.{ComesAligned}
+use Rattle.code_follows.specs.Aligned.{AlignedSlots}
 use Rattle.code_follows.specs.Leaves.{value_leaves}
 use Rattle.code_follows.specs.Parts.{Result, pointer_leaves, Part, Goes, On, PlacePart, PlaceFollows, ValueNode, SlotRun, names, too_deep, owed}
-use Rattle.code_follows.specs.Scene.{Scene, IsScene, Lies, given_in, calls_in, structs_in, frame_in}
+use Rattle.code_follows.specs.Scene.{Scene, IsScene, Lies, given_in, structs_in, frame_in}
 use Rattle.code_follows.specs.Values.{IsOfLevel, ValueIs}
 use Rattle.code_follows.specs.Laws.Coming.{pays, pays-some}
-use Rattle.code_follows.specs.Laws.Going.{spent_one, Goes-same, Goes-stuck, Goes-done, Goes-unit, Goes-some, Goes-part, Part-by}
+use Rattle.code_follows.specs.Laws.Going.{Goes-same, Goes-stuck, Goes-done, Goes-unit, Goes-some, Goes-part, Part-by}
 use Rattle.code_follows.specs.Laws.Here.{Part-same}
 use Rattle.code_follows.specs.Laws.Judging.{and_then-then}
-use Rattle.code_follows.specs.Laws.Knowing.{Goes-unit_known, Goes-part_known}
 use Rattle.code_follows.specs.Laws.Layers.{coded-ty}
 use Rattle.code_follows.specs.Laws.Lying.{Lies-turn, Lies-none, HasInstrs, Lies-plain}
 use Rattle.code_follows.specs.Laws.ScalarLoads.{loads_slot, loads_through}
@@ -64,12 +60,6 @@ unit-then {A} p f now = by_work now.work
     by_work : (work : ℕ) → goes_on (one_of work (gives p) now) f ≡ one_of work (f p) now
     by_work zero = refl
     by_work (suc left) = refl
-
--- a unit of work that is there is spent
-unit_comes : (p : Pointer) (left : ℕ) (now : MeaningState) → now.work ≡ suc left → unit_gives p now ≡ Goes' p (spent now)
-unit_comes p left now some =
-    ap (λ (w : ℕ). one_of w (gives p) now) some
-    ∙ ap (λ (w : ℕ). gives p (record now { work = w })) (sym (spent_one left now some))
 
 struct_value : {g : Given} {now : MeaningState} (t : Ty) (p : Pointer) (n : ℕ) → is_struct t ≡ true → IsNumber g now p n →
     ValueIs g t (Struct p) now n
@@ -117,21 +107,19 @@ slot_part {k} {code} {t = t} {run} scene scalar place start is span = Part-by (�
         (slot_is scene owing.came.comes.relates t start local number info there of_type reach named))))
 
 pointer_part : {k : Scene} {code : Coded} {needs : ℕ} {t : Ty} {run : Run Pointer} → IsScene k → is_scalar t ≡ true →
-    PlacePart k code needs t run → ComesAligned k t run → (span : Span) →
+    AlignedSlots (units_of (given_in k)) → PlacePart k code needs t run → (span : Span) →
     Part k (λ m r. in_turn (code.pointer m r ∷ plain (load_scalar t (Behind r) r ∷ []) ∷ [])) needs value_leaves code.alone
     (ValueIs (given_in k) t) (and_then run (λ p. read_scalar k.here span (object t p)))
-pointer_part {k} {code} {t = t} {run} scene scalar place aligned span = Part-by (λ first reg from to free lies a now s on.
+pointer_part {k} {code} {t = t} {run} scene scalar slots place span = Part-by (λ first reg from to free lies a now s on.
     let parts = Lies-turn (code.pointer first reg) (plain (load_scalar t (Behind reg) reg ∷ []) ∷ []) lies in
     let rest = Lies-turn (plain (load_scalar t (Behind reg) reg ∷ [])) [] parts.back in
     let has = Lies-plain (load_scalar t (Behind reg) reg ∷ []) rest.front in
     Goes-same (ap (λ r. goes_on r f) (place.pointer.run_is now) ∙ and_then-then place.pointer.first (owed place.pointer.owes) f now)
-    (Goes-part_known (place.pointer.part.yields first reg from parts.middle free parts.front) (omega arith) (λ alone. (refl, alone))
-    (pays-some scene) on (λ p then u n comes came gave.
+    (Goes-part (place.pointer.part.yields first reg from parts.middle free parts.front) (omega arith) (λ alone. (refl, alone))
+    (pays-some scene) on (λ p then u n came gave.
     by_owed place.pointer.owes first reg parts.middle to (omega (arith, free.high))
     (subst (λ (x : ℕ). HasInstrs k (load_scalar t (Behind reg) reg ∷ []) parts.middle x) (Lies-none rest.back) has) (later n a) s then u p
-    came gave.result_is.is
-    (λ last b come there. aligned.aligned now s p last b on.came.comes.relates
-    (place.pointer.run_is now ∙ ap (λ r. goes_on r (owed place.pointer.owes)) comes ∙ come) there))))
+    came gave.result_is.is)))
   where
     f : Pointer → Run Value
     f p = read_scalar k.here span (object t p)
@@ -139,15 +127,12 @@ pointer_part {k} {code} {t = t} {run} scene scalar place aligned span = Part-by 
     by_owed : (owes : Bool) (first : ℕ) (reg : Reg) (from to : ℕ) → reg.0 < 28 →
         HasInstrs k (load_scalar t (Behind reg) reg ∷ []) from to → (a : Account) (s : State) (now : MeaningState) (u : State) (p : Pointer) →
         On k first reg code.alone s from a 0 (0 + pointer_leaves owes) now u → IsNumber (given_in k) now p (u.register reg.0) →
-        ((last : MeaningState) (b : Block) → owed owes p now ≡ Goes' p last → slice_get last.blocks p.block ≡ Some b →
-        (site_of (given_in k) last p.block b).start % align (structs_in k) t ≡ 0) →
         Goes k first reg code.alone (ValueIs (given_in k) t) s to value_leaves a (and_then (owed owes p) f) now u
-    by_owed false first reg from to low has a s now u p on number aligned =
-        loads_through scene t scalar span low on (omega arith) (omega arith) p has number (λ b there. aligned now b refl there)
-    by_owed true first reg from to low has a s now u p on number aligned =
-        Goes-same (unit-then p f now) (Goes-unit_known on (λ left some owing.
-        loads_through scene t scalar span low owing (omega arith) (omega (arith, pays scene)) p has (IsNumber-spent number)
-        (λ b there. aligned (spent now) b (unit_comes p left now some) there)))
+    by_owed false first reg from to low has a s now u p on number =
+        loads_through scene t scalar span low on (omega arith) (omega arith) slots p has number
+    by_owed true first reg from to low has a s now u p on number =
+        Goes-same (unit-then p f now) (Goes-unit on (λ owing.
+        loads_through scene t scalar span low owing (omega arith) (omega (arith, pays scene)) slots p has (IsNumber-spent number)))
 
 -- ---- the node
 
@@ -165,9 +150,9 @@ either_by true struct none either = refl
 either_by false struct none either = absurd (let both : true ≡ false = sym either ∙ none in cc)
 
 scalar_part : {k : Scene} {code : Coded} {needs : ℕ} {t : Ty} {run : Run Pointer} → IsScene k → is_scalar t ≡ true → is_struct t ≡ false →
-    code.ty ≡ t → PlacePart k code needs t run → ComesAligned k t run → (span : Span) →
+    AlignedSlots (units_of (given_in k)) → code.ty ≡ t → PlacePart k code needs t run → (span : Span) →
     Part k (coded.read code) needs value_leaves code.alone (ValueIs (given_in k) t) (and_then run (λ p. read k.here span (object t p)))
-scalar_part {k} {code} {needs} {t} {run} scene scalar none of_type place aligned span =
+scalar_part {k} {code} {needs} {t} {run} scene scalar none slots of_type place span =
     Part-same (λ now s relates. run_is now) (by_slot code.slot refl)
   where
     run_is : (now : MeaningState) → and_then run (λ p. read k.here span (object t p)) now
@@ -182,18 +167,17 @@ scalar_part {k} {code} {needs} {t} {run} scene scalar none of_type place aligned
     by_slot (Some start) slot =
         Part-code (λ first reg. code_is (Some start) slot first reg ∙ (rw of_type refl)) (slot_part scene scalar place start slot span)
     by_slot None slot =
-        Part-code (λ first reg. code_is None slot first reg ∙ (rw of_type refl)) (pointer_part scene scalar place aligned span)
+        Part-code (λ first reg. code_is None slot first reg ∙ (rw of_type refl)) (pointer_part scene scalar slots place span)
 
-pub read_follows : (k : Scene) → IsScene k → (depth : ℕ) (e : TExpr) → PlaceFollows k depth e →
-    (is_scalar e.ty || is_struct e.ty) ≡ true → ComesAligned k e.ty ((parts_at (calls_in k) k.here depth).place e) →
-    ValueNode k depth e.ty (TNode-F.Read e)
-read_follows k scene depth e follows either aligned = record {
+pub read_follows : (k : Scene) → IsScene k → AlignedSlots (units_of (given_in k)) → (depth : ℕ) (e : TExpr) → PlaceFollows k depth e →
+    (is_scalar e.ty || is_struct e.ty) ≡ true → ValueNode k depth e.ty (TNode-F.Read e)
+read_follows k scene slots depth e follows either = record {
   at = λ span around. record {
     part = elim (cases_Bool (is_struct e.ty)) [
       | inl is ↦ struct_part scene (coded-ty (structs_in k) (frame_in k) e) is follows.part e.span
       | inr none ↦
-          scalar_part scene (either_by (is_scalar e.ty) (is_struct e.ty) none either) none
-          (coded-ty (structs_in k) (frame_in k) e) follows.part aligned e.span
+          scalar_part scene (either_by (is_scalar e.ty) (is_struct e.ty) none either) none slots
+          (coded-ty (structs_in k) (frame_in k) e) follows.part e.span
     ];
   };
 }
