@@ -40,7 +40,8 @@ smaller_aligned n m start small large less whole = by_large large less whole sma
     by_small : (m : ℕ) → IsSize n → n ≤ m → start % m ≡ 0 → (start % m ≡ 0 → start % 1 ≡ 0) → (2 ≤ m → start % m ≡ 0 → start % 2 ≡ 0) →
         (4 ≤ m → start % m ≡ 0 → start % 4 ≡ 0) → (8 ≤ m → start % m ≡ 0 → start % 8 ≡ 0) → start % n ≡ 0
     by_small m (inl is) less whole one two four eight = subst (λ (x : ℕ). start % x ≡ 0) (sym is) (one whole)
-    by_small m (inr (inl is)) less whole one two four eight = subst (λ (x : ℕ). start % x ≡ 0) (sym is) (two (omega (arith, is, less)) whole)
+    by_small m (inr (inl is)) less whole one two four eight =
+        subst (λ (x : ℕ). start % x ≡ 0) (sym is) (two (omega (arith, is, less)) whole)
     by_small m (inr (inr (inl is))) less whole one two four eight =
         subst (λ (x : ℕ). start % x ≡ 0) (sym is) (four (omega (arith, is, less)) whole)
     by_small m (inr (inr (inr is))) less whole one two four eight =

@@ -148,5 +148,6 @@ module _ {g : Given} {here : Context} {now : MeaningState} {s : State} (injects 
           ∙ ap (λ m. Ends (machine.TagFault m tag (s.tag (granule_of at)))) address_same
           ∙ ap (λ m. Ends (machine.TagFault (((site_of g now a.at.block b).start + a.at.offset) % 2 ^ 64) m (s.tag (granule_of at))))
           (ap (λ (y : Site). y.tag) (sym lies))
-          ∙ ap (λ m. Ends (machine.TagFault (((site_of g now a.at.block b).start + a.at.offset) % 2 ^ 64) (site_of g now a.at.block b).tag m))
+          ∙ ap (λ m.
+          Ends (machine.TagFault (((site_of g now a.at.block b).start + a.at.offset) % 2 ^ 64) (site_of g now a.at.block b).tag m))
           memory.there

@@ -231,11 +231,11 @@ module _ {g : Given} {here : Context} {now : MeaningState} {s : State} (injects 
                   at.holds (ap (λ e. is_between (lowest e + at.slot.start) b.size x) one ∙ byte) same_granule;
             }
         by_frames (lies_below ends) =
-            absurd (apart_below (lowest c) (frame_of (units_of g) c.function).bytes (lowest at.of) at.slot.start b.size x frame_c.lowest_whole
-            frame_c.bytes_whole frame_d.lowest_whole ends within byte same_granule)
+            absurd (apart_below (lowest c) (frame_of (units_of g) c.function).bytes (lowest at.of) at.slot.start b.size x
+            frame_c.lowest_whole frame_c.bytes_whole frame_d.lowest_whole ends within byte same_granule)
         by_frames (lies_above ends) =
-            absurd (apart_above (lowest c) (lowest at.of) (frame_of (units_of g) at.of.function).bytes at.slot.start b.size x frame_c.lowest_whole
-            frame_d.bytes_whole frame_d.lowest_whole ends (omega (arith, at.behind.before, at.holds)) byte same_granule)
+            absurd (apart_above (lowest c) (lowest at.of) (frame_of (units_of g) at.of.function).bytes at.slot.start b.size x
+            frame_c.lowest_whole frame_d.bytes_whole frame_d.lowest_whole ends (omega (arith, at.behind.before, at.holds)) byte same_granule)
 
     local_owner : (number : ℕ) (b : Block) (other k x : ℕ) → Lives now number b → b.kind ≡ Local other k →
         is_tagged_block g now.calls b.kind ≡ true → has_byte g now number b x ≡ true → granule_of x ≡ granule_of (lowest c + place) →

@@ -11,7 +11,7 @@ use Rattle.a64_code.specs.State.{State}
 use Rattle.block_meaning.specs.Access.{ReadResult, ReadsAs, UndefinedBy, reason_against, read_in, scalar_in, whole_or_part, unless_reason}
 use Rattle.block_meaning.specs.Blocks.{Block, cells_in}
 use Rattle.block_meaning.specs.Memory.{object, access, judged, read_scalar, unless_undefined, what_is_read}
-use Rattle.block_meaning.specs.Running.{Result as Result', Goes as Goes', Stops, Run, IsUndefined, goes_on, and_then, with_some}
+use Rattle.block_meaning.specs.Running.{Context, Result as Result', Goes as Goes', Stops, Run, IsUndefined, goes_on, and_then, with_some}
 use Rattle.block_meaning.specs.Running.{State as MeaningState}
 use Rattle.block_meaning.specs.Values.{is_nothing, value_of_cells}
 use Rattle.block_meaning.specs.declared.access.Access.{Access}
@@ -43,6 +43,18 @@ and_then-then {A} m f h now = by_result (m now)
     by_result : (r : Result' A) → goes_on (goes_on r f) h ≡ goes_on r (λ x. and_then (f x) h)
     by_result (Goes' x next) = refl
     by_result (Stops why next) = refl
+
+-- a write is judged so where nothing is against it
+pub judged_none : (here : Context) (now : MeaningState) (span : Span) (a : Access) (b : Block) → slice_get now.blocks a.at.block ≡ Some b →
+    reason_against b a ≡ None → judged here span a now ≡ Goes' tt now
+judged_none here now span a b there none = by_block (slice_get now.blocks a.at.block) there
+  where
+    by_block : (o : Option Block) → o ≡ Some b →
+        with_some o (λ b. unless_undefined here span a (reason_against b a)) now ≡ Goes' tt now
+    by_block None there = absurd (cc)
+    by_block (Some c) there =
+        ap (λ y. unless_undefined here span a (reason_against y a) now) (some_same there)
+        ∙ ap (λ o. unless_undefined here span a o now) none
 
 -- ---- where a read has no value
 
@@ -92,8 +104,8 @@ the_outside Outside is = refl
 the_outside _ is = absurd (cc)
 
 -- there the code is
-pub at_code : {k : Scene} {first : ℕ} {reg : Reg} {alone : Bool} {s : State} {a : Account} {owes spare from : ℕ} {now : MeaningState} {t : State} →
-    On k first reg alone s from a owes spare now t → IsAt k.code from t
+pub at_code : {k : Scene} {first : ℕ} {reg : Reg} {alone : Bool} {s : State} {a : Account} {owes spare from : ℕ} {now : MeaningState}
+    {t : State} → On k first reg alone s from a owes spare now t → IsAt k.code from t
 at_code on = record {
   pc = on.came.comes.pc;
   as_loaded = on.came.comes.relates.injects.as_loaded;

@@ -1,4 +1,5 @@
--- Where an access leaves a tagged slot for a neighbour, memory has the tag that the frame says, and it is not the slot's (this project's own).
+-- Where an access leaves a tagged slot for a neighbour, memory has the tag that the frame says, and it is not the slot's (this project's
+-- own).
 use Rattle.std.specs.Prelude.{◌≡◌, ◌≢◌, ℕ, ◌+◌, ◌*◌, ◌%◌, ◌<◌, ◌≤◌, Bool, true, false, ◌&&◌, leb, ltb, List, slice_get, Some, refl}
 use Rattle.std.specs.Prelude.{if◌then◌else◌}
 use Rattle.std.proofs.Common.{arith, ap, sym, subst, ◌∙◌}
@@ -31,7 +32,8 @@ use Rattle.block_meaning.specs.declared.kind.Kind.TheVariants.{Local}
 use Rattle.code_relation.specs.Calls.{lowest, frame_of}
 use Rattle.code_relation.specs.Ends.{live_locals}
 use Rattle.code_relation.specs.Injects.{Injects}
-use Rattle.code_relation.specs.Sites.{Site, site, Given, units_of, choice_of, site_of, site_by, site_of_local, site_of_slot, has_byte, is_tagged_block}
+use Rattle.code_relation.specs.Sites.{Site, site, Given, units_of, choice_of, site_of, site_by, site_of_local, site_of_slot, has_byte}
+use Rattle.code_relation.specs.Sites.{is_tagged_block}
 use Rattle.code_relation.specs.Sites.{is_tagged_by, is_tagged_local, slot_in}
 use Rattle.code_relation.specs.Tags.{NoTaggedIn}
 use Rattle.code_relation.specs.Laws.LocalBytes.{frame_is, laid_out}
@@ -72,8 +74,8 @@ same_granule n = omega arith
 
 module _ {g : Given} {here : Context} {now : MeaningState} {s : State} (injects : Injects g here now s) (order : InOrder g.program) where
   -- where a local in a tagged slot lies
-  pub tagged_site : (number : ℕ) (b : Block) (call k : ℕ) (c : Call) (x : Slot) → b.kind ≡ Local call k → slice_get now.calls call ≡ Some c →
-      slot_in g c k ≡ Some x → x.kind ≡ Tagged →
+  pub tagged_site : (number : ℕ) (b : Block) (call k : ℕ) (c : Call) (x : Slot) → b.kind ≡ Local call k →
+      slice_get now.calls call ≡ Some c → slot_in g c k ≡ Some x → x.kind ≡ Tagged →
       site_of g now number b ≡ site (lowest c + x.start) (slot_tag (choice_of g now.calls c) x.index)
   tagged_site number b call k c x kind_is call_is slot_is tag =
       ap (λ kind. site_by g now.calls kind number) kind_is ∙ ap (λ o. site_of_local g now.calls o k) call_is

@@ -133,7 +133,8 @@ module _ {k : Scene} (scene : IsScene k) {first : ℕ} {reg : Reg} {alone : Bool
       let acc : Access = access k.here false (object t p) in
       let bytes : AccessBytes k t p false = access_bytes scene relates t p false scalar in
       let instr : HasInstr k.code from (load_scalar t (Behind reg) reg) =
-      subst (λ (x : ℕ). HasInstr k.code x (load_scalar t (Behind reg) reg)) (omega arith) (has.each 0 (load_scalar t (Behind reg) reg) refl) in
+      subst (λ (x : ℕ). HasInstr k.code x (load_scalar t (Behind reg) reg)) (omega arith)
+      (has.each 0 (load_scalar t (Behind reg) reg) refl) in
       let next : Accesses k from acc (u.register reg.0) now u = record {
         instr = load_scalar t (Behind reg) reg;
         has = instr;

@@ -27,7 +27,8 @@ use Rattle.gen_expr.specs.Coded.{Coded, Emits, read_slot}
 use Rattle.gen_expr.specs.Coded as coded
 use Rattle.code_follows.specs.Aligned.{AlignedSlots}
 use Rattle.code_follows.specs.Leaves.{value_leaves}
-use Rattle.code_follows.specs.Parts.{Result, pointer_leaves, Part, Goes, On, PlacePart, PlaceFollows, ValueNode, SlotRun, names, too_deep, owed}
+use Rattle.code_follows.specs.Parts.{Result, pointer_leaves, Part, Goes, On, PlacePart, PlaceFollows, ValueNode, SlotRun, names, too_deep}
+use Rattle.code_follows.specs.Parts.{owed}
 use Rattle.code_follows.specs.Scene.{Scene, IsScene, Lies, given_in, structs_in, frame_in}
 use Rattle.code_follows.specs.Values.{IsOfLevel, ValueIs}
 use Rattle.code_follows.specs.Laws.Coming.{pays, pays-some}
@@ -82,7 +83,6 @@ struct_part {k} {code} {t = t} {run} scene of_type is place span = Part-by (λ f
     (pays-some scene) on (λ p then u n came gave.
     Goes-done (Struct p) came (omega arith) (struct_value t p (u.register reg.0) is gave.result_is.is))))
 
-
 -- ---- scalars
 
 slot_part : {k : Scene} {code : Coded} {needs : ℕ} {t : Ty} {run : Run Pointer} → IsScene k → is_scalar t ≡ true →
@@ -125,8 +125,8 @@ pointer_part {k} {code} {t = t} {run} scene scalar slots place span = Part-by (�
     f p = read_scalar k.here span (object t p)
 
     by_owed : (owes : Bool) (first : ℕ) (reg : Reg) (from to : ℕ) → reg.0 < 28 →
-        HasInstrs k (load_scalar t (Behind reg) reg ∷ []) from to → (a : Account) (s : State) (now : MeaningState) (u : State) (p : Pointer) →
-        On k first reg code.alone s from a 0 (0 + pointer_leaves owes) now u → IsNumber (given_in k) now p (u.register reg.0) →
+        HasInstrs k (load_scalar t (Behind reg) reg ∷ []) from to → (a : Account) (s : State) (now : MeaningState) (u : State)
+        (p : Pointer) → On k first reg code.alone s from a 0 (0 + pointer_leaves owes) now u → IsNumber (given_in k) now p (u.register reg.0) →
         Goes k first reg code.alone (ValueIs (given_in k) t) s to value_leaves a (and_then (owed owes p) f) now u
     by_owed false first reg from to low has a s now u p on number =
         loads_through scene t scalar span low on (omega arith) (omega arith) slots p has number
