@@ -19,3 +19,4 @@ pub mod Paying
 pub mod Nodes
 pub mod Whole
 pub mod Expressions
+pub mod PartsOfCode

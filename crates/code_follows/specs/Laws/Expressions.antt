@@ -7,15 +7,12 @@ use Rattle.c_type_base.specs.declared.expr.TNode.{out-TNode}
 use Rattle.a64_code.specs.declared.instr.Reg.{Reg}
 use Rattle.a64_code.specs.State.{State}
 use Rattle.frame_layout.specs.Needs.{need}
-use Rattle.block_meaning.specs.declared.value.Pointer.{Pointer}
-use Rattle.block_meaning.specs.declared.value.Value.{Value}
 use Rattle.block_meaning.specs.Expressions.{parts_at}
 use Rattle.block_meaning.specs.ExpressionsInOrder.{ValueInOrder, Designates}
 use Rattle.block_meaning.specs.Meaning.{calls_at}
 use Rattle.block_meaning.specs.Running.{Context, State as MeaningState}
-use Rattle.code_runs.specs.Bounded.{later}
-use Rattle.code_runs.specs.Laws.Bounded.{opened, changes}
-use Rattle.code_relation.specs.Follows.{Follows, Does, IsIn, Span, setting}
+use Rattle.code_runs.specs.Laws.Bounded.{changes}
+use Rattle.code_relation.specs.Follows.{Follows, Does, IsIn, Span}
 use Rattle.code_relation.specs.Relates.{Relates}
 use Rattle.code_relation.specs.Trees.{expression_tree, place_tree}
 use Rattle.sym_code.specs.declared.item.SymItem.{SymItem}
@@ -23,7 +20,7 @@ use Rattle.code_follows.specs.Covered.{covered}
 use Rattle.code_follows.specs.Nodes.{Nodes}
 use Rattle.code_follows.specs.Parts.{ValueFollows, PlaceFollows, coded_in}
 use Rattle.code_follows.specs.Scene.{Scene, IsFree, Lies}
-use Rattle.code_follows.specs.Laws.Whole.{Below, all_below}
+use Rattle.code_follows.specs.Laws.Whole.{all_below}
 
 -- the scene in another context
 abbrev pub scene_at : Scene → Context → Scene
