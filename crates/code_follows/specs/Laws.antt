@@ -41,3 +41,5 @@ pub mod Moving
 pub mod PointerValues
 pub mod Nodes
 pub mod Whole
+pub mod Expressions
+pub mod PartsOfCode

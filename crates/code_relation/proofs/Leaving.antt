@@ -17,16 +17,17 @@ use Rattle.code_relation.specs.Items.{Place, GoesTo}
 use Rattle.code_relation.specs.Outcomes.{outcome_of}
 use Rattle.code_relation.specs.Relates.{Relates}
 use Rattle.code_relation.specs.Sites.{units_of}
+use Rattle.c_type_base.specs.declared.typed.Typed.{Typed}
 use Rattle.code_relation.specs.Trees.{Part, Exits, no_scope, statement_room, ComesBy, FollowsStatement}
 use Rattle.code_relation.specs.Laws.Keeps.{KeepsFrom-bytes}
 use Rattle.code_relation.specs.Laws.Kept.{Injects-same}
 
-abbrev jump : Function → ℕ → ℕ → Part
-jump f first n = record { function = f; items = item.Jump n ∷ []; first = first }
+abbrev jump : Typed → Function → ℕ → ℕ → Part
+jump file f first n = record { file = file; function = f; items = item.Jump n ∷ []; first = first }
 
-break_follows : (f : Function) (first broke continued : ℕ) (st : TStmt) (span : Span) → out-TStmt st ≡ TStmt-F.Break span →
-    FollowsStatement (jump f first broke) broke continued st
-break_follows f first broke continued st span is = record {
+break_follows : (file : Typed) (f : Function) (first broke continued : ℕ) (st : TStmt) (span : Span) → out-TStmt st ≡ TStmt-F.Break span →
+    FollowsStatement (jump file f first broke) broke continued st
+break_follows file f first broke continued st span is = record {
   follows = λ c p scope placed of_scope ordered fresh bound depth. record {
     does = λ here now s within relates begins. record {
       extra = 0;
@@ -45,12 +46,12 @@ break_follows f first broke continued st span is = record {
     by_depth : (c : Code) (p : Place) (bound depth : ℕ) (here : Context) (now : MeaningState) (s : State) → Relates c.given here now s →
         GoesTo c (p.label broke) s →
         Bounded (setting c) (later 0 (opened (setting c) now.work)) (statement_room 0) s
-        (ComesBy c.given (jump f first broke) p (exits p) here s 0)
+        (ComesBy c.given (jump file f first broke) p (exits p) here s 0)
         (outcome_of ((statements_at (calls_at bound) depth).run here st now))
     by_depth c p bound zero here now s relates goes = unsaid
     by_depth c p bound (suc depth) here now s relates goes =
         subst (λ q. Bounded (setting c) (later 0 (opened (setting c) now.work)) (statement_room 0) s
-        (ComesBy c.given (jump f first broke) p (exits p) here s 0) (outcome_of q))
+        (ComesBy c.given (jump file f first broke) p (exits p) here s 0) (outcome_of q))
         (sym (ap (λ layer. stmt_node (statements_at (calls_at bound) depth) here layer now) is))
         (after goes.led
         (done

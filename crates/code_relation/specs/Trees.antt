@@ -36,8 +36,9 @@ use Rattle.code_relation.specs.Numbers.{Holds, IsNumber}
 use Rattle.code_relation.specs.Relates.{Relates}
 use Rattle.code_relation.specs.Sites.{Given, units_of}
 
--- a list of items of a function, and the first temp that the tree may use
+-- a list of items of a function, the file of the function, and the first temp that the tree may use
 pub record Part : Type 0 where
+  pub file : Typed
   pub function : Function
   pub items : List SymItem
   pub first : ℕ
@@ -165,6 +166,7 @@ pub record IsScope (c : Code) (f : Function) (scope : Scope) : Type 0 where
 -- code that follows trees of a function, where its items stand
 pub record IsPlaced (part : Part) (c : Code) (p : Place) : Type 0 where
   pub file : HasFile c part.function
+  pub of_part : file.file ≡ part.file
   pub stands : StandsAt c part.function p part.items
 
 -- Wherever the items stand they follow the expression, into a register.

@@ -1,6 +1,7 @@
 -- Parts of symbolic code, where the whole stands (this project's own).
 use Rattle.std.specs.Prelude.{◌≡◌, ℕ, zero, suc, ◌+◌, List, [], ◌∷◌, ◌++◌, length, slice_get, Some}
 use Rattle.std.proofs.Common.{arith, ap, subst, length-append}
+use Rattle.c_type_base.specs.declared.typed.Typed.{Typed}
 use Rattle.a64_code.specs.State.{State}
 use Rattle.mte_machine.specs.Run.{Steps}
 use Rattle.mte_machine.specs.Laws.Steps.{Steps-add}
@@ -78,10 +79,10 @@ LeaveSteps-back {made = made} xs ys first_led (scope k first last n before jump 
 -- ---- an item where the function ends
 
 -- in the first part, and in the second
-pub ComesToLeave-front : {g : Given} {p : Place} {here : Context} {s : State} {v : Value} {now : MeaningState} {t : State} (f : Function)
-    (first : ℕ) (xs ys : List SymItem) →
-    ComesToLeave g (record { function = f; items = xs; first = first }) p here s v now t →
-    ComesToLeave g (record { function = f; items = xs ++ ys; first = first }) p here s v now t
+pub ComesToLeave-front : {g : Given} {p : Place} {here : Context} {s : State} {v : Value} {now : MeaningState} {t : State} {file : Typed}
+    (f : Function) (first : ℕ) (xs ys : List SymItem) →
+    ComesToLeave g (record { file = file; function = f; items = xs; first = first }) p here s v now t →
+    ComesToLeave g (record { file = file; function = f; items = xs ++ ys; first = first }) p here s v now t
 ComesToLeave-front f first xs ys comes = record {
   position = comes.position;
   leave = get_front xs ys comes.position item.Leave comes.leave;
@@ -91,10 +92,10 @@ ComesToLeave-front f first xs ys comes = record {
   same = comes.same;
 }
 
-pub ComesToLeave-back : {g : Given} {p : Place} {here : Context} {s : State} {v : Value} {now : MeaningState} {t : State} (f : Function)
-    (first : ℕ) (xs ys : List SymItem) →
-    ComesToLeave g (record { function = f; items = ys; first = first }) (from_item (length xs) p) here s v now t →
-    ComesToLeave g (record { function = f; items = xs ++ ys; first = first }) p here s v now t
+pub ComesToLeave-back : {g : Given} {p : Place} {here : Context} {s : State} {v : Value} {now : MeaningState} {t : State} {file : Typed}
+    (f : Function) (first : ℕ) (xs ys : List SymItem) →
+    ComesToLeave g (record { file = file; function = f; items = ys; first = first }) (from_item (length xs) p) here s v now t →
+    ComesToLeave g (record { file = file; function = f; items = xs ++ ys; first = first }) p here s v now t
 ComesToLeave-back f first xs ys comes = record {
   position = length xs + comes.position;
   leave = get_back xs ys comes.position item.Leave comes.leave;
