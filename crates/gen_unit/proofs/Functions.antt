@@ -65,7 +65,8 @@ gains_around r f is at l a b c d place are first second last =
 
 -- ---- the same words
 
-pub gains_same : {T E : Type 0} (r : Result T E) (a b : Output) (ws vs : List Word) → ws ≡ vs → OnOk r (Gains a ws b) → OnOk r (Gains a vs b)
+pub gains_same : {T E : Type 0} (r : Result T E) (a b : Output) (ws vs : List Word) → ws ≡ vs → OnOk r (Gains a ws b) →
+    OnOk r (Gains a vs b)
 gains_same r a b ws vs same = subst (λ ws. OnOk r (Gains a ws b)) same
 
 pub function_words-is : (structs : List StructInfo) (f : TFunction) (fr : Frame) (is : List SymItem) → fr ≡ frame structs f →
@@ -98,8 +99,8 @@ module _ (structs : List StructInfo) (fs : List TFunction) (old : Output) (befor
         ∙ ap (λ gs. places ++ places_from structs (length new.words.items) gs) (sym (drop-all fs k past)) ∙ built.stand;
   }
 
-  pub built_next : (k : ℕ) (f : TFunction) (place : Place) (b c : Output) (places behind : List Place) → k < length fs → f ≡ get_or fs k f →
-      Built structs fs k old before b places → Gains b (function_words structs f) c →
+  pub built_next : (k : ℕ) (f : TFunction) (place : Place) (b c : Output) (places behind : List Place) → k < length fs →
+      f ≡ get_or fs k f → Built structs fs k old before b places → Gains b (function_words structs f) c →
       place ≡ place_of (length b.words.items) (length c.words.items) f → behind ≡ places ++ place ∷ [] →
       Built structs fs (k + 1) old before c behind
   built_next k f place b c places behind within there built turn is pushed = record {
@@ -141,7 +142,8 @@ pub code_by : (typed : Typed) (old new : Output) (places : List Place) (code : U
     AreParts typed.structs typed.functions old [] new places → code.words.items ≡ new.words.items → code.functions.items ≡ places →
     code.relocs.items ≡ new.relocs.items → IsCodeOf typed code
 code_by typed old new places code no_words no_relocs parts words functions relocs = record {
-  words = subst (λ ns. AreWords ns ws) (sym (words ∙ parts.gained.words ∙ ap (λ ns. ns ++ parts.gained.numbers) no_words)) parts.gained.are;
+  words = subst (λ ns. AreWords ns ws) (sym (words ∙ parts.gained.words ∙ ap (λ ns. ns ++ parts.gained.numbers) no_words))
+      parts.gained.are;
   functions = functions ∙ parts.places ∙ ap (λ ns. places_from typed.structs (length ns) typed.functions) no_words;
   relocs = relocs ∙ parts.gained.relocs ∙ ap (λ ns. old.relocs.items ++ relocs_from (length ns) ws) no_words
       ∙ ap (λ rs. rs ++ relocs_from 0 ws) no_relocs;

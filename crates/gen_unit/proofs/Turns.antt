@@ -1,5 +1,6 @@
 -- The loop over items that appends their words.
-use Rattle.std.proofs.Common.{◌≡◌, ℕ, zero, suc, ◌+◌, ◌-◌, ◌^◌, ◌<◌, ◌≤◌, Bool, true, false, List, [], ◌∷◌, ◌++◌, length, drop, get_or, map}
+use Rattle.std.proofs.Common.{◌≡◌, ℕ, zero, suc, ◌+◌, ◌-◌, ◌^◌, ◌<◌, ◌≤◌, Bool, true, false, List, []}
+use Rattle.std.proofs.Common.{◌∷◌, ◌++◌, length, drop, get_or, map}
 use Rattle.std.proofs.Common.{refl, ap, sym, ◌∙◌, arith, drop-cons, append_assoc, append-nil}
 use Rattle.a64_laws.specs.Branches.{Branch, OnZero, OnOther}
 use Rattle.sym_code.specs.declared.item.SymItem.{SymItem}
