@@ -1,3 +1,4 @@
 pub mod Scopes
 pub mod Loops
 pub mod Statements
+pub mod Laws

@@ -5,19 +5,20 @@ use Rattle.a64_code.specs.declared.instr.Reg.{Reg}
 use Rattle.frame_layout.specs.declared.frame.Frame.{Frame}
 use Rattle.sym_code.specs.declared.item.SymItem.TheVariants as item
 use Rattle.gen_base.specs.Code.{Code, only, plain, in_turn, labelled}
-use Rattle.gen_stmt.specs.Scopes.{Range, leave}
+use Rattle.gen_stmt.specs.Scopes.{Range, widened, leave}
+use Rattle.gen_stmt.specs.declared.around.Around.{Around as GivenAround}
 
 -- where the values of statements come
 abbrev pub result : Reg
 result = record { 0 = 9 }
 
--- what stands round a statement
-pub record Around : Type 0 where
-  -- the labels of its loop: behind it, and where its next turn begins
-  pub broke : ℕ
-  pub continued : ℕ
-  -- the locals of the scopes that are open in the loop's body
-  pub opened : Option Range
+-- what stands round a statement: the labels of its loop, and the locals of the scopes that are open in the loop's body
+abbrev pub Around : Type 0
+Around = GivenAround
+
+-- in a scope more
+abbrev pub inside : Around → Range → Around
+inside around r = record around { opened = Some (widened around.opened r) }
 
 -- the code of a statement
 abbrev pub Emits : Type 0

@@ -20,8 +20,8 @@ use Rattle.gen_base.specs.Accesses.{OnStack, Behind, store_scalar, reached}
 use Rattle.gen_base.specs.Code.{Code, nothing, only, plain, in_turn, labelled}
 use Rattle.gen_base.specs.Registers.{scratch, returned, move}
 use Rattle.gen_expr.specs.Expressions.{expression_code}
-use Rattle.gen_stmt.specs.Scopes.{range, widened, enter, leave}
-use Rattle.gen_stmt.specs.Loops.{result, Around, Emits, jump_out, while_code, do_code, for_code}
+use Rattle.gen_stmt.specs.Scopes.{range, enter, leave}
+use Rattle.gen_stmt.specs.Loops.{result, Around, Emits, inside, jump_out, while_code, do_code, for_code}
 
 -- ---- expressions
 
@@ -69,7 +69,7 @@ declarations structs f ds = in_turn (map (declaration structs f) ds)
 abbrev pub scope : Frame → List ℕ → Emits → Emits
 scope f [] body around = body around
 scope f (k ∷ ks) body around = in_turn (
-    enter f (k ∷ ks) ∷ body (record around { opened = Some (widened around.opened (range k ks)) }) ∷ leave f (Some (range k ks)) ∷ [])
+    enter f (k ∷ ks) ∷ body (inside around (range k ks)) ∷ leave f (Some (range k ks)) ∷ [])
 
 -- ---- parts of a block
 
@@ -95,17 +95,27 @@ item_code structs f (TItem-F.Stmt s) = record { declares = []; code = s }
 
 -- ---- statements
 
-abbrev pub if_code : Code → Emits → Option Emits → Emits
-if_code c s None around = in_turn (c ∷ labelled (λ l. in_turn (
-    only (item.JumpIfZero result l) ∷ s around ∷ only (item.Label l) ∷ [])) ∷ [])
-if_code c s (Some other) around = in_turn (c ∷ labelled (λ l. in_turn (
-    only (item.JumpIfZero result l) ∷ s around ∷ only (item.Jump (suc l)) ∷
-    only (item.Label l) ∷ other around ∷ only (item.Label (suc l)) ∷ [])) ∷ [])
+-- a statement where the value is not 0
+abbrev pub branch : Emits → Emits
+branch s around = labelled (λ l. in_turn (only (item.JumpIfZero result l) ∷ s around ∷ only (item.Label l) ∷ []))
 
--- what a `for` declares is in a scope round the loop
+-- and another where it is 0
+abbrev pub branches : Emits → Emits → Emits
+branches s other around = labelled (λ l. in_turn (
+    only (item.JumpIfZero result l) ∷ s around ∷ only (item.Jump (suc l)) ∷
+    only (item.Label l) ∷ other around ∷ only (item.Label (suc l)) ∷ []))
+
+abbrev pub if_code : Code → Emits → Option Emits → Emits
+if_code c s None around = in_turn (c ∷ branch s around ∷ [])
+if_code c s (Some other) around = in_turn (c ∷ branches s other around ∷ [])
+
+-- what comes first in a `for`, and then its loop
+abbrev pub for_parts : List StructInfo → Frame → List TDecl → Option TExpr → Code → Code
+for_parts structs f ds first loop = in_turn (declarations structs f ds ∷ maybe_value structs f first ∷ loop ∷ [])
+
+-- what it declares is in a scope round the loop
 abbrev pub for_scope : List StructInfo → Frame → List TDecl → Option TExpr → Code → Emits
-for_scope structs f ds first loop =
-    scope f (map local_of ds) (λ around. in_turn (declarations structs f ds ∷ maybe_value structs f first ∷ loop ∷ []))
+for_scope structs f ds first loop = scope f (map local_of ds) (λ around. for_parts structs f ds first loop)
 
 abbrev pub return_code : List StructInfo → Frame → Option TExpr → Code
 return_code structs f None = in_turn (plain (constant_moves returned 0) ∷ only item.Leave ∷ [])

@@ -1,2 +1,4 @@
+pub mod Functions
 pub mod Gains
+pub mod Refused
 pub mod Turns

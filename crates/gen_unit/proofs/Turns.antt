@@ -1,16 +1,14 @@
 -- The loop over items that appends their words.
-use Rattle.std.proofs.Common.{◌≡◌, ℕ, zero, suc, ◌+◌, ◌-◌, ◌^◌, ◌<◌, ◌≤◌, Bool, true, false, not, List, [], ◌∷◌, ◌++◌, length, drop, get_or, map}
-use Rattle.std.proofs.Common.{refl, ap, sym, ◌∙◌, arith, drop-cons, append_assoc, append-nil, slice_get}
-use Rattle.std.proofs.lemmas.List.{length-map}
-use Rattle.a64_code.specs.declared.instr.Reg.{Reg}
+use Rattle.std.proofs.Common.{◌≡◌, ℕ, zero, suc, ◌+◌, ◌-◌, ◌^◌, ◌<◌, ◌≤◌, Bool, true, false, List, []}
+use Rattle.std.proofs.Common.{◌∷◌, ◌++◌, length, drop, get_or, map}
+use Rattle.std.proofs.Common.{refl, ap, sym, ◌∙◌, arith, drop-cons, append_assoc, append-nil}
 use Rattle.a64_laws.specs.Branches.{Branch, OnZero, OnOther}
 use Rattle.sym_code.specs.declared.item.SymItem.{SymItem}
 use Rattle.sym_code.specs.declared.item.SymItem.TheVariants as item
-use Rattle.tag_plan.specs.Lists.{enter_list, leave_list}
 use Rattle.gen_unit.specs.declared.output.Output.{Output}
 use Rattle.gen_unit.specs.Appended.{Gains}
 use Rattle.gen_unit.specs.Labels.{words_in}
-use Rattle.gen_unit.specs.Words.{Word, Targets, Form, whole, branch_words, address_of, item_words, item_length}
+use Rattle.gen_unit.specs.Words.{Word, Targets, Form, whole, branch_words, item_words, item_length}
 use Rattle.gen_unit.proofs.Gains.{gains_none, gains_then, gains_as, gains_length}
 
 -- ---- how many words an item becomes hangs on neither its place nor that of labels
@@ -38,12 +36,12 @@ item_words-length f ts at (item.LeaveScope first last) = refl
 
 -- ---- the loop
 
-drop-here : {A : Type 0} (xs : List A) (i : ℕ) (x : A) → i < length xs → x ≡ get_or xs i x → drop i xs ≡ x ∷ drop (i + 1) xs
+pub drop-here : {A : Type 0} (xs : List A) (i : ℕ) (x : A) → i < length xs → x ≡ get_or xs i x → drop i xs ≡ x ∷ drop (i + 1) xs
 drop-here xs i x within is =
     let next : suc i ≡ i + 1 = omega arith in
     drop-cons xs i x within ∙ ap (λ j. get_or xs i x ∷ drop j xs) next ∙ ap (λ y. y ∷ drop (i + 1) xs) (sym is)
 
-drop-all : {A : Type 0} (xs : List A) (i : ℕ) → length xs ≤ i → drop i xs ≡ []
+pub drop-all : {A : Type 0} (xs : List A) (i : ℕ) → length xs ≤ i → drop i xs ≡ []
 drop-all [] zero past = refl
 drop-all [] (suc i) past = refl
 drop-all (x ∷ xs) zero past = absurd (omega (arith, past))

@@ -1,15 +1,18 @@
 -- What the code of a function is appended to, and what its items find of its labels (this project's own).
-use Rattle.std.specs.Prelude.{◌≡◌, ℕ, ◌+◌, ◌^◌, ◌<◌, Bool, true, false, List, ◌++◌, length, Option, Some, None, unwrap_or}
-use Rattle.std.specs.Prelude.{slice_index_or, if◌then◌else◌}
+use Rattle.std.specs.Prelude.{◌≡◌, ℕ, ◌^◌, ◌<◌, Bool, true, false, List, ◌++◌, length, Option, Some, None, unwrap_or}
+use Rattle.std.specs.Prelude.{slice_index_or}
 use Rattle.a64_code.specs.declared.instr.Reg.{Reg}
 use Rattle.a64_laws.specs.Branches.{Branch, OnZero, OnOther}
+use Rattle.c_type_base.specs.declared.typed.StructInfo.{StructInfo}
+use Rattle.c_type_base.specs.declared.typed.TFunction.{TFunction}
 use Rattle.frame_layout.specs.declared.frame.Frame.{Frame}
 use Rattle.sym_code.specs.declared.item.SymItem.{SymItem}
 use Rattle.gen_unit.specs.declared.labels.Labels.{Labels}
 use Rattle.gen_unit.specs.declared.output.Output.{Output}
+use Rattle.gen_unit.specs.declared.parts.Place.{Place}
 use Rattle.gen_unit.specs.Functions.{entry}
 use Rattle.gen_unit.specs.Labels.{is_label, label_in, end_of, form_of}
-use Rattle.gen_unit.specs.Units.{AreWords, relocs_from}
+use Rattle.gen_unit.specs.Units.{AreWords, relocs_from, places_from, all_words}
 use Rattle.gen_unit.specs.Words.{Word, Targets, Form}
 
 -- ---- what is appended
@@ -63,3 +66,11 @@ on false r = OnOther true r
 -- each jump of a function reaches the place where it goes
 abbrev pub IsNear : Frame → List SymItem → Type 0
 IsNear frame is = let at = length (entry frame) in end_of (form_of frame at is) at is < 2 ^ 25
+
+-- ---- functions
+
+-- the words of some functions stand behind what was there, and the places where each of them stands
+pub record AreParts (structs : List StructInfo) (fs : List TFunction) (old : Output) (before : List Place) (new : Output)
+    (behind : List Place) : Type 0 where
+  pub gained : Gains old (all_words structs fs) new
+  pub places : behind ≡ before ++ places_from structs (length old.words.items) fs

@@ -48,6 +48,9 @@ store_arguments f k [] = nothing
 store_arguments f k (l ∷ ls) = in_turn (
     store_local k l.ty (reached l.ty (slice_get f.slots k)) (argument k) ∷ store_arguments f (suc k) ls ∷ [])
 
+abbrev pub params_of : TFunction → List LocalInfo
+params_of f = take f.params f.locals
+
 abbrev pub parts_of : StmtLayer → List TItem
 parts_of (TStmt-F.Block is) = is
 parts_of _ = []
@@ -59,7 +62,7 @@ no_loop = in_loop 0 0
 -- a function that ends without `return` gives 0
 abbrev pub function_code : List StructInfo → TFunction → Frame → Code
 function_code structs f fr = in_turn (
-    store_arguments fr 0 (take f.params f.locals) ∷ body_code structs fr (parts_of (out-TStmt f.body)) no_loop ∷
+    store_arguments fr 0 (params_of f) ∷ body_code structs fr (parts_of (out-TStmt f.body)) no_loop ∷
     plain (constant_moves returned 0) ∷ [])
 
 abbrev pub function_items : List StructInfo → TFunction → List SymItem

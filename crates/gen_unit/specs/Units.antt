@@ -1,5 +1,5 @@
 -- The code of a translation unit.
-use Rattle.std.specs.Prelude.{◌≡◌, ℕ, suc, pos, ◌+◌, ◌*◌, List, [], ◌∷◌, ◌++◌, length, flat_map, Option, Some, None}
+use Rattle.std.specs.Prelude.{◌≡◌, ℕ, suc, pos, ◌+◌, ◌-◌, ◌*◌, List, [], ◌∷◌, ◌++◌, length, flat_map, Option, Some, None}
 use Rattle.c_type_base.specs.declared.typed.StructInfo.{StructInfo}
 use Rattle.c_type_base.specs.declared.typed.TFunction.{TFunction}
 use Rattle.c_type_base.specs.declared.typed.Typed.{Typed}
@@ -11,6 +11,10 @@ use Rattle.gen_unit.specs.Functions.{function_words}
 use Rattle.gen_unit.specs.Words.{Word, Wanted}
 
 -- ---- places
+
+-- a function stands from one place in words to another
+abbrev pub place_of : ℕ → ℕ → TFunction → Place
+place_of from to f = record { name = f.name; local = f.local; start = 4 * from; bytes = 4 * (to - from) }
 
 -- the functions stand one behind the other, from a place in words on
 abbrev pub places_from : List StructInfo → ℕ → List TFunction → List Place

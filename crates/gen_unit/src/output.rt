@@ -27,8 +27,8 @@ fn word_of(instr: Instr) -> Result<u32, AllocError>
     }
 }
 
-// So many words in bytes.
-fn bytes_of(words: usize) -> Result<u64, AllocError>
+/// So many words in bytes.
+pub fn bytes_of(words: usize) -> Result<u64, AllocError>
     ensures { IfOk result (λ bytes. bytes ≡ 4 * words) }
 {
     if words < 1 << 60 {

@@ -1,0 +1,4 @@
+pub mod Appended
+pub mod Constructs
+pub mod Turns
+pub mod Weight
