@@ -19,3 +19,4 @@ pub mod Untouched
 pub mod LocalBytes
 pub mod StoredBytes
 pub mod Stores
+pub mod PointerCells
