@@ -18,3 +18,4 @@ pub mod LocalSites
 pub mod Paying
 pub mod Nodes
 pub mod Whole
+pub mod ScalarBytes
