@@ -20,3 +20,5 @@ pub mod LocalBytes
 pub mod StoredBytes
 pub mod Stores
 pub mod PointerCells
+pub mod SlotSites
+pub mod BytesPut
