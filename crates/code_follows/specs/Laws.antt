@@ -19,3 +19,4 @@ pub mod Paying
 pub mod Nodes
 pub mod Whole
 pub mod ScalarBytes
+pub mod Slots
