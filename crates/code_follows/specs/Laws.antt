@@ -20,3 +20,4 @@ pub mod Nodes
 pub mod Whole
 pub mod ScalarBytes
 pub mod Slots
+pub mod Storing
