@@ -7,6 +7,8 @@ pub mod Here
 pub mod Computing
 pub mod Converting
 pub mod Stack
+pub mod Regions
+pub mod BlockTags
 pub mod Waiting
 pub mod Addresses
 pub mod Scalars
@@ -15,6 +17,11 @@ pub mod Truth
 pub mod Jumping
 pub mod Pointing
 pub mod LocalSites
+pub mod BlockBytes
+pub mod Accessing
+pub mod Judging
+pub mod ScalarSizes
+pub mod LoadingScalars
 pub mod Paying
 pub mod Nodes
 pub mod Whole

@@ -5,6 +5,7 @@ pub mod Told
 pub mod Sequence
 pub mod Lists
 pub mod Reading
+pub mod ReadingPointers
 pub mod Changing
 pub mod Writing
 pub mod Storing

@@ -82,7 +82,8 @@ module _ {k : Scene} (locals : LocalsLie k) {now : MeaningState} {s : State} (re
   injects = relates.injects
 
   -- a live block that is not the null block lies above 0
-  lies_above : (number : ℕ) (b : Block) → nat_eq number 0 ≡ false → Lives now number b → LiesAbove (site_of g now number b) b.size
+  pub lies_above : (number : ℕ) (b : Block) → nat_eq number 0 ≡ false → Lives now number b →
+      LiesAbove (site_of (given_in k) now number b) b.size
   unfolding g injects
   lies_above number b other lives = by_kind b.kind refl
     where
