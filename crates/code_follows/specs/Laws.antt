@@ -1,6 +1,8 @@
 pub mod Layers
 pub mod Lying
 pub mod Walking
+pub mod Lasting
+pub mod Keeping
 pub mod Coming
 pub mod Going
 pub mod Here
@@ -10,6 +12,7 @@ pub mod Stack
 pub mod Regions
 pub mod BlockTags
 pub mod Waiting
+pub mod Temps
 pub mod Addresses
 pub mod Scalars
 pub mod Operand
@@ -22,7 +25,11 @@ pub mod Accessing
 pub mod Judging
 pub mod ScalarSizes
 pub mod LoadingScalars
+pub mod Differing
 pub mod Paying
+pub mod Dividing
+pub mod Operands
+pub mod Moving
 pub mod Nodes
 pub mod Whole
 pub mod ScalarBytes

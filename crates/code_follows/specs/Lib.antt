@@ -6,5 +6,6 @@ pub mod Values
 pub mod Parts
 pub mod Steps
 pub mod Waits
+pub mod Later
 pub mod Nodes
 pub mod Laws

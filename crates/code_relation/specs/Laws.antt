@@ -23,3 +23,5 @@ pub mod Stores
 pub mod PointerCells
 pub mod SlotSites
 pub mod BytesPut
+pub mod TempBytes
+pub mod WholeFrames
