@@ -35,3 +35,4 @@ pub mod Whole
 pub mod ScalarBytes
 pub mod Slots
 pub mod Storing
+pub mod PlaceWaits

@@ -1,5 +1,5 @@
 -- Pointers of different blocks: where the meaning knows that they differ, their numbers do (this project's own).
-use Rattle.std.specs.Prelude.{◌≡◌, ◌≢◌, ℕ, ◌+◌, ◌*◌, ◌%◌, ◌^◌, ◌<◌, ◌≤◌, Bool, true, false, ◌&&◌, ◌||◌, nat_eq, ltb, leb, not, slice_get}
+use Rattle.std.specs.Prelude.{◌≡◌, ◌≢◌, ℕ, ◌+◌, ◌<◌, Bool, true, false, ◌&&◌, ◌||◌, nat_eq, ltb, not, slice_get}
 use Rattle.std.specs.Prelude.{Option, Some, None, if◌then◌else◌, refl}
 use Rattle.std.proofs.Common.{arith, ap, sym, subst, ◌∙◌}
 use Rattle.std.proofs.lemmas.Bool.{eqb-true}
@@ -14,7 +14,7 @@ use Rattle.block_meaning.specs.Running.{State as MeaningState}
 use Rattle.block_meaning.specs.declared.value.Pointer.{Pointer}
 use Rattle.code_relation.specs.Numbers.{IsNumber, number_at}
 use Rattle.code_relation.specs.Relates.{Relates}
-use Rattle.code_relation.specs.Sites.{Site, Given, Lives, site_of, has_byte}
+use Rattle.code_relation.specs.Sites.{Site, Lives, site_of}
 use Rattle.gen_laws.specs.Laws.Numbers.{some_same}
 use Rattle.code_follows.specs.Scene.{Scene, given_in}
 use Rattle.code_follows.specs.Laws.Pointing.{LiesAbove, LocalsLie, lies_here, pointers_true}
