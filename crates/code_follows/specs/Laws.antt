@@ -5,6 +5,7 @@ pub mod Lasting
 pub mod Keeping
 pub mod Coming
 pub mod Going
+pub mod Knowing
 pub mod Here
 pub mod Computing
 pub mod Converting
@@ -26,6 +27,8 @@ pub mod Judging
 pub mod ScalarSizes
 pub mod LoadingScalars
 pub mod Differing
+pub mod SlotAccess
+pub mod SlotScalars
 pub mod Paying
 pub mod Dividing
 pub mod Operands

@@ -77,6 +77,31 @@ in_order b a none =
     both true t is writes = is
     both false t is writes = absurd (cc)
 
+all_false : (m n l o w : Bool) → m ≡ false → n ≡ false → l ≡ false → o ≡ false → w ≡ false →
+    first_reason ((m, Misaligned) ∷ (n, Null) ∷ (l, Dead) ∷ (o, Outside) ∷ (w, ReadOnly) ∷ []) ≡ None
+all_false false false false false false a b c d e = refl
+all_false true n l o w a b c d e = absurd (cc)
+all_false false true l o w a b c d e = absurd (cc)
+all_false false false true o w a b c d e = absurd (cc)
+all_false false false false true w a b c d e = absurd (cc)
+all_false false false false false true a b c d e = absurd (cc)
+
+pub none_against : (b : Block) (a : Access) → IsInOrder b a → reason_against b a ≡ None
+none_against b a order =
+    all_false (not (nat_eq (a.at.offset % a.align) 0)) (is_null_block b.kind) (not b.live) (ltb b.size (a.at.offset + a.size))
+    (a.writes && is_text b.kind) (by_zero (a.at.offset % a.align) order.aligned) order.not_null (ap not order.live)
+    (by_test b.size (a.at.offset + a.size) order.within) (both a.writes (is_text b.kind) order.not_text)
+  where
+    by_zero : (n : ℕ) → n ≡ 0 → not (nat_eq n 0) ≡ false
+    by_zero n is = rw is refl
+
+    by_test : (size n : ℕ) → n ≤ size → ltb size n ≡ false
+    by_test size n is = grind (arith, nat_tests, is)
+
+    both : (w t : Bool) → (w ≡ true → t ≡ false) → (w && t) ≡ false
+    both true t is = is refl
+    both false t is = refl
+
 -- outside of its block is only an access to a live one
 only_outside : (m n l o w : Bool) →
     first_reason ((m, Misaligned) ∷ (n, Null) ∷ (l, Dead) ∷ (o, Outside) ∷ (w, ReadOnly) ∷ []) ≡ Some Outside → l ≡ false

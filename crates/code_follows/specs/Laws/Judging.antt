@@ -28,6 +28,7 @@ use Rattle.code_relation.specs.Relates.{Relates}
 use Rattle.code_runs.specs.Outcome.{Finishes}
 use Rattle.code_runs.specs.Bounded.{Account, sparing, Bounded}
 use Rattle.code_runs.specs.Laws.Bounded.{finishes, unsaid}
+use Rattle.gen_laws.specs.Laws.Numbers.{some_same}
 use Rattle.code_follows.specs.Parts.{Result, Gave, On, Goes}
 use Rattle.code_follows.specs.Scene.{Scene, IsScene, given_in}
 use Rattle.code_follows.specs.Laws.Accessing.{IsInOrder, in_order, outside_live, LetsThrough, lets_through, undefined_at, over_unsaid}
@@ -45,7 +46,7 @@ and_then-then {A} m f h now = by_result (m now)
 -- ---- where a read has no value
 
 -- the access is undefined, or what the cells hold
-data WhyNot (against : Option Reason) (why : Reason) : Type 0 where
+pub data WhyNot (against : Option Reason) (why : Reason) : Type 0 where
   an_access : against ≡ Some why → WhyNot against why
   cells : is_dead_or_outside why ≡ false → WhyNot against why
 
@@ -66,7 +67,7 @@ why_cells true o why is = ap is_dead_or_outside (sym (same_why is))
 why_cells false None why is = ap is_dead_or_outside (sym (same_why is))
 why_cells false (Some v) why is = absurd (cc)
 
-why_not : (b : Block) (t : Ty) (a : Access) (why : Reason) → read_in b t a ≡ UndefinedBy why → WhyNot (reason_against b a) why
+pub why_not : (b : Block) (t : Ty) (a : Access) (why : Reason) → read_in b t a ≡ UndefinedBy why → WhyNot (reason_against b a) why
 why_not b t a why is = by_reason (reason_against b a) is
   where
     by_reason : (against : Option Reason) → unless_reason against (scalar_in t (cells_in b a.at.offset a.size)) ≡ UndefinedBy why →
@@ -177,3 +178,39 @@ module _ {A : Type 0} {k : Scene} (scene : IsScene k) {first : ℕ} {reg : Reg} 
           (outcome_of (goes_on (with_some o (λ b. what_is_read k.here span acc (read_in b ty acc)) now) f))
       by_block None there = unsaid
       by_block (Some b) there = by_held b (read_in b ty acc) there refl
+
+module _ {A : Type 0} {k : Scene} {first : ℕ} {reg : Reg} {alone : Bool} {result : Result A} {s : State} {to leaves : ℕ}
+    {a : Account} {owes spare from : ℕ} {now : MeaningState} {t : State} (on : On k first reg alone s from a owes spare now t)
+    (owing : owes ≤ 1) (pays : 1 ≤ spare) (span : Span) (b : Block) where
+  -- where nothing is against the access, what the cells hold decides
+  pub Goes-cells : (ty : Ty) (p : Pointer) (f : Value → Run A) → k.code.Inside t → slice_get now.blocks p.block ≡ Some b →
+      reason_against b (access k.here false (object ty p)) ≡ None →
+      ((v : Value) → read_in b ty (access k.here false (object ty p)) ≡ ReadsAs v →
+      Goes k first reg alone result s to leaves a (f v) now t) →
+      Goes k first reg alone result s to leaves a (and_then (read_scalar k.here span (object ty p)) f) now t
+  Goes-cells ty p f inside there none more = record { bounded = by_block (slice_get now.blocks p.block) there }
+    where
+      acc : Access
+      acc = access k.here false (object ty p)
+
+      by_held : (held : ReadResult) → read_in b ty acc ≡ held →
+          Bounded (setting k.code) a (λ v. sparing leaves) t (Gave k first reg alone result s to)
+          (outcome_of (goes_on (what_is_read k.here span acc held now) f))
+      by_held (ReadsAs v) is = (more v is).bounded
+      by_held (UndefinedBy why) is =
+          finishes (record { least = omega (arith, on.least, owing); most = omega (arith, on.most, pays) })
+          (record { inside = inside; output = on.came.comes.relates.outside.output; over = by_why (why_not b ty acc why is) })
+        where
+          by_why : WhyNot (reason_against b acc) why →
+              Over (given_in k) (IsUndefined (undefined_at k.here span (Some acc) why now)) now t
+          by_why (an_access against) = let both : None ≡ Some why = sym none ∙ against in absurd (cc)
+          by_why (cells other) = over_unsaid (given_in k) k.here now t span acc why other
+
+      by_block : (o : Option Block) → o ≡ Some b →
+          Bounded (setting k.code) a (λ v. sparing leaves) t (Gave k first reg alone result s to)
+          (outcome_of (goes_on (with_some o (λ b. what_is_read k.here span acc (read_in b ty acc)) now) f))
+      by_block None there = absurd (cc)
+      by_block (Some c) there =
+          subst (λ (c : Block). Bounded (setting k.code) a (λ v. sparing leaves) t (Gave k first reg alone result s to)
+          (outcome_of (goes_on (what_is_read k.here span acc (read_in c ty acc) now) f))) (sym (some_same there))
+          (by_held (read_in b ty acc) refl)
