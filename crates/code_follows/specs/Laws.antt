@@ -39,3 +39,6 @@ pub mod ScalarBytes
 pub mod Slots
 pub mod Storing
 pub mod PlaceWaits
+pub mod SlotReading
+pub mod Splitting
+pub mod Stepping

@@ -46,7 +46,7 @@ and_then-then {A} m f h now = by_result (m now)
 -- ---- where a read has no value
 
 -- the access is undefined, or what the cells hold
-pub data WhyNot (against : Option Reason) (why : Reason) : Type 0 where
+data WhyNot (against : Option Reason) (why : Reason) : Type 0 where
   an_access : against ≡ Some why → WhyNot against why
   cells : is_dead_or_outside why ≡ false → WhyNot against why
 
@@ -67,7 +67,7 @@ why_cells true o why is = ap is_dead_or_outside (sym (same_why is))
 why_cells false None why is = ap is_dead_or_outside (sym (same_why is))
 why_cells false (Some v) why is = absurd (cc)
 
-pub why_not : (b : Block) (t : Ty) (a : Access) (why : Reason) → read_in b t a ≡ UndefinedBy why → WhyNot (reason_against b a) why
+why_not : (b : Block) (t : Ty) (a : Access) (why : Reason) → read_in b t a ≡ UndefinedBy why → WhyNot (reason_against b a) why
 why_not b t a why is = by_reason (reason_against b a) is
   where
     by_reason : (against : Option Reason) → unless_reason against (scalar_in t (cells_in b a.at.offset a.size)) ≡ UndefinedBy why →

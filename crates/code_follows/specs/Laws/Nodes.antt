@@ -21,3 +21,5 @@ pub mod AssignedSlot
 pub mod Element
 pub mod Both
 pub mod PointerSteps
+pub mod Steps
+pub mod SteppedSlot
