@@ -42,3 +42,4 @@ pub mod PlaceWaits
 pub mod SlotReading
 pub mod Splitting
 pub mod Stepping
+pub mod Combining

@@ -23,3 +23,4 @@ pub mod Both
 pub mod PointerSteps
 pub mod Steps
 pub mod SteppedSlot
+pub mod CompoundSlot

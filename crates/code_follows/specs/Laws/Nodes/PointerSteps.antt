@@ -106,7 +106,7 @@ module _ {k : Scene} (scene : IsScene k) (target : Ty) where
     second_fits = both.relates.injects.in_range.registers reg.0;
   }
 
-  added_does : (s u : Ty) → target_of s ≡ Some target → is_integer u ≡ true → (span : Span) →
+  pub added_does : (s u : Ty) → target_of s ≡ Some target → is_integer u ≡ true → (span : Span) →
       DoesBoth k (ValueIs (given_in k) s) (ValueIs (given_in k) u) (ValueIs (given_in k) s)
       (pointer_and_number binary.Add (wrapped_size (structs_in k) target))
       (λ v w. operated k.here span binary.Add (operand s v) (operand u w))
@@ -125,7 +125,7 @@ module _ {k : Scene} (scene : IsScene k) (target : Ty) where
         (record { of = pointer_of s target (moved one.pointer (count * sized)) of; holds = moves_on count sized one.number });
   }
 
-  taken_does : (s u : Ty) → target_of s ≡ Some target → is_integer u ≡ true → (span : Span) →
+  pub taken_does : (s u : Ty) → target_of s ≡ Some target → is_integer u ≡ true → (span : Span) →
       DoesBoth k (ValueIs (given_in k) s) (ValueIs (given_in k) u) (ValueIs (given_in k) s)
       (pointer_and_number binary.Subtract (wrapped_size (structs_in k) target))
       (λ v w. operated k.here span binary.Subtract (operand s v) (operand u w))
