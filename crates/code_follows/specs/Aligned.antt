@@ -1,18 +1,18 @@
--- Where a run comes to the place of an object, the block there starts on a multiple of a type's alignment (this project's own). So do all
--- file-scope objects, texts and tagged locals. A local that is not tagged does where the place is a path in it, as `.member` and
--- `[constant]`; no other pointer to it is made.
-use Rattle.std.specs.Prelude.{◌≡◌, ◌%◌, slice_get, Some}
-use Rattle.c_type_base.specs.Sizes.{align}
-use Rattle.c_type_base.specs.declared.ty.Ty.{Ty}
-use Rattle.a64_code.specs.State.{State}
-use Rattle.block_meaning.specs.Blocks.{Block}
-use Rattle.block_meaning.specs.Running.{Goes, Run, State as MeaningState}
-use Rattle.block_meaning.specs.declared.value.Pointer.{Pointer}
-use Rattle.code_relation.specs.Relates.{Relates}
-use Rattle.code_relation.specs.Sites.{site_of}
-use Rattle.code_follows.specs.Scene.{Scene, given_in, structs_in}
+-- Programs of which each local in a safe slot is a scalar, or stands on a multiple of 8 (this project's own). No scalar wants more, and one
+-- within a scalar wants no more than that. Where a path leads to a smaller part of an array in a safe slot, the code is right too, but that
+-- no other pointer leads there is not shown yet.
+use Rattle.std.specs.Prelude.{◌≡◌, ℕ, ◌%◌, true, ◌⊎◌, List, slice_get, Some}
+use Rattle.c_type_base.specs.Types.{is_scalar}
+use Rattle.c_type_base.specs.declared.typed.LocalInfo.{LocalInfo}
+use Rattle.c_type_base.specs.declared.typed.TFunction.{TFunction}
+use Rattle.c_type_base.specs.declared.typed.Typed.{Typed}
+use Rattle.slot_safety.specs.declared.kind.Kind.TheVariants.{Safe}
+use Rattle.frame_layout.specs.declared.frame.Slot.{Slot}
+use Rattle.block_meaning.specs.Linkage.{function_named}
+use Rattle.block_meaning.specs.Running.{Function}
+use Rattle.code_relation.specs.Calls.{frame_of}
 
-pub record ComesAligned (k : Scene) (t : Ty) (run : Run Pointer) : Type 0 where
-  pub aligned : (now : MeaningState) (s : State) (p : Pointer) (then : MeaningState) (b : Block) → Relates (given_in k) k.here now s →
-      run now ≡ Goes p then → slice_get then.blocks p.block ≡ Some b →
-      (site_of (given_in k) then p.block b).start % align (structs_in k) t ≡ 0
+pub record AlignedSlots (units : List Typed) : Type 0 where
+  pub each : (f : Function) (function : TFunction) (k : ℕ) (l : LocalInfo) (s : Slot) → function_named units f ≡ Some function →
+      slice_get function.locals k ≡ Some l → slice_get (frame_of units f).slots k ≡ Some s → s.kind ≡ Safe →
+      (is_scalar l.ty ≡ true) ⊎ (s.start % 8 ≡ 0)

@@ -5,7 +5,6 @@ pub mod Lasting
 pub mod Keeping
 pub mod Coming
 pub mod Going
-pub mod Knowing
 pub mod Here
 pub mod Computing
 pub mod Converting
@@ -23,12 +22,18 @@ pub mod Pointing
 pub mod LocalSites
 pub mod BlockBytes
 pub mod Accessing
+pub mod SlotAccess
+pub mod TaggedSlots
+pub mod GranuleOwners
+pub mod NeighbourTags
+pub mod Caught
 pub mod Judging
 pub mod ScalarSizes
 pub mod LoadingScalars
 pub mod Differing
-pub mod SlotAccess
+pub mod Aligning
 pub mod SlotScalars
+pub mod ScalarLoads
 pub mod Paying
 pub mod Dividing
 pub mod Operands

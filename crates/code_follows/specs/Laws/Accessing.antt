@@ -144,8 +144,8 @@ module _ {k : Scene} (scene : IsScene k) {now : MeaningState} {s : State} (relat
   ]
 
   -- it is let through where it is in order, but for its alignment
-  pub lets_through : (a : Access) (b : Block) (number : ℕ) → slice_get now.blocks a.at.block ≡ Some b → IsNumber (given_in k) now a.at number →
-      reason_against b a ≡ None → 1 ≤ a.size → LetsThrough (given_in k) now s a b number
+  pub lets_through : (a : Access) (b : Block) (number : ℕ) → slice_get now.blocks a.at.block ≡ Some b →
+      IsNumber (given_in k) now a.at number → reason_against b a ≡ None → 1 ≤ a.size → LetsThrough (given_in k) now s a b number
   lets_through a b number there is none some =
       let order = in_order b a none in
       let injects = relates.injects in

@@ -30,7 +30,7 @@ use Rattle.gen_laws.specs.Laws.Numbers.{some_same}
 
 -- ---- functions have no bytes
 
-abbrev is_code : Kind → Bool
+abbrev pub is_code : Kind → Bool
 is_code (Code unit k) = true
 is_code _ = false
 
@@ -82,7 +82,8 @@ opening_empty units unit (u ∷ us) n b is =
     (λ i. codes_empty unit 0 u.functions i b))
     (λ j. opening_empty units (unit + 1) us j b) is
 
-code_empty : (units : List Typed) (n : ℕ) (b : Block) → slice_get (opening units) n ≡ Some b → is_code b.kind ≡ true → b.size ≡ 0
+-- the block of a function is empty
+pub code_empty : (units : List Typed) (n : ℕ) (b : Block) → slice_get (opening units) n ≡ Some b → is_code b.kind ≡ true → b.size ≡ 0
 code_empty units zero b is code = (other_kind null_block b is refl).empty code
 code_empty units (suc n) b is code = (opening_empty units 0 units n b is).empty code
 

@@ -14,7 +14,7 @@ use Rattle.block_meaning.specs.declared.kind.Kind.{Kind}
 use Rattle.block_meaning.specs.declared.kind.Kind.TheVariants.{NullBlock, Global, Text, Code, Local}
 use Rattle.code_relation.specs.Calls.{stack_end}
 use Rattle.code_relation.specs.Injects.{Injects}
-use Rattle.code_relation.specs.Loaded.{IsFileBlock, NoObjectIn, file_byte}
+use Rattle.code_relation.specs.Loaded.{on_stack, IsFileBlock, NoObjectIn, file_byte}
 use Rattle.code_relation.specs.Sites.{Given, Lives, site_of, site_by, site_of_slot, site_of_local, has_byte, is_tagged_block, is_tagged_by}
 use Rattle.code_relation.specs.Sites.{is_object, is_of_file, is_tagged_local, slot_in}
 use Rattle.code_relation.specs.Stands.{WasOpened, IsAsOpened}
@@ -39,11 +39,11 @@ site_of_file g now (Text unit k) number is = refl
 site_of_file g now (Code unit k) number is = refl
 
 -- the stack has whole granules
-granule_off : (stack a : ℕ) → stack % 1024 ≡ 0 → stack ≤ 67108864 → is_between (stack_end - stack) stack a ≡ false →
+pub granule_off : (stack a : ℕ) → stack % 1024 ≡ 0 → stack ≤ 67108864 → is_between (stack_end - stack) stack a ≡ false →
     is_between (stack_end - stack) stack (granule_of a * 16) ≡ false
 granule_off stack a whole most off = grind (arith, nat_tests, whole, most, off)
 
-granule_on : (stack a : ℕ) → stack % 1024 ≡ 0 → stack ≤ 67108864 → is_between (stack_end - stack) stack a ≡ true →
+pub granule_on : (stack a : ℕ) → stack % 1024 ≡ 0 → stack ≤ 67108864 → is_between (stack_end - stack) stack a ≡ true →
     is_between (stack_end - stack) stack (granule_of a * 16) ≡ true
 granule_on stack a whole most on = grind (arith, nat_tests, whole, most, on)
 
@@ -96,17 +96,23 @@ module _ {g : Given} {here : Context} {now : MeaningState} {s : State} (injects 
     | inr none ↦ none
   ]
 
-  of_file_zero : (number : ℕ) (b : Block) (a : ℕ) → Lives now number b → is_of_file b.kind ≡ true → is_object b.kind ≡ false →
-      has_byte g now number b a ≡ true → s.tag (granule_of a) ≡ 0
-  of_file_zero number b a lives of_file other has =
+  -- a block of a file is off the stack
+  pub file_off_stack : (number : ℕ) (b : Block) (a : ℕ) → Lives now number b → is_of_file b.kind ≡ true → has_byte g now number b a ≡ true →
+      on_stack g a ≡ false
+  file_off_stack number b a lives of_file has =
       let was : WasOpened g number b = injects.stands.of_files number b lives.is of_file in
       let file : IsFileBlock g number was.before = record { is = was.is; of_file = ap is_of_file (sym was.kind_is) ∙ of_file } in
       let byte : file_byte g number was.before a ≡ true =
       ap (λ n. is_between (g.starts number).start n a) (sym was.size_is)
       ∙ ap (λ y. is_between y.start b.size a) (sym (site_of_file g now b.kind number of_file)) ∙ has in
+      injects.files.outside number was.before a file byte
+
+  of_file_zero : (number : ℕ) (b : Block) (a : ℕ) → Lives now number b → is_of_file b.kind ≡ true → is_object b.kind ≡ false →
+      has_byte g now number b a ≡ true → s.tag (granule_of a) ≡ 0
+  of_file_zero number b a lives of_file other has =
       injects.tags.without_object (granule_of a)
       (granule_off g.program.stack a injects.loaded.stack_size.whole injects.loaded.stack_size.most
-      (injects.files.outside number was.before a file byte))
+      (file_off_stack number b a lives of_file has))
       (no_object number b a lives other has)
 
   of_local_zero : (number : ℕ) (b : Block) (call k a : ℕ) → Lives now number b → b.kind ≡ Local call k →

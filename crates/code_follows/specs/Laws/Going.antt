@@ -29,10 +29,10 @@ use Rattle.code_follows.specs.Laws.Walking.{are_quiet, Short}
 
 -- ---- work
 
-pub spent_one : (left : ℕ) (now : MeaningState) → now.work ≡ suc left → (spent now).work ≡ left
+spent_one : (left : ℕ) (now : MeaningState) → now.work ≡ suc left → (spent now).work ≡ left
 spent_one left now is = ap one_less is
 
-pub per_one : (per left : ℕ) (now : MeaningState) → now.work ≡ suc left → per * now.work ≡ per * (spent now).work + per
+per_one : (per left : ℕ) (now : MeaningState) → now.work ≡ suc left → per * now.work ≡ per * (spent now).work + per
 per_one per left now is =
     ap (λ w. per * w) (is ∙ (let e : suc left ≡ left + 1 = omega arith in e))
     ∙ product_split per left 1

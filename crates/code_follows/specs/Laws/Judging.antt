@@ -11,7 +11,7 @@ use Rattle.a64_code.specs.State.{State}
 use Rattle.block_meaning.specs.Access.{ReadResult, ReadsAs, UndefinedBy, reason_against, read_in, scalar_in, whole_or_part, unless_reason}
 use Rattle.block_meaning.specs.Blocks.{Block, cells_in}
 use Rattle.block_meaning.specs.Memory.{object, access, judged, read_scalar, unless_undefined, what_is_read}
-use Rattle.block_meaning.specs.Running.{Result as Result', Goes as Goes', Stops, Run, IsUndefined, goes_on, and_then, with_some}
+use Rattle.block_meaning.specs.Running.{Context, Result as Result', Goes as Goes', Stops, Run, IsUndefined, goes_on, and_then, with_some}
 use Rattle.block_meaning.specs.Running.{State as MeaningState}
 use Rattle.block_meaning.specs.Values.{is_nothing, value_of_cells}
 use Rattle.block_meaning.specs.declared.access.Access.{Access}
@@ -19,7 +19,7 @@ use Rattle.block_meaning.specs.declared.reason.Reason.{Reason}
 use Rattle.block_meaning.specs.declared.reason.Reason.TheVariants.{Indeterminate, Outside}
 use Rattle.block_meaning.specs.declared.value.Pointer.{Pointer}
 use Rattle.block_meaning.specs.declared.value.Value.{Value}
-use Rattle.code_relation.specs.Ends.{AccessesAt, IsCaught, is_dead_or_outside, is_outside, Over}
+use Rattle.code_relation.specs.Ends.{AccessesAt, NextAccesses, is_dead_or_outside, is_outside, Over}
 use Rattle.code_relation.specs.Follows.{setting}
 use Rattle.code_relation.specs.Items.{IsAt, HasInstr}
 use Rattle.code_relation.specs.Numbers.{IsNumber}
@@ -31,6 +31,7 @@ use Rattle.code_runs.specs.Laws.Bounded.{finishes, unsaid}
 use Rattle.gen_laws.specs.Laws.Numbers.{some_same}
 use Rattle.code_follows.specs.Parts.{Result, Gave, On, Goes}
 use Rattle.code_follows.specs.Scene.{Scene, IsScene, given_in}
+use Rattle.code_follows.specs.Laws.Caught.{is_caught}
 use Rattle.code_follows.specs.Laws.Accessing.{IsInOrder, in_order, outside_live, LetsThrough, lets_through, undefined_at, over_unsaid}
 use Rattle.code_follows.specs.Laws.Accessing.{over_access}
 
@@ -42,6 +43,18 @@ and_then-then {A} m f h now = by_result (m now)
     by_result : (r : Result' A) → goes_on (goes_on r f) h ≡ goes_on r (λ x. and_then (f x) h)
     by_result (Goes' x next) = refl
     by_result (Stops why next) = refl
+
+-- a write is judged so where nothing is against it
+pub judged_none : (here : Context) (now : MeaningState) (span : Span) (a : Access) (b : Block) → slice_get now.blocks a.at.block ≡ Some b →
+    reason_against b a ≡ None → judged here span a now ≡ Goes' tt now
+judged_none here now span a b there none = by_block (slice_get now.blocks a.at.block) there
+  where
+    by_block : (o : Option Block) → o ≡ Some b →
+        with_some o (λ b. unless_undefined here span a (reason_against b a)) now ≡ Goes' tt now
+    by_block None there = absurd (cc)
+    by_block (Some c) there =
+        ap (λ y. unless_undefined here span a (reason_against y a) now) (some_same there)
+        ∙ ap (λ o. unless_undefined here span a o now) none
 
 -- ---- where a read has no value
 
@@ -86,42 +99,41 @@ pub record Accesses (k : Scene) (from : ℕ) (a : Access) (number : ℕ) (now : 
   pub is_number : IsNumber (given_in k) now a.at number
   pub some : 1 ≤ a.size
 
--- where it leaves its local for a neighbour it is caught
-pub record CaughtIn (k : Scene) (a : Access) (now : MeaningState) (t : State) : Type 0 where
-  pub caught : (b : Block) → slice_get now.blocks a.at.block ≡ Some b → b.live ≡ true → IsCaught (given_in k) now a t
-
 the_outside : (why : Reason) → is_outside why ≡ true → why ≡ Outside
 the_outside Outside is = refl
 the_outside _ is = absurd (cc)
 
 -- there the code is
-at_code : {k : Scene} {first : ℕ} {reg : Reg} {alone : Bool} {s : State} {a : Account} {owes spare from : ℕ} {now : MeaningState} {t : State} →
-    On k first reg alone s from a owes spare now t → IsAt k.code from t
+pub at_code : {k : Scene} {first : ℕ} {reg : Reg} {alone : Bool} {s : State} {a : Account} {owes spare from : ℕ} {now : MeaningState}
+    {t : State} → On k first reg alone s from a owes spare now t → IsAt k.code from t
 at_code on = record {
   pc = on.came.comes.pc;
   as_loaded = on.came.comes.relates.injects.as_loaded;
   in_range = on.came.comes.relates.injects.in_range;
 }
 
--- the run is over because of the access
-by_access : {k : Scene} {from number : ℕ} {acc : Access} {now : MeaningState} {t : State} (span : Span) → Relates (given_in k) k.here now t →
-    IsAt k.code from t → Accesses k from acc number now t → CaughtIn k acc now t → (b : Block) (why : Reason) →
+-- The run is over because of the access, which is caught where it leaves a tagged local for a neighbour.
+by_access : {k : Scene} {from number : ℕ} {acc : Access} {now : MeaningState} {t : State} → IsScene k → (span : Span) →
+    Relates (given_in k) k.here now t → IsAt k.code from t → Accesses k from acc number now t → (b : Block) (why : Reason) →
     slice_get now.blocks acc.at.block ≡ Some b → reason_against b acc ≡ Some why →
     Over (given_in k) (IsUndefined (undefined_at k.here span (Some acc) why now)) now t
-by_access {k} {number = number} {acc} {now} {t} span relates is_at next caught b why there is =
-    over_access (given_in k) k.here now t span acc why relates
-    (record {
+by_access {k} {number = number} {acc} {now} {t} scene span relates is_at next b why there is =
+    over_access (given_in k) k.here now t span acc why relates reaches
+    (λ outside. is_caught relates.injects scene.file.meant.in_order acc reaches
+    (λ c also. outside_live c acc (ap (λ y. reason_against y acc) (some_same (sym also ∙ there)) ∙ is ∙ ap Some (the_outside why outside))))
+  where
+    reaches : NextAccesses (given_in k) now acc t
+    reaches = record {
       instr = next.instr;
       instr_is = next.has.is t is_at;
       number = number;
       number_is = next.is_number;
       accesses = next.accesses;
-    })
-    (λ outside. caught.caught b there (outside_live b acc (is ∙ ap Some (the_outside why outside))))
+    }
 
 module _ {A : Type 0} {k : Scene} (scene : IsScene k) {first : ℕ} {reg : Reg} {alone : Bool} {result : Result A} {s : State} {to leaves : ℕ}
     {a : Account} {owes spare from : ℕ} {now : MeaningState} {t : State} (on : On k first reg alone s from a owes spare now t)
-    (owing : owes ≤ 1) (pays : 1 ≤ spare) (span : Span) (acc : Access) (number : ℕ) (next : Accesses k from acc number now t) (caught : CaughtIn k acc now t) where
+    (owing : owes ≤ 1) (pays : 1 ≤ spare) (span : Span) (acc : Access) (number : ℕ) (next : Accesses k from acc number now t) where
   -- the run stops, and the machine's next step is inside
   stopped : (why : Reason) → Over (given_in k) (IsUndefined (undefined_at k.here span (Some acc) why now)) now t →
       Bounded (setting k.code) a (λ v. sparing leaves) t (Gave k first reg alone result s to)
@@ -141,7 +153,7 @@ module _ {A : Type 0} {k : Scene} (scene : IsScene k) {first : ℕ} {reg : Reg} 
           (outcome_of (goes_on (unless_undefined k.here span acc against now) f))
       by_reason b None there is =
           (more b (lets_through scene on.came.comes.relates acc b number there next.is_number is next.some) (in_order b acc is)).bounded
-      by_reason b (Some why) there is = stopped why (by_access span on.came.comes.relates (at_code on) next caught b why there is)
+      by_reason b (Some why) there is = stopped why (by_access scene span on.came.comes.relates (at_code on) next b why there is)
 
       by_block : (o : Option Block) → slice_get now.blocks acc.at.block ≡ o →
           Bounded (setting k.code) a (λ v. sparing leaves) t (Gave k first reg alone result s to)
@@ -170,7 +182,7 @@ module _ {A : Type 0} {k : Scene} (scene : IsScene k) {first : ℕ} {reg : Reg} 
         where
           by_why : WhyNot (reason_against b acc) why →
               Over (given_in k) (IsUndefined (undefined_at k.here span (Some acc) why now)) now t
-          by_why (an_access against) = by_access span on.came.comes.relates (at_code on) next caught b why there against
+          by_why (an_access against) = by_access scene span on.came.comes.relates (at_code on) next b why there against
           by_why (cells other) = over_unsaid (given_in k) k.here now t span acc why other
 
       by_block : (o : Option Block) → slice_get now.blocks acc.at.block ≡ o →

@@ -51,8 +51,8 @@ pointer_value {g} {now} t target v n of is =
     subst (λ (x : Value). ValueIs g t x now n) (sym is.is)
     (record { of = subst (λ (l : TyLayer). IsOfLevel l (Address is.pointer)) (sym of) tt; holds = is.number })
 
-module _ {g : Given} {here : Context} {now : MeaningState} {s : State} (injects : Injects g here now s) (t : Ty) (scalar : is_scalar t ≡ true)
-    (a : Access) (size_is : a.size ≡ load_size (load_of t)) (b : Block) (lives : Lives now a.at.block b) (v : Value)
+module _ {g : Given} {here : Context} {now : MeaningState} {s : State} (injects : Injects g here now s) (t : Ty)
+    (scalar : is_scalar t ≡ true) (a : Access) (size_is : a.size ≡ load_size (load_of t)) (b : Block) (lives : Lives now a.at.block b) (v : Value)
     (reads : read_in b t a ≡ ReadsAs v) (r : Reg) (small : r.0 < 31) where
   bytes : (x : ℕ) → s.byte x < 256
   bytes x = injects.in_range.bytes x

@@ -1,5 +1,6 @@
 pub mod Constant
 pub mod Paren
+pub mod Read
 pub mod Convert
 pub mod SizeOf
 pub mod Named

@@ -24,10 +24,9 @@ use Rattle.frame_layout.specs.Parts.{part_of, parts_from, parts}
 use Rattle.frame_layout.specs.Scopes.{is_inner}
 use Rattle.frame_layout.specs.StatementNeeds.{stmt_need}
 use Rattle.frame_layout.specs.WellFormed.{of_kind}
-use Rattle.block_meaning.specs.Linkage.{structs_in, structs_of, function_in, function_named}
-use Rattle.block_meaning.specs.ProgramsInOrder.{InOrder}
+use Rattle.block_meaning.specs.Linkage.{structs_of, function_named}
 use Rattle.block_meaning.specs.Meaning.{open_bytes}
-use Rattle.block_meaning.specs.Running.{Function, Call, Program}
+use Rattle.block_meaning.specs.Running.{Function, Call}
 use Rattle.code_relation.specs.Calls.{stack_end, lowest, frame_of, LieInOrder}
 use Rattle.code_relation.specs.Calls as calls
 use Rattle.gen_base.specs.Accesses.{load_of, reached_by, reached}
@@ -67,19 +66,6 @@ is_reached t o start is = by_scalar (is_scalar t) refl o refl is
     by_scalar false scalar (Some s) there is = absurd (cc)
 
 -- ---- frames
-
-pub frame_is : (units : List Typed) (f : Function) (function : TFunction) → function_named units f ≡ Some function →
-    frame_of units f ≡ frame (structs_of units f.unit) function
-frame_is units f function is = ap (λ o. calls.frame_by units f.unit o) is
-
--- the structs of a function's file are laid out
-pub laid_out : (p : Program) → InOrder p → (f : Function) (function : TFunction) → function_named p.units f ≡ Some function →
-    LaidOut (structs_of p.units f.unit)
-laid_out p order f function is = by_file (slice_get p.units f.unit) refl is
-  where
-    by_file : (u : Option Typed) → slice_get p.units f.unit ≡ u → function_in u f.number ≡ Some function → LaidOut (structs_in u)
-    by_file None there is = absurd (cc)
-    by_file (Some u) there is = (order.files f.unit u there).structs
 
 -- a frame has whole granules
 pub frame_whole : (units : List Typed) (f : Function) → (frame_of units f).bytes % 16 ≡ 0

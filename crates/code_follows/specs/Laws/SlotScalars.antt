@@ -29,7 +29,8 @@ use Rattle.code_follows.specs.Laws.Accessing.{sum_aligned, granule_aligned}
 use Rattle.code_follows.specs.Laws.LocalSites.{locals_lie}
 use Rattle.code_follows.specs.Laws.Pointing.{LiesAbove}
 use Rattle.code_follows.specs.Laws.ScalarSizes.{ScalarBytes, scalar_bytes, load_some}
-use Rattle.code_follows.specs.Laws.SlotAccess.{IsReached, is_reached, frame_is, laid_out, open_whole, safe_start}
+use Rattle.code_follows.specs.Laws.SlotAccess.{IsReached, is_reached, open_whole, safe_start}
+use Rattle.code_relation.specs.Laws.LocalBytes.{frame_is, laid_out}
 
 -- the latest call is among all
 latest_call : (units : List Typed) (calls cs : List Call) (c : Call) → AreCalls units calls cs → latest cs ≡ Some c →

@@ -52,6 +52,7 @@ module _ {g : Given} {here : Context} {now : MeaningState} {s : State} (injects 
     pub of : Call
     pub of_is : slice_get now.calls call ≡ Some of
     pub slot : Slot
+    pub slot_is : slot_in g of k ≡ Some slot
     pub site_is : site_of g now number b ≡ site_of_slot g now.calls of (Some slot)
     pub start_is : (site_of g now number b).start ≡ lowest of + slot.start
     pub behind : IsBehindWords (frame_of (units_of g) of.function) slot
@@ -75,6 +76,7 @@ module _ {g : Given} {here : Context} {now : MeaningState} {s : State} (injects 
         of = c;
         of_is = l.call_is;
         slot = has.slot;
+        slot_is = slot_is;
         site_is = site_same;
         start_is = ap (λ y. y.start) site_same;
         behind = subst (λ f. IsBehindWords f has.slot) (sym frame_same)

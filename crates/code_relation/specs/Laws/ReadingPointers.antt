@@ -90,7 +90,8 @@ pub record ReadsPointer (g : Given) (now : MeaningState) (v : Value) (loaded : �
   pub is : v ≡ Address pointer
   pub number : IsNumber g now pointer loaded
 
-read_address : (o : Option Pointer) (v : Value) → whole_or_part (address_value o) ≡ ReadsAs v → (p : Pointer) × (o ≡ Some p) × (v ≡ Address p)
+read_address : (o : Option Pointer) (v : Value) → whole_or_part (address_value o) ≡ ReadsAs v →
+    (p : Pointer) × (o ≡ Some p) × (v ≡ Address p)
 read_address None v is = absurd (cc)
 read_address (Some p) v is = (p, refl, by_value v is)
   where
