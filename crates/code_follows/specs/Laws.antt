@@ -48,3 +48,5 @@ pub mod SlotReading
 pub mod Splitting
 pub mod Stepping
 pub mod Combining
+pub mod StoresAny
+pub mod FarAccesses

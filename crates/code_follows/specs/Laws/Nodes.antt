@@ -25,3 +25,6 @@ pub mod PointerSteps
 pub mod Steps
 pub mod SteppedSlot
 pub mod CompoundSlot
+pub mod Assigned
+pub mod Stepped
+pub mod Compound

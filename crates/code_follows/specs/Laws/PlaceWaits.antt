@@ -1,11 +1,13 @@
 -- The place of an object is made, and waits while a value is evaluated (this project's own). A unit of work that the code of the place
 -- leaves is paid by the next instruction.
-use Rattle.std.specs.Prelude.{◌≡◌, ◌≢◌, ℕ, zero, suc, ◌+◌, ◌<◌, ◌≤◌, Bool, true, false, [], ◌∷◌, refl, if◌then◌else◌}
+use Rattle.std.specs.Prelude.{◌≡◌, ◌≢◌, ℕ, zero, suc, ◌+◌, ◌*◌, ◌<◌, ◌≤◌, Bool, true, false, [], ◌∷◌, refl, if◌then◌else◌}
 use Rattle.std.proofs.Common.{arith, ap, sym, subst, ◌∙◌}
+use Rattle.mt_base.specs.Memory.{load}
 use Rattle.a64_code.specs.declared.instr.Reg.{Reg}
 use Rattle.a64_code.specs.State.{State}
 use Rattle.block_meaning.specs.Running.{Run, gives, and_then, unit_then, unit_gives, one_of, goes_on, State as MeaningState}
 use Rattle.block_meaning.specs.declared.value.Pointer.{Pointer}
+use Rattle.code_relation.specs.Calls.{lowest}
 use Rattle.code_relation.specs.Laws.Outcomes.{spent}
 use Rattle.code_runs.specs.Bounded.{Account, later}
 use Rattle.code_runs.specs.Laws.Bounded.{after}
@@ -46,6 +48,10 @@ owed-then {A} p g now = by_work now.work
 pointer_leaves-least : (owes : Bool) → bare_leaves ≤ pointer_leaves owes
 pointer_leaves-least true = omega arith
 pointer_leaves-least false = omega arith
+
+-- where memory is the same
+pub HasTemp-bytes : {k : Scene} {t value : ℕ} {s u : State} → u.byte ≡ s.byte → HasTemp k t value s → HasTemp k t value u
+HasTemp-bytes {t = t} same has = record { is = λ c is. ap (λ byte. load 8 byte (lowest c + (24 + 8 * t))) same ∙ has.is c is }
 
 module _ {C : Type 0} {k : Scene} {first : ℕ} {reg : Reg} {result : Result C} {s : State} {to leaves : ℕ} (scene : IsScene k) where
   -- the place comes into the register, where a unit of work may be owed
@@ -97,18 +103,17 @@ module _ {C : Type 0} {k : Scene} {first : ℕ} {reg : Reg} {result : Result C} 
         }
 
     -- what the register has waits in a temp while the second part is evaluated, and is then in another
-    pub Goes-keeps_place : {B : Type 0} {a : Account} {owes spare from middle needs : ℕ} {alone : Bool} {result_b : Result B} {n : Run B}
+    pub Goes-keeps_place : {B : Type 0} {a : Account} {owes spare from kept middle needs : ℕ} {alone : Bool} {result_b : Result B} {n : Run B}
         {f : B → Run C} {now : MeaningState} {t : State} (p : Pointer) (b : Coded) → Part k b.value needs 4 alone result_b n → Lasts n →
         IsFree k (needs + 1) first reg →
-        Lies k (in_turn (plain (keep first reg) ∷ b.value (suc first) reg ∷ [])) from middle → PlaceIs (given_in k) p now (t.register reg.0) →
+        Lies k (plain (keep first reg)) from kept → Lies k (b.value (suc first) reg) kept middle →
+        PlaceIs (given_in k) p now (t.register reg.0) →
         On k first reg false s from a owes spare now t → owes ≤ 1 → 4 ≤ spare →
         ((y : B) (behind : MeaningState) (u : State) (c : Account) → On k first reg false s middle c 0 7 behind u →
         PlaceIs (given_in k) p behind (t.register reg.0) → HasTemp k first (t.register reg.0) u → result_b y behind (u.register reg.0) →
         Goes k first reg false result s to leaves c (f y) behind u) →
         Goes k first reg false result s to leaves a (and_then n f) now t
-    Goes-keeps_place {needs = needs} {f = f} {t = t} p b pb lasts free_b lies is on pays fits more =
-        let one = Lies-turn (plain (keep first reg)) (b.value (suc first) reg ∷ []) lies in
-        let two = Lies-turn (b.value (suc first) reg) [] one.back in
+    Goes-keeps_place {kept = kept} {middle} {needs} {f = f} {t = t} p b pb lasts free_b keeps lies is on pays fits more =
         let temp : IsTemp k first = record { within = omega (arith, free_b.temps); near = omega (arith, free_b.near) } in
         let free : IsFree k needs (suc first) reg = record {
           low = free_b.low;
@@ -116,12 +121,12 @@ module _ {C : Type 0} {k : Scene} {first : ℕ} {reg : Reg} {result : Result C} 
           temps = omega (arith, free_b.temps);
           near = omega (arith, free_b.near);
         } in
-        Goes-keeps_owed 3 temp free_b.high (Lies-plain (keep first reg) one.front) on pays (omega (arith, fits))
+        Goes-keeps_owed 3 temp free_b.high (Lies-plain (keep first reg) keeps) on pays (omega (arith, fits))
         (λ w q has same moved_on.
-        Goes-part-ran {f = f} (pb.yields (suc first) reg one.middle two.middle free two.front) (omega arith) (λ alone. never alone)
+        Goes-part-ran {f = f} (pb.yields (suc first) reg kept middle free lies) (omega arith) (λ alone. never alone)
         (pays-some scene) moved_on
         (λ y behind z r came_b gave_b ran.
-        more y behind z _ (On-at (Lies-none two.back) came_b)
+        more y behind z _ came_b
         (PlaceIs-later moved_on.came.comes.relates.injects.stands (leads_to lasts ran) is) (HasTemp-kept gave_b.came.comes.kept has)
         gave_b.result_is))
 
@@ -130,14 +135,14 @@ module _ {C : Type 0} {k : Scene} {first : ℕ} {reg : Reg} {result : Result C} 
         (left : ℕ) → into.0 < 28 → IsTemp k first → HasTemp k first value t → HasInstrs k (fetch first into) from middle →
         On k first reg false s from a 0 spare now t → 1 + left ≤ spare →
         ((u : State) (c : Account) → u.register into.0 ≡ value → ((r : ℕ) → r ≢ into.0 → u.register r ≡ t.register r) →
-        On k first reg false s middle c 0 left now u → Goes k first reg false result s to leaves c m now u) →
+        u.byte ≡ t.byte → On k first reg false s middle c 0 left now u → Goes k first reg false result s to leaves c m now u) →
         Goes k first reg false result s to leaves a m now t
     Goes-fetches {a} {from = from} {middle} {now = now} {t} {value} into left low temp held has on fits more =
         let fetched : Computes (fetch first into) into value all t =
         waits.fetches first value into from middle now t temp low has on.came.comes.relates on.came.comes.pc held in
         Goes-computes left has (fetch_short first into temp.near).quiet fetched (Suits-other reg into all low tt) on (omega arith)
         (omega (arith, fits, (fetch_short first into temp.near).few))
-        (λ done. more fetched.to _ fetched.holds (λ r other. fetched.registers r other tt) done)
+        (λ done. more fetched.to _ fetched.holds (λ r other. fetched.registers r other tt) fetched.same.byte done)
 
     -- The place waits while a value is evaluated, and then both are in registers.
     pub Goes-place : {B : Type 0} {a : Account} {spare from middle needs_a needs_b : ℕ} {result_b : Result B} {place : Run Pointer} {n : Run B}
@@ -201,7 +206,7 @@ module _ {C : Type 0} {k : Scene} {first : ℕ} {reg : Reg} {result : Result C} 
             (λ y behind z r came_b gave_b ran.
             Goes-fetches {value = u.register reg.0} into 6 (omega (arith, top)) temp (HasTemp-kept gave_b.came.comes.kept has)
             (Lies-plain (fetch first into) four.front) came_b (omega arith)
-            (λ x c holds others done.
+            (λ x c holds others byte done.
             more p y behind x c (u.register reg.0) (On-at (Lies-none four.back) done)
             (PlaceIs-later moved_on.came.comes.relates.injects.stands (leads_to lasts ran) is) holds
             (subst (λ number. result_b y behind number) (sym (others reg.0 (λ same. omega (arith, same, high, free_a.high))))

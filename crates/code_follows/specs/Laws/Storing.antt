@@ -71,11 +71,11 @@ ValueIs-changed x t v n is = record { of = is.of; holds = Holds-changed x v n is
 pub general-low : (s : State) (r : Reg) → r.0 < 31 → general s r ≡ s.register r.0
 general-low s r low = rw (lt-ltb r.0 31 low) refl
 
-put_pc : (byte : ℕ → ℕ) (s : State) (from : ℕ) → s.pc ≡ from → from < 2 ^ 56 → (puts_bytes byte s).pc ≡ from + 4
+pub put_pc : (byte : ℕ → ℕ) (s : State) (from : ℕ) → s.pc ≡ from → from < 2 ^ 56 → (puts_bytes byte s).pc ≡ from + 4
 unfolding puts_bytes
 put_pc byte s from is below = omega (arith, is, below)
 
-put_registers : (byte : ℕ → ℕ) (s : State) → (puts_bytes byte s).register ≡ s.register
+pub put_registers : (byte : ℕ → ℕ) (s : State) → (puts_bytes byte s).register ≡ s.register
 unfolding puts_bytes
 put_registers byte s = refl
 

@@ -79,7 +79,7 @@ module _ {k : Scene} (scene : IsScene k) (depth : ℕ) (a b : TExpr) (place : Pl
   rest p = and_then (value_of at.parts b) (λ v. unit_then (assign_effect at None a b p v))
 
   -- where the run comes to the place of a local
-  named : {first : ℕ} {reg : Reg} {from to : ℕ} {acc : Account} {now : MeaningState} {s : State} (start : ℕ) →
+  pub named : {first : ℕ} {reg : Reg} {from to : ℕ} {acc : Account} {now : MeaningState} {s : State} (start : ℕ) →
       IsFree k (waiting (need a) (need b)) first reg → Lies k (assign_value (Some start) (coded_in k a) (coded_in k b) first reg) from to →
       On k first reg false s from acc 0 0 now s → SlotRun k a.ty start (at.parts.place a) now →
       Goes k first reg false (ValueIs (given_in k) a.ty) s to value_leaves acc (assign_node at None a b) now s

@@ -61,7 +61,7 @@ module _ {k : Scene} (scene : IsScene k) (depth : ℕ) (o : AssignOperator) (a b
       combined_code (structs_in k) o s u r ∷ plain (store_scalar s (OnStack start) r ∷ []) ∷ [])
 
   -- where the run comes to the place of a local
-  compound_named : {first : ℕ} {reg : Reg} {from to : ℕ} {acc : Account} {now : MeaningState} {s : State} (start : ℕ) →
+  pub compound_named : {first : ℕ} {reg : Reg} {from to : ℕ} {acc : Account} {now : MeaningState} {s : State} (start : ℕ) →
       IsFree k (waiting (need a) (need b)) first reg →
       Lies k (compound_value (structs_in k) o (Some start) (coded_in k a) (coded_in k b) first reg) from to →
       On k first reg false s from acc 0 0 now s → SlotRun k a.ty start (at.parts.place a) now →

@@ -59,7 +59,7 @@ module _ {k : Scene} (scene : IsScene k) (depth : ℕ) (step : Step) (e : TExpr)
       ++ store_scalar e.ty (OnStack start) left ∷ new_or_old step reg
 
   -- where the run comes to the place of a local
-  step_named : {first : ℕ} {reg : Reg} {from to : ℕ} {acc : Account} {now : MeaningState} {s : State} (start : ℕ) →
+  pub step_named : {first : ℕ} {reg : Reg} {from to : ℕ} {acc : Account} {now : MeaningState} {s : State} (start : ℕ) →
       IsFree k (need e) first reg → Lies k (step_value (structs_in k) step (Some start) (coded_in k e) first reg) from to →
       On k first reg false s from acc 0 0 now s → SlotRun k e.ty start (at.parts.place e) now →
       Goes k first reg false (ValueIs (given_in k) e.ty) s to value_leaves acc (step_node at step e) now s
