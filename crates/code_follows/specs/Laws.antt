@@ -47,6 +47,7 @@ pub mod PlaceWaits
 pub mod SlotReading
 pub mod Splitting
 pub mod Stepping
+pub mod CombiningIntegers
 pub mod Combining
 pub mod StoresAny
 pub mod FarAccesses

@@ -55,7 +55,8 @@ HasTemp-bytes {t = t} same has = record { is = λ c is. ap (λ byte. load 8 byte
 
 module _ {C : Type 0} {k : Scene} {first : ℕ} {reg : Reg} {result : Result C} {s : State} {to leaves : ℕ} (scene : IsScene k) where
   -- the place comes into the register, where a unit of work may be owed
-  pub Goes-pointer : {a : Account} {spare needs from middle : ℕ} {place : Run Pointer} {g : Pointer → Run C} {now : MeaningState} {t : State}
+  pub Goes-pointer : {a : Account} {spare needs from middle : ℕ} {place : Run Pointer} {g : Pointer → Run C} {now : MeaningState}
+      {t : State}
       (code : Coded) → PointerPart k code needs place → IsFree k needs first reg → Lies k (code.pointer first reg) from middle →
       On k first reg false s from a 0 spare now t →
       ((p : Pointer) (between : MeaningState) (u : State) (c : Account) (owes more : ℕ) → owes ≤ 1 → 4 ≤ more →
@@ -103,7 +104,8 @@ module _ {C : Type 0} {k : Scene} {first : ℕ} {reg : Reg} {result : Result C} 
         }
 
     -- what the register has waits in a temp while the second part is evaluated, and is then in another
-    pub Goes-keeps_place : {B : Type 0} {a : Account} {owes spare from kept middle needs : ℕ} {alone : Bool} {result_b : Result B} {n : Run B}
+    pub Goes-keeps_place : {B : Type 0} {a : Account} {owes spare from kept middle needs : ℕ} {alone : Bool} {result_b : Result B}
+        {n : Run B}
         {f : B → Run C} {now : MeaningState} {t : State} (p : Pointer) (b : Coded) → Part k b.value needs 4 alone result_b n → Lasts n →
         IsFree k (needs + 1) first reg →
         Lies k (plain (keep first reg)) from kept → Lies k (b.value (suc first) reg) kept middle →
@@ -145,22 +147,26 @@ module _ {C : Type 0} {k : Scene} {first : ℕ} {reg : Reg} {result : Result C} 
         (λ done. more fetched.to _ fetched.holds (λ r other. fetched.registers r other tt) fetched.same.byte done)
 
     -- The place waits while a value is evaluated, and then both are in registers.
-    pub Goes-place : {B : Type 0} {a : Account} {spare from middle needs_a needs_b : ℕ} {result_b : Result B} {place : Run Pointer} {n : Run B}
+    pub Goes-place : {B : Type 0} {a : Account} {spare from middle needs_a needs_b : ℕ} {result_b : Result B} {place : Run Pointer}
+        {n : Run B}
         {f : Pointer → B → Run C} {now : MeaningState} {t : State} (into : Reg) (code b : Coded) → 16 ≤ into.0 → into.0 ≤ 17 →
         PointerPart k code needs_a place → Part k b.value needs_b 4 b.alone result_b n → Lasts n → IsFree k needs_a first reg →
         IsFree k (needs_b + 1) first reg → Lies k (first_waits into code.pointer b first reg) from middle →
         On k first reg false s from a 0 spare now t →
-        ((p : Pointer) (y : B) (behind : MeaningState) (u : State) (c : Account) (number : ℕ) → On k first reg false s middle c 0 6 behind u →
+        ((p : Pointer) (y : B) (behind : MeaningState) (u : State) (c : Account) (number : ℕ) →
+        On k first reg false s middle c 0 6 behind u →
         PlaceIs (given_in k) p behind number → u.register into.0 ≡ number → result_b y behind (u.register reg.0) →
         Goes k first reg false result s to leaves c (f p y) behind u) →
         Goes k first reg false result s to leaves a (and_then place (λ p. and_then n (f p))) now t
-    Goes-place {a = a} {spare} {from} {middle} {needs_b = needs_b} {result_b} {place} {n} {f} {now} {t} into code b high top pointer pb lasts
+    Goes-place {a = a} {spare} {from} {middle} {needs_b = needs_b} {result_b} {place} {n} {f} {now}
+        {t} into code b high top pointer pb lasts
         free_a free_b lies on more =
         by_alone b.alone lies pb
       where
         by_alone : (flag : Bool) →
             Lies k (if flag then in_turn (code.pointer first reg ∷ plain (move reg into ∷ []) ∷ b.value first reg ∷ []) else
-            in_turn (code.pointer first reg ∷ plain (keep first reg) ∷ b.value (suc first) reg ∷ plain (fetch first into) ∷ [])) from middle →
+            in_turn (code.pointer first reg ∷ plain (keep first reg) ∷ b.value (suc first) reg ∷ plain
+            (fetch first into) ∷ [])) from middle →
             Part k b.value needs_b 4 flag result_b n →
             Goes k first reg false result s to leaves a (and_then place (λ p. and_then n (f p))) now t
         by_alone true lies pb =
@@ -201,7 +207,8 @@ module _ {C : Type 0} {k : Scene} {first : ℕ} {reg : Reg} {result : Result C} 
             Goes-pointer {g = λ p. and_then n (f p)} code pointer free_a one.front on (λ p between u c owes spares pays enough came is.
             Goes-keeps_owed 3 temp free_a.high (Lies-plain (keep first reg) two.front) came pays (omega (arith, enough))
             (λ w q has same moved_on.
-            Goes-part-ran {f = f p} (pb.yields (suc first) reg two.middle three.middle free three.front) (omega arith) (λ alone. never alone)
+            Goes-part-ran {f = f p} (pb.yields (suc first) reg two.middle three.middle free three.front) (omega arith)
+            (λ alone. never alone)
             (pays-some scene) moved_on
             (λ y behind z r came_b gave_b ran.
             Goes-fetches {value = u.register reg.0} into 6 (omega (arith, top)) temp (HasTemp-kept gave_b.came.comes.kept has)

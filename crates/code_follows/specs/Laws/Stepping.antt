@@ -66,7 +66,8 @@ stepped_short structs s t r = by_target (target_of t)
     by_target None =
         let rest : Short 1 (wrap_into (int_in t) left) = wrap_short (int_in t) left in
         record {
-          quiet = both_true (is_quiet (number_stepped s r)) (are_quiet (wrap_into (int_in t) left)) (number_quiet (is_increment s) r) rest.quiet;
+          quiet = both_true (is_quiet (number_stepped s r)) (are_quiet (wrap_into (int_in t) left))
+              (number_quiet (is_increment s) r) rest.quiet;
           some = omega arith;
           few = omega (arith, rest.few);
         }
@@ -87,7 +88,8 @@ pub record StepIs (k : Scene) (step : Step) (t : Ty) (r : Reg) (v : Value) (now 
   pub computes : Computes (stepped_code (structs_in k) step t r) left number all s
   pub is : ValueIs (given_in k) t (stepped k.here step t v) now number
 
-pub step_is : {k : Scene} → IsScene k → (step : Step) (t : Ty) → is_scalar t ≡ true → (r : Reg) (v : Value) (now : MeaningState) (s : State) →
+pub step_is : {k : Scene} → IsScene k → (step : Step) (t : Ty) → is_scalar t ≡ true → (r : Reg) (v : Value) (now : MeaningState)
+    (s : State) →
     Relates (given_in k) k.here now s → IsForValues r → s.pc < 2 ^ 56 → ValueIs (given_in k) t v now (s.register r.0) →
     StepIs k step t r v now s
 step_is {k} scene step t scalar r v now s relates given near value = by_type (scalar_is t scalar)

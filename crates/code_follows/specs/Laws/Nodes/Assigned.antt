@@ -44,7 +44,8 @@ module _ {k : Scene} (scene : IsScene k) (slots : AlignedSlots (units_of (given_
   far : {first : ℕ} {reg : Reg} {from to : ℕ} {acc : Account} {now : MeaningState} {s : State} →
       IsFree k (waiting (need a) (need b)) first reg → Lies k (assign_value None (coded_in k a) (coded_in k b) first reg) from to →
       On k first reg false s from acc 0 0 now s →
-      Goes k first reg false (ValueIs (given_in k) a.ty) s to value_leaves acc (assign_node (site_in k depth span around a.ty) None a b) now s
+      Goes k first reg false (ValueIs (given_in k) a.ty) s to value_leaves acc
+      (assign_node (site_in k depth span around a.ty) None a b) now s
   far {first} {reg} {from} {to} free lies on =
       let waits_code = first_waits scratch (coded_in k a).pointer (coded_in k b) first reg in
       let typed : Lies k (in_turn (waits_code ∷ plain (store_scalar a.ty (Behind scratch) reg ∷ []) ∷ [])) from to =
@@ -79,7 +80,8 @@ assigned_follows k scene slots depth a b place value same scalar = record {
     by_slot : {first : ℕ} {reg : Reg} {from to : ℕ} {acc : Account} {now : MeaningState} {s : State} (span around : Span) (o : Option ℕ) →
         (coded_in k a).slot ≡ o → IsFree k (waiting (need a) (need b)) first reg →
         Lies k (assign_value o (coded_in k a) (coded_in k b) first reg) from to → On k first reg false s from acc 0 0 now s →
-        Goes k first reg false (ValueIs (given_in k) a.ty) s to value_leaves acc (assign_node (site_in k depth span around a.ty) None a b) now s
+        Goes k first reg false (ValueIs (given_in k) a.ty) s to value_leaves acc
+        (assign_node (site_in k depth span around a.ty) None a b) now s
     by_slot {now = now} span around (Some start) is free lies on =
         named scene depth a b place value same scalar span around start free lies on (place.part.slot start is now)
     by_slot span around None is free lies on = far scene slots depth a b place value same scalar span around free lies on

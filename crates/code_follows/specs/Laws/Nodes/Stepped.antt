@@ -79,7 +79,8 @@ module _ {k : Scene} (scene : IsScene k) (slots : AlignedSlots (units_of (given_
       let two = has_two (load_scalar e.ty (Behind scratch) reg ∷ []) (stepped_code (structs_in k) step e.ty reg ++ last) one.back in
       let three = has_two (stepped_code (structs_in k) step e.ty reg) last two.back in
       let four = has_two (store_scalar e.ty (Behind scratch) left ∷ []) (new_or_old step reg) three.back in
-      Goes-pointer scene {g = rest} (coded_in k e) place.part.pointer free parts.front on (λ p between u c owes spares pays_it enough came is.
+      Goes-pointer scene {g = rest} (coded_in k e) place.part.pointer free parts.front on
+      (λ p between u c owes spares pays_it enough came is.
       Goes-list {most = 1} 3 one.front (record { quiet = refl; few = omega arith })
       (λ w same near. Computes-is (ap (λ g. g reg.0) same) (move_computes reg scratch w (omega (arith, free.high)) (omega arith) near))
       (Suits-other reg scratch all (omega arith) tt) came (omega (arith, pays_it)) (omega (arith, enough))
