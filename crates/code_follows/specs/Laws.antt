@@ -20,7 +20,6 @@ pub mod Truth
 pub mod Jumping
 pub mod Pointing
 pub mod LocalSites
-pub mod Differing
 pub mod BlockBytes
 pub mod Accessing
 pub mod SlotAccess
@@ -31,6 +30,7 @@ pub mod Caught
 pub mod Judging
 pub mod ScalarSizes
 pub mod LoadingScalars
+pub mod Differing
 pub mod Aligning
 pub mod SlotScalars
 pub mod ScalarLoads
@@ -43,3 +43,14 @@ pub mod Nodes
 pub mod Whole
 pub mod Expressions
 pub mod PartsOfCode
+pub mod ScalarBytes
+pub mod Slots
+pub mod Storing
+pub mod PlaceWaits
+pub mod SlotReading
+pub mod Splitting
+pub mod Stepping
+pub mod CombiningIntegers
+pub mod Combining
+pub mod StoresAny
+pub mod FarAccesses

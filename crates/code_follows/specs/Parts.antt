@@ -90,10 +90,10 @@ pub record PointerPart (k : Scene) (code : Coded) (needs : ℕ) (run : Run Point
   pub run_is : (now : MeaningState) → run now ≡ and_then first (owed owes) now
   pub part : Part k code.pointer needs (pointer_leaves owes) code.alone (PlaceIs (given_in k)) first
 
--- The run comes to the place of a local of the type in a safe slot, which starts there and is reached from SP; or the definition's bound was
--- too small for it.
+-- The run comes to the place of a local of the type in a safe slot, which starts there and is reached from SP; or the definition's bound
+-- was too small for it.
 pub data SlotRun (k : Scene) (t : Ty) (start : ℕ) (run : Run Pointer) (now : MeaningState) : Type 0 where
-  names : (local : ℕ) (info : LocalInfo) → slice_get k.scope.function.locals local ≡ Some info → info.ty ≡ t →
+  names : (local : ℕ) (l : LocalInfo) → slice_get k.scope.function.locals local ≡ Some l → l.ty ≡ t →
       reached t (slice_get (frame_in k).slots local) ≡ Some start → run now ≡ starts (k.here.local local) now → SlotRun k t start run now
   too_deep : run now ≡ stuck now → SlotRun k t start run now
 

@@ -20,5 +20,8 @@ pub mod Untouched
 pub mod LocalBytes
 pub mod StoredBytes
 pub mod Stores
+pub mod PointerCells
+pub mod SlotSites
+pub mod BytesPut
 pub mod TempBytes
 pub mod WholeFrames

@@ -18,8 +18,17 @@ pub mod Chosen
 pub mod Logical
 pub mod Address
 pub mod Target
+pub mod AssignedSlot
 pub mod Element
 pub mod OnPointers
 pub mod OnTwoPointers
 pub mod PointersOperated
 pub mod AnyOperator
+pub mod Both
+pub mod PointerSteps
+pub mod Steps
+pub mod SteppedSlot
+pub mod CompoundSlot
+pub mod Assigned
+pub mod Stepped
+pub mod Compound

@@ -54,12 +54,12 @@ divides_plain : (o : BinaryOperator) → is_division o ≡ true → group_of o �
 divides_plain o divides logical = let arithmetic : group_of o ≡ Arithmetic = division_group o divides in absurd (cc)
 
 -- with a divisor that is 0 there is no value, and else there is one
-no_number : (o : BinaryOperator) (t : IntType) (a b : ℕ) → is_division o ≡ true → b ≡ 0 → binary_value o t a b ≡ None
+pub no_number : (o : BinaryOperator) (t : IntType) (a b : ℕ) → is_division o ≡ true → b ≡ 0 → binary_value o t a b ≡ None
 no_number binary.Divide t a b divides none = rw none refl
 no_number binary.Remainder t a b divides none = rw none refl
 no_number _ t a b divides none = absurd (cc)
 
-some_number : (o : BinaryOperator) (t : IntType) (a b : ℕ) → is_division o ≡ true → b ≢ 0 → HasNumber o t a b
+pub some_number : (o : BinaryOperator) (t : IntType) (a b : ℕ) → is_division o ≡ true → b ≢ 0 → HasNumber o t a b
 some_number binary.Divide t a b divides some = record { number = quotient t a b; is = rw (ne_eqb b 0 some) refl }
 some_number binary.Remainder t a b divides some = record { number = remainder t a b; is = rw (ne_eqb b 0 some) refl }
 some_number _ t a b divides some = absurd (cc)
@@ -72,7 +72,7 @@ both_true : (a b : Bool) → a ≡ true → b ≡ true → (a && b) ≡ true
 both_true true b first second = second
 both_true false b first second = absurd (cc)
 
-division_short : (o : BinaryOperator) (t : IntType) (r : Reg) → is_division o ≡ true → Short 3 (integer_instrs o t r)
+pub division_short : (o : BinaryOperator) (t : IntType) (r : Reg) → is_division o ≡ true → Short 3 (integer_instrs o t r)
 division_short binary.Divide t r divides =
     let one = sign_short t r in
     record { quiet = both_true _ _ (divide_quiet (sign_of t) (is_wide t) r left r) one.quiet; few = omega (arith, one.few) }

@@ -28,7 +28,7 @@ level_of _ n is of = absurd (cc)
 pub integer-of : (t : Ty) (n : ℕ) → is_integer t ≡ true → IsOf (int_in t) n → IsOfType t (Number n)
 integer-of t n is of = level_of (out-Ty t) n is of
 
-is_promoted-is : (i : IntType) → is_promoted i ≡ true → IsPromoted i
+pub is_promoted-is : (i : IntType) → is_promoted i ≡ true → IsPromoted i
 is_promoted-is int.Int is = refl
 is_promoted-is int.UInt is = refl
 is_promoted-is int.Long is = refl
@@ -41,7 +41,7 @@ level_promoted (Ty-F.Int i) is computes = is_promoted-is i computes
 level_promoted _ is computes = absurd (cc)
 
 -- no integer type is one of a pointer
-no_pointer : (l : TyLayer) → is_there (int_of_level l) ≡ true → is_there (target_of_level l) ≡ false
+pub no_pointer : (l : TyLayer) → is_there (int_of_level l) ≡ true → is_there (target_of_level l) ≡ false
 no_pointer (Ty-F.Int i) is = refl
 no_pointer _ is = absurd (cc)
 
