@@ -9,4 +9,4 @@ mod statements;
 mod uses;
 
 pub use files::link;
-pub use names::FileNames;
+pub use names::{FileNames, names_of};

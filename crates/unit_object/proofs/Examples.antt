@@ -1,5 +1,5 @@
 -- What the objects of given files are made of.
-use Rattle.std.proofs.Common.{◌≡◌, refl, ℕ, ℤ, pos, List, [], ◌∷◌, ◌++◌, true, false, codes, map, replicate, Option, Some, None}
+use Rattle.std.proofs.Common.{◌≡◌, refl, ℕ, ℤ, pos, List, [], ◌∷◌, ◌++◌, true, false, codes, length, map, replicate, Option, Some, None}
 use Rattle.c_ast.specs.declared.declaration.Decl.{Decl}
 use Rattle.c_ast.specs.declared.program.Function.{Function}
 use Rattle.c_ast.specs.declared.expr.CType.TheVariants as ctype
@@ -22,7 +22,8 @@ use Rattle.elf_obj.specs.declared.parts.Home.TheVariants.{Undef, Text, Rodata, I
 use Rattle.elf_obj.specs.declared.parts.Symbol.{Symbol}
 use Rattle.elf_obj.specs.declared.parts.Reloc.{Reloc}
 use Rattle.mean_link.specs.Uses.{stmt_uses}
-use Rattle.unit_object.specs.Parts.{parts_of, numbers, code_reloc, code_symbol}
+use Rattle.unit_object.specs.Parts.{parts_of, code_reloc, code_symbol}
+use Rattle.unit_object.specs.Symbols.{named_symbols, number_of}
 
 abbrev nowhere : Span
 nowhere = record { start = 0; end = 0 }
@@ -107,7 +108,7 @@ reloc offset kind symbol addend = record { offset = offset; kind = kind; symbol 
 -- a text, an object, and a call
 its_relocations : (body : Stmt) (tbody : TStmt) (code : UnitCode) → stmt_uses tbody ≡ 0 ∷ []
     → code.functions.items ≡ record { name = codes "main"; local = false; start = 0; bytes = 40 } ∷ []
-    → map (code_reloc (code_symbol (numbers (program body) (typed tbody) code) (typed tbody) code)) (
+    → map (code_reloc (code_symbol (number_of (length (typed tbody).texts) (named_symbols (program body) (typed tbody) code)) (typed tbody) code)) (
     record { offset = 8; kind = 275; target = code_target.Text 0; addend = pos 0 }
     ∷ record { offset = 16; kind = 311; target = code_target.Global 1; addend = pos 0 }
     ∷ record { offset = 24; kind = 283; target = code_target.Extern 0; addend = pos 0 } ∷ [])

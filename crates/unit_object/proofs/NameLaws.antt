@@ -17,7 +17,7 @@ use Rattle.unit_object.specs.Order.{each_once}
 abbrev Name : Type 0
 Name = List ℕ
 
-position_from-map : {K : Type 0} (ks : List K) (name_of : K → Name) (test : Name → Bool) (i : ℕ) →
+pub position_from-map : {K : Type 0} (ks : List K) (name_of : K → Name) (test : Name → Bool) (i : ℕ) →
     position_from test i (map name_of ks) ≡ position_from (λ k. test (name_of k)) i ks
 position_from-map [] name_of test i = refl
 position_from-map (k ∷ ks) name_of test i =
@@ -29,7 +29,7 @@ pub number_is : {K : Type 0} (ks : List K) (name_of : K → Name) (name : Name) 
 number_is ks name_of name =
     position_from-zero (λ k. bytes_eq name (name_of k)) ks ∙ sym (position_from-map ks name_of (bytes_eq name) 0)
 
-any-map : {K : Type 0} (ks : List K) (name_of : K → Name) (name : Name) →
+pub any-map : {K : Type 0} (ks : List K) (name_of : K → Name) (name : Name) →
     list_any (λ k. bytes_eq name (name_of k)) ks ≡ list_any (bytes_eq name) (map name_of ks)
 any-map [] name_of name = refl
 any-map (k ∷ ks) name_of name = ap (λ b. bytes_eq name (name_of k) || b) (any-map ks name_of name)

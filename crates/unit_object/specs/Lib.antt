@@ -5,3 +5,7 @@ pub mod Data
 pub mod Symbols
 pub mod Parts
 pub mod Numbers
+pub mod Numbered
+pub mod Scopes
+pub mod Counted
+pub mod Named

@@ -18,33 +18,35 @@ use Rattle.elf_obj.specs.declared.parts.Reloc.{Reloc}
 use Rattle.elf_obj.specs.Object.{Object}
 use Rattle.unit_object.specs.Data.{room, rooms, text_bytes, all_bytes}
 use Rattle.unit_object.specs.Order.{filled, unfilled}
-use Rattle.unit_object.specs.Symbols.{symbols, named_symbols, number_of, objects_from}
+use Rattle.elf_obj.specs.declared.parts.Symbol.{Symbol}
+use Rattle.unit_object.specs.Symbols.{text_symbols, named_symbols, number_of, objects_from}
 
 -- ---- what a number in the file stands for, as the number of a symbol
 
-abbrev pub name_in : {A : Type 0} → (A → List ℕ) → Option A → List ℕ
-name_in name_of None = []
-name_in name_of (Some a) = name_of a
+-- that of its name; what is not there has the number 0
+abbrev pub named_number : {A : Type 0} → (List ℕ → ℕ) → (A → List ℕ) → Option A → ℕ
+named_number number name_of None = 0
+named_number number name_of (Some a) = number (name_of a)
 
-abbrev pub global_name : Typed → ℕ → List ℕ
-global_name typed k = name_in (λ g. g.name) (slice_get typed.globals k)
+abbrev pub global_number : (List ℕ → ℕ) → Typed → ℕ → ℕ
+global_number number typed k = named_number number (λ g. g.name) (slice_get typed.globals k)
 
-abbrev pub extern_name : Typed → ℕ → List ℕ
-extern_name typed k = name_in (λ e. e.name) (slice_get typed.externs k)
+abbrev pub extern_number : (List ℕ → ℕ) → Typed → ℕ → ℕ
+extern_number number typed k = named_number number (λ e. e.name) (slice_get typed.externs k)
 
-abbrev pub function_name : UnitCode → ℕ → List ℕ
-function_name code k = name_in (λ f. f.name) (slice_get code.functions.items k)
+abbrev pub function_number : (List ℕ → ℕ) → UnitCode → ℕ → ℕ
+function_number number code k = named_number number (λ f. f.name) (slice_get code.functions.items k)
 
 -- by the number that each name has
 abbrev pub code_symbol : (List ℕ → ℕ) → Typed → UnitCode → CodeTarget → ℕ
-code_symbol number typed code (code_target.Function k) = number (function_name code k)
-code_symbol number typed code (code_target.Extern k) = number (extern_name typed k)
-code_symbol number typed code (code_target.Global k) = number (global_name typed k)
+code_symbol number typed code (code_target.Function k) = function_number number code k
+code_symbol number typed code (code_target.Extern k) = extern_number number typed k
+code_symbol number typed code (code_target.Global k) = global_number number typed k
 code_symbol number typed code (code_target.Text k) = k
 
 abbrev pub data_symbol : (List ℕ → ℕ) → Typed → Target → ℕ
-data_symbol number typed (target.Global k) = number (global_name typed k)
-data_symbol number typed (target.Extern k) = number (extern_name typed k)
+data_symbol number typed (target.Global k) = global_number number typed k
+data_symbol number typed (target.Extern k) = extern_number number typed k
 data_symbol number typed (target.Text k) = k
 
 -- ---- places that wait for addresses
@@ -72,18 +74,20 @@ data_relocs symbol structs at (g ∷ gs) =
 
 -- ---- the object
 
--- the number of the symbol of a name
-abbrev pub numbers : Program → Typed → UnitCode → List ℕ → ℕ
-numbers p typed code name = number_of (length typed.texts) (named_symbols p typed code) name
+-- of a file that defines these objects, with an initial and without, and has these symbols with names
+abbrev pub parts_by : Typed → UnitCode → List GlobalInfo → List GlobalInfo → List Symbol → Object
+parts_by typed code filled unfilled named =
+    let number = number_of (length typed.texts) named in
+    let symbols = text_symbols 0 typed.texts ++ named in record {
+      words = code.words.items;
+      rodata = text_bytes typed.texts;
+      init_bytes = all_bytes typed.structs filled;
+      zero_bytes = rooms typed.structs unfilled;
+      symbols = symbols;
+      text_relocs = map (code_reloc (code_symbol number typed code)) code.relocs.items;
+      init_relocs = data_relocs (data_symbol number typed) typed.structs 0 filled;
+      tagged = objects_from 0 symbols;
+    }
 
 abbrev pub parts_of : Program → Typed → UnitCode → Object
-parts_of p typed code = record {
-  words = code.words.items;
-  rodata = text_bytes typed.texts;
-  init_bytes = all_bytes typed.structs (filled p typed);
-  zero_bytes = rooms typed.structs (unfilled p typed);
-  symbols = symbols p typed code;
-  text_relocs = map (code_reloc (code_symbol (numbers p typed code) typed code)) code.relocs.items;
-  init_relocs = data_relocs (data_symbol (numbers p typed code) typed) typed.structs 0 (filled p typed);
-  tagged = objects_from 0 (symbols p typed code);
-}
+parts_of p typed code = parts_by typed code (filled p typed) (unfilled p typed) (named_symbols p typed code)

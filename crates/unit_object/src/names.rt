@@ -1,6 +1,8 @@
 //! The names that a text declares.
 
 ghost use Rattle.std.specs.Prelude.{◌≡◌, ◌++◌, [], ◌∷◌, map, flat_map, OnOk, IfOk};
+ghost use Rattle.std.specs.List.{list_any};
+ghost use Rattle.std.specs.Str.{bytes_eq};
 ghost use Rattle.c_types.specs.Files.{number_among};
 ghost use Rattle.c_types.specs.Tables.{with_name};
 ghost use Rattle.mean_link.specs.Names as spec;
@@ -52,6 +54,30 @@ impl NameTable {
         let name = Vec::from_slice(alloc, name)?;
         self.names.insert(name)?;
         Ok(())
+    }
+
+    /// Whether a name is there.
+    fn has(&self, name: &[u8]) -> bool
+        ensures { result ≡ list_any (bytes_eq name.now) self.now }
+    {
+        self.names.contains(name)
+    }
+
+    /// Adds a name that is not there yet; of one that is there, nothing more is said.
+    pub fn add_new(&mut self, alloc: Global, name: &[u8]) -> Result<(), AllocError>
+        ensures { OnOk result (self.new ≡ self.old ++ name.now ∷ []) }
+    {
+        if self.has(name) {
+            return Err(AllocError);
+        }
+        self.add(alloc, name)
+    }
+
+    /// The names, in order.
+    pub fn as_slice(&self) -> &[Vec<u8>]
+        ensures { map (λ k. k.items) result.now ≡ self.now }
+    {
+        self.names.as_slice()
     }
 }
 
