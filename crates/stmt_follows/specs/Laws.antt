@@ -1,3 +1,5 @@
 pub mod Standing
 pub mod Proceeding
 pub mod Flowing
+pub mod Conditions
+pub mod Statements

@@ -5,17 +5,17 @@ use Rattle.a64_code.specs.State.{State}
 use Rattle.block_meaning.specs.Running.{Run, gives, stuck, and_then, State as MeaningState}
 use Rattle.block_meaning.specs.Statements.{Flow, Next, Broke, Continued, Returned}
 use Rattle.code_follows.specs.Scene.{Scene, given_in}
-use Rattle.code_follows.specs.Laws.Coming.{Came-start}
+use Rattle.code_follows.specs.Laws.Coming.{Came-start, Came-walks}
+use Rattle.code_follows.specs.Steps.{Walks}
 use Rattle.code_relation.specs.Follows.{setting}
 use Rattle.code_relation.specs.Kept.{KeepsFrom}
 use Rattle.code_relation.specs.Laws.Keeps.{KeepsFrom-then}
-use Rattle.code_relation.specs.Relates.{Relates}
 use Rattle.code_relation.specs.Sites.{units_of}
 use Rattle.code_relation.specs.Trees.{Comes}
 use Rattle.code_runs.specs.Bounded.{Account, Room, later}
-use Rattle.code_runs.specs.Laws.Bounded.{opened}
+use Rattle.code_runs.specs.Laws.Bounded.{opened, after, done}
 use Rattle.gen_stmt.specs.Loops.{Around, Emits}
-use Rattle.stmt_follows.specs.Parts.{Ways, ways, Standing, Left, Ends, flow_room, Bounds, Here, After, Proceeds, Flows, StmtPart}
+use Rattle.stmt_follows.specs.Parts.{Ways, ways, Standing, Ends, flow_room, Bounds, Here, After, Proceeds, Flows, StmtPart}
 use Rattle.stmt_follows.specs.Laws.Proceeding.{Proceeds-stuck, Proceeds-done, Proceeds-then, Bounds-here}
 
 -- ---- where code has come
@@ -89,6 +89,16 @@ Proceeds-as x after = Proceeds-done x after.bounds (omega (arith, no_spare x)) a
 pub Proceeds-next : {k : Scene} {w : Ways} {s : State} {to : ℕ} {a : Account} {spare : ℕ} {now : MeaningState} {t : State} →
     Here k s to a 0 spare now t → Proceeds k.code flow_room (Ends k w s to) a (gives Next) now t
 Proceeds-next on = Proceeds-done Next (Bounds-here on) (omega arith) on.came.comes
+
+-- it is left by some steps more, for which nothing has to be to spare
+pub Proceeds-leaves : {k : Scene} {w : Ways} {s : State} {from at to n : ℕ} {a : Account} {spare : ℕ} {now : MeaningState} {t u : State}
+    (x : Flow) → Walks k at n t u → Here k s from a 0 spare now t → n ≤ (flow_room x).over + spare →
+    (Comes (given_in k) 0 at k.here s now u → Ends k w s to x now u) → Proceeds k.code flow_room (Ends k w s to) a (gives x) now t
+Proceeds-leaves x walks on few ends = record {
+  bounded = after walks.led
+      (done (record { least = omega (arith, on.least); most = omega (arith, on.most, few, no_spare x) })
+      (ends (Came-walks walks (λ is. absurd (cc)) on.came).comes));
+}
 
 -- ---- a part
 

@@ -1,6 +1,6 @@
 -- How it is shown that the code of a statement does what a run does: by what the run is made of (this project's own). It is as in
 -- code_follows, but where it ends is anything.
-use Rattle.std.specs.Prelude.{◌≡◌, ◌≢◌, ℕ, zero, suc, ◌+◌, ◌*◌, ◌<◌, ◌≤◌, Bool, true, false, not, nat_eq, List, [], length}
+use Rattle.std.specs.Prelude.{◌≡◌, ℕ, zero, suc, ◌+◌, ◌*◌, ◌<◌, ◌≤◌, Bool, true, false, not, nat_eq, List, length}
 use Rattle.std.specs.Prelude.{Option, Some, None, refl}
 use Rattle.std.proofs.Common.{arith, ap, sym, subst, ◌∙◌}
 use Rattle.c_ast.specs.declared.token.Span.{Span}
@@ -11,7 +11,7 @@ use Rattle.block_meaning.specs.Operators.{is_true}
 use Rattle.block_meaning.specs.Running.{Run, Stop, Stops, IsUndefined, Undefined, gives, stuck, and_then, goes_on, unit_then, choice, with_some}
 use Rattle.block_meaning.specs.Running.{State as MeaningState}
 use Rattle.block_meaning.specs.declared.value.Value.{Value}
-use Rattle.code_follows.specs.Parts.{Result, Gave, On, Yields}
+use Rattle.code_follows.specs.Parts.{Result, Yields}
 use Rattle.code_follows.specs.Scene.{Scene, given_in}
 use Rattle.code_follows.specs.Steps.{Walks, Suits}
 use Rattle.code_follows.specs.Laws.Coming.{Came-spent, Came-walks, Came-part, Walks-computes}
@@ -67,6 +67,26 @@ Here-less less fits here = record {
   least = here.least;
   most = omega (arith, here.most, fits);
   within = here.within;
+}
+
+-- a jump, as steps
+pub Walks-jump : {k : Scene} {middle : ℕ} {t : State} (goes : GoesTo k.code middle t) → Walks k middle goes.steps t (at_pc middle t)
+Walks-jump goes = record {
+  led = goes.led;
+  pc = refl;
+  same = record {
+    injected = record {
+      sp = refl;
+      base = refl;
+      byte = refl;
+      tag = refl;
+      regions = refl;
+      guard = refl;
+      choices = refl;
+      drawn = refl;
+    };
+    outside = refl;
+  };
 }
 
 -- ---- the words of a run
@@ -199,23 +219,7 @@ module _ {A : Type 0} {k : Scene} {room : A → Room} {Q : A → MeaningState �
         Proceeds k.code room Q (later goes.steps a) m now (at_pc middle t)) →
         Proceeds k.code room Q a m now t
     Proceeds-jump left goes on pays fits more =
-        Proceeds-walks goes.steps left (record {
-          led = goes.led;
-          pc = refl;
-          same = record {
-            injected = record {
-              sp = refl;
-              base = refl;
-              byte = refl;
-              tag = refl;
-              regions = refl;
-              guard = refl;
-              choices = refl;
-              drawn = refl;
-            };
-            outside = refl;
-          };
-        }) on (omega (arith, pays, goes.least)) (omega (arith, goes.most, fits)) more
+        Proceeds-walks goes.steps left (Walks-jump goes) on (omega (arith, pays, goes.least)) (omega (arith, goes.most, fits)) more
 
     -- instructions that compute something, of which there are so many
     pub Proceeds-computes : {a : Account} {owes spare from middle : ℕ} {m : Run A} {now : MeaningState} {t : State} {instrs : List Instr}

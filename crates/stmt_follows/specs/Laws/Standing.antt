@@ -1,5 +1,5 @@
 -- The pieces of a statement's code, where the whole stands (this project's own).
-use Rattle.std.specs.Prelude.{◌≡◌, ℕ, ◌+◌, ◌*◌, List, [], ◌∷◌, length, slice_get, Some, refl}
+use Rattle.std.specs.Prelude.{◌≡◌, ℕ, ◌+◌, ◌*◌, List, [], ◌∷◌, length, refl}
 use Rattle.std.proofs.Common.{sym, subst, ◌∙◌}
 use Rattle.code_follows.specs.Scene.{Scene}
 use Rattle.code_relation.specs.Laws.Placing.{from_item, from_item-start, from_item-end, StandsAt-front, StandsAt-back, get_front, get_back}

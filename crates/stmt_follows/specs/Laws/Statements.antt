@@ -1,0 +1,5 @@
+pub mod Simple
+pub mod If
+pub mod IfElse
+pub mod Return
+pub mod Jumps
