@@ -3,3 +3,4 @@ pub mod If
 pub mod IfElse
 pub mod Return
 pub mod Jumps
+pub mod Items
