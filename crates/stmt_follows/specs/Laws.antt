@@ -2,4 +2,5 @@ pub mod Standing
 pub mod Proceeding
 pub mod Flowing
 pub mod Conditions
+pub mod Locals
 pub mod Statements
