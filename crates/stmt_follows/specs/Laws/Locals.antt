@@ -1,3 +1,5 @@
 pub mod Slots
 pub mod Apart
 pub mod Born
+pub mod Opened
+pub mod Ended
