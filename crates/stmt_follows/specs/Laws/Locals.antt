@@ -3,3 +3,6 @@ pub mod Apart
 pub mod Born
 pub mod Opened
 pub mod Ended
+pub mod Lists
+pub mod Entering
+pub mod Leaving

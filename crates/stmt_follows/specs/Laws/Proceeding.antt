@@ -98,6 +98,13 @@ module _ {A : Type 0} {c : Code} {room : A → Room} {Q : A → MeaningState →
     bounded = subst (λ r. Bounded (setting c) a room t Q (outcome_of r)) (sym same) goes.bounded;
   }
 
+  -- a run from another state that comes to the same
+  pub Proceeds-from : {a : Account} {m n : Run A} {now before : MeaningState} {t : State} → m now ≡ n before →
+      Proceeds c room Q a n before t → Proceeds c room Q a m now t
+  Proceeds-from {a} {m} {n} {now} {before} {t} same goes = record {
+    bounded = subst (λ r. Bounded (setting c) a room t Q (outcome_of r)) (sym same) goes.bounded;
+  }
+
   pub Proceeds-stuck : {a : Account} {now : MeaningState} {t : State} → Proceeds c room Q a stuck now t
   Proceeds-stuck = record { bounded = unsaid }
 

@@ -1,5 +1,5 @@
 -- A new local of the latest call lies apart from all that is alive (this project's own).
-use Rattle.std.specs.Prelude.{◌≡◌, ◌≢◌, ℕ, zero, suc, ◌+◌, ◌*◌, ◌%◌, ◌/◌, ◌<◌, ◌≤◌, ◌-◌, Bool, true, false, ◌||◌, List, [], ◌∷◌, slice_get, Some, None, refl, ◌⊎◌}
+use Rattle.std.specs.Prelude.{◌≡◌, ◌≢◌, ℕ, zero, suc, ◌+◌, ◌%◌, ◌<◌, ◌≤◌, ◌-◌, Bool, true, false, ◌||◌, List, [], ◌∷◌, slice_get, Some, None, refl, ◌⊎◌}
 use Rattle.std.specs.List.{list_any}
 use Rattle.std.proofs.Common.{arith, ap, sym, subst, inl, inr, ◌∙◌}
 use Rattle.std.proofs.lemmas.Bool.Decides.{nat_tests}
@@ -7,7 +7,6 @@ use Rattle.mt_base.specs.Granules.{granule_of}
 use Rattle.mt_base.specs.Memory.{is_between}
 use Rattle.a64_code.specs.State.{State}
 use Rattle.frame_layout.specs.declared.frame.Slot.{Slot}
-use Rattle.frame_layout.specs.Laws.FrameLaws.{Has}
 use Rattle.frame_layout.specs.WellFormed.{is_tagged_slot}
 use Rattle.block_meaning.specs.declared.kind.Kind.{Kind}
 use Rattle.block_meaning.specs.declared.kind.Kind.TheVariants.{NullBlock, Global, Text, Code, Local}
@@ -18,13 +17,13 @@ use Rattle.block_meaning.specs.ProgramsInOrder.{InOrder}
 use Rattle.block_meaning.specs.Running.{Call, Context, State as MeaningState}
 use Rattle.code_relation.specs.Calls.{stack_end, lowest, frame_of, has_tagged, LieInOrder}
 use Rattle.code_relation.specs.Injects.{Injects}
-use Rattle.code_relation.specs.Loaded.{on_stack, IsFileBlock}
-use Rattle.code_relation.specs.Sites.{Given, units_of, Lives, site_of, site_by, has_byte, slot_in, is_of_file, is_object, is_tagged_by, is_tagged_local}
+use Rattle.code_relation.specs.Loaded.{on_stack}
+use Rattle.code_relation.specs.Sites.{Given, units_of, Lives, site_of, site_by, has_byte, slot_in, is_of_file, is_tagged_by, is_tagged_local}
 use Rattle.code_relation.specs.Sites.{is_tagged_block}
 use Rattle.code_relation.specs.Stands.{AreCalls, IsLocal, WasOpened}
 use Rattle.code_relation.specs.Laws.Framed.{frame-ends}
-use Rattle.code_relation.specs.Laws.Untouched.{Among, here, there, among_calls, place_within, frame_within}
-use Rattle.stmt_follows.specs.Laws.Locals.Slots.{SlotAt, slot_at, slots_apart, place_whole, there_among}
+use Rattle.code_relation.specs.Laws.Untouched.{Among, here, there, among_calls, place_within}
+use Rattle.stmt_follows.specs.Laws.Locals.Slots.{SlotAt, slot_at, slots_apart, place_whole}
 
 -- an address between two others
 record Between (from to a : ℕ) : Type 0 where

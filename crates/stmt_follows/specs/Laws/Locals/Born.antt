@@ -1,5 +1,5 @@
 -- A local of the latest call gets a block, which nothing has written: the relation holds on (this project's own).
-use Rattle.std.specs.Prelude.{◌≡◌, ◌≢◌, ℕ, zero, suc, ◌+◌, Bool, true, false, ◌||◌, nat_eq, List, [], ◌∷◌, ◌++◌, length, slice_get}
+use Rattle.std.specs.Prelude.{◌≡◌, ◌≢◌, ℕ, zero, suc, ◌+◌, Bool, true, false, ◌||◌, nat_eq, [], ◌∷◌, ◌++◌, length, slice_get}
 use Rattle.std.specs.Prelude.{Option, Some, None, refl, if◌then◌else◌}
 use Rattle.std.proofs.Common.{arith, ap, sym, subst, ◌∙◌}
 use Rattle.std.proofs.lemmas.Bool.{eqb-true}
@@ -20,7 +20,7 @@ use Rattle.code_relation.specs.Cells.{IsCell}
 use Rattle.code_relation.specs.Injects.{Injects}
 use Rattle.code_relation.specs.Numbers.{IsNumber}
 use Rattle.code_relation.specs.Relates.{Relates}
-use Rattle.code_relation.specs.Sites.{Given, units_of, Lives, site_of, has_byte, slot_in, is_of_file, is_tagged_by, is_tagged_local, is_tagged_block}
+use Rattle.code_relation.specs.Sites.{Given, units_of, Lives, site_of, has_byte, is_of_file, is_tagged_local, is_tagged_block}
 use Rattle.code_relation.specs.Stands.{AreCalls, IsLocal, IsInScope, IsAsOpened, WasOpened, Stands}
 use Rattle.mt_base.specs.Granules.{granule_of}
 use Rattle.code_relation.specs.Laws.Lists.{InJoined, front, back, get_joined}

@@ -1,10 +1,9 @@
 -- The life of a local ends: the relation holds on (this project's own).
-use Rattle.std.specs.Prelude.{◌≡◌, ◌≢◌, ℕ, ◌+◌, Bool, true, false, nat_eq, List, [], length, slice_get, slice_set}
+use Rattle.std.specs.Prelude.{◌≡◌, ◌≢◌, ℕ, ◌+◌, Bool, true, false, nat_eq, slice_get, slice_set}
 use Rattle.std.specs.Prelude.{Option, Some, None, refl, if◌then◌else◌}
 use Rattle.std.proofs.Common.{arith, ap, sym, subst, inl, inr, ◌∙◌}
 use Rattle.std.proofs.lemmas.Bool.{cases_eq, eqb-true}
 use Rattle.std.proofs.lemmas.Bool.Decides.{nat_tests}
-use Rattle.mt_base.specs.Granules.{granule_of}
 use Rattle.a64_code.specs.State.{State}
 use Rattle.block_meaning.specs.declared.cell.Cell.{Cell}
 use Rattle.block_meaning.specs.declared.cell.Cell.TheVariants.{Nothing, Byte, Part}
@@ -17,14 +16,14 @@ use Rattle.block_meaning.specs.Blocks.{Block, null_block, ended}
 use Rattle.block_meaning.specs.Locals.{latest}
 use Rattle.block_meaning.specs.Running.{Call, Context, State as MeaningState}
 use Rattle.code_relation.specs.Apart.{AreTwo}
-use Rattle.code_relation.specs.Calls.{frame_of, has_tagged, is_among}
+use Rattle.code_relation.specs.Calls.{frame_of, has_tagged}
 use Rattle.code_relation.specs.Cells.{IsCell}
 use Rattle.code_relation.specs.Injects.{Injects}
 use Rattle.code_relation.specs.Numbers.{number_at, IsNumber, Holds}
 use Rattle.code_relation.specs.Relates.{Relates}
-use Rattle.code_relation.specs.Sites.{Given, units_of, Lives, site_by, site_of, has_byte, slot_in, is_of_file, is_tagged_by, is_tagged_local}
+use Rattle.code_relation.specs.Sites.{Given, units_of, Lives, site_by, site_of, is_of_file, is_tagged_local}
 use Rattle.code_relation.specs.Sites.{is_tagged_block}
-use Rattle.code_relation.specs.Stands.{AreCalls, IsLocal, IsInScope, IsAsOpened, WasOpened, Stands}
+use Rattle.code_relation.specs.Stands.{IsLocal, IsInScope, IsAsOpened, WasOpened, Stands}
 use Rattle.code_relation.specs.Laws.Lists.{get_set_same, get_set_other}
 use Rattle.stmt_follows.specs.Laws.Locals.Apart.{none_tagged}
 use Rattle.stmt_follows.specs.Laws.Locals.Opened.{is_local, no_local_opened}

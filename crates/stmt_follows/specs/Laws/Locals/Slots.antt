@@ -1,15 +1,13 @@
 -- Where the slots of locals lie: apart in a frame, and frames on whole granules of the stack (this project's own).
-use Rattle.std.specs.Prelude.{◌≡◌, ◌≢◌, ℕ, ◌+◌, ◌*◌, ◌%◌, ◌/◌, ◌<◌, ◌≤◌, ◌-◌, true, false, List, [], ◌∷◌, slice_get, Option, Some, None, refl}
+use Rattle.std.specs.Prelude.{◌≡◌, ℕ, ◌+◌, ◌%◌, ◌≤◌, List, [], ◌∷◌, slice_get, Option, Some, None, refl}
 use Rattle.std.proofs.Common.{arith, ap, sym, subst, ◌∙◌}
-use Rattle.std.proofs.lemmas.Bool.Decides.{nat_tests}
-use Rattle.mt_base.specs.Memory.{is_between}
 use Rattle.c_type_base.specs.Layout.{LaidOut}
 use Rattle.c_type_base.specs.Laws.LayoutLaws.{round_up-multiple}
 use Rattle.c_type_base.specs.declared.typed.TFunction.{TFunction}
 use Rattle.c_type_base.specs.declared.typed.Typed.{Typed}
 use Rattle.frame_layout.specs.declared.frame.Frame.{Frame}
 use Rattle.frame_layout.specs.declared.frame.Slot.{Slot}
-use Rattle.frame_layout.specs.Frames.{frame, first_tagged, first_safe, tagged_end}
+use Rattle.frame_layout.specs.Frames.{frame, first_tagged, tagged_end}
 use Rattle.frame_layout.specs.Parts.{parts}
 use Rattle.frame_layout.specs.StatementNeeds.{stmt_need}
 use Rattle.frame_layout.specs.Laws.FrameLaws.{Has}
@@ -21,8 +19,8 @@ use Rattle.block_meaning.specs.Linkage.{structs_in, structs_of, function_in, fun
 use Rattle.block_meaning.specs.Meaning.{open_bytes}
 use Rattle.block_meaning.specs.ProgramsInOrder.{InOrder}
 use Rattle.block_meaning.specs.Running.{Function, Call, Program, State as MeaningState}
-use Rattle.code_relation.specs.Calls.{stack_end, lowest, frame_by, frame_of, LieInOrder}
-use Rattle.code_relation.specs.Sites.{Given, units_of, site_of_local, site_of_slot, slot_in, site_by, site_of, has_byte}
+use Rattle.code_relation.specs.Calls.{lowest, frame_by, frame_of, LieInOrder}
+use Rattle.code_relation.specs.Sites.{Given, units_of, site_of_local, site_of_slot, slot_in, site_by, site_of}
 use Rattle.code_relation.specs.Stands.{IsThere, AreCalls, IsLocal}
 use Rattle.code_relation.specs.Laws.FrameWords.{HasSlot, IsBehindWords, slot_behind, slot_of_local}
 use Rattle.code_relation.specs.Laws.Untouched.{Among, here, there}
