@@ -56,7 +56,7 @@ over_few Broke = omega arith
 over_few Continued = omega arith
 over_few (Returned v) = omega arith
 
-no_spare : (x : Flow) → (flow_room x).spare ≡ 0
+pub no_spare : (x : Flow) → (flow_room x).spare ≡ 0
 no_spare Next = refl
 no_spare Broke = refl
 no_spare Continued = refl

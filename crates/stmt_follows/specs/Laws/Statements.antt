@@ -4,3 +4,4 @@ pub mod IfElse
 pub mod Return
 pub mod Jumps
 pub mod Items
+pub mod Scope

@@ -48,18 +48,22 @@ leaves_nothing {k} safe (Some r) =
     (none_in_front is_tagged_slot (r.last + 1 - r.first) (drop r.first (frame_in k).slots)
     (none_behind is_tagged_slot r.first (frame_in k).slots safe.safe))
 
+-- where that is all, the code ends where it begins
+pub past_nothing : {k : Scene} {Leaving : ℕ → Type 0} {from to : ℕ} → AllSafe k → (opened : Option Range) →
+    Standing k Leaving (leave (frame_in k) opened) from to → from ≡ to
+past_nothing {k} {Leaving} {from} {to} safe opened stands = by_code (leave (frame_in k) opened) (leaves_nothing safe opened) stands
+  where
+    by_code : (code : Items) → code ≡ nothing → Standing k Leaving code from to → from ≡ to
+    by_code code is front =
+        let here : Standing k Leaving nothing from to = subst (λ c. Standing k Leaving c from to) is front in
+        Standing-none here
+
 -- to a label, past nothing
 jump_stands : {k : Scene} {Leaving : ℕ → Type 0} {from to : ℕ} → AllSafe k → (opened : Option Range) (label : ℕ) →
     Standing k Leaving (jump_out (frame_in k) opened label) from to → Jumps k from (k.label label)
 jump_stands {k} {Leaving} {from} safe opened label stands =
     let pieces = Standing-two (leave (frame_in k) opened) (only (item.Jump label)) stands in
-    let none : from ≡ pieces.middle = by_code (leave (frame_in k) opened) (leaves_nothing safe opened) pieces.front in
-    subst (λ (at : ℕ). Jumps k at (k.label label)) (sym none) (Lies-jump label pieces.back.lies)
-  where
-    by_code : {middle : ℕ} (code : Items) → code ≡ nothing → Standing k Leaving code from middle → from ≡ middle
-    by_code {middle} code is front =
-        let here : Standing k Leaving nothing from middle = subst (λ c. Standing k Leaving c from middle) is front in
-        Standing-none here
+    subst (λ (at : ℕ). Jumps k at (k.label label)) (sym (past_nothing safe opened pieces.front)) (Lies-jump label pieces.back.lies)
 
 pub break_follows : {k : Scene} → AllSafe k → (parts : StmtParts) (span : Span) →
     StmtPart k (λ around. jump_out (frame_in k) around.opened around.broke) (stmt_node parts k.here (TStmt-F.Break span))
