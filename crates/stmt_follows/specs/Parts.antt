@@ -60,6 +60,10 @@ pub record Bounds (k : Scene) (a : Account) (spare over : ℕ) (now : MeaningSta
   pub most : a.so_far + spare + k.code.per * now.work ≤ a.most + over
   pub within : now.work ≤ k.code.reach
 
+-- so many steps more were made than units of work were spent, which pay for units that come next
+pub record IsAhead (a : Account) (n : ℕ) (now : MeaningState) : Type 0 where
+  pub ahead : a.least + n ≤ now.work + a.so_far
+
 -- The code has come to an address, as `On` of code_follows has it, between two statements.
 abbrev pub Here : Scene → State → ℕ → Account → ℕ → ℕ → MeaningState → State → Type 0
 Here k s at a owes spare now t = On k 0 result false s at a owes spare now t

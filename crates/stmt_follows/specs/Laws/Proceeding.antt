@@ -30,14 +30,14 @@ use Rattle.code_runs.specs.Laws.Bounded.{IsLooser, IsWider-same, Reaches-changes
 use Rattle.code_runs.specs.Outcome.{Outcome, Completes, Finishes, Lacks, Unsaid, followed_by}
 use Rattle.gen_laws.specs.Computes.{Computes}
 use Rattle.gen_stmt.specs.Loops.{result}
-use Rattle.stmt_follows.specs.Parts.{Bounds, Here, Proceeds}
+use Rattle.stmt_follows.specs.Parts.{Bounds, IsAhead, Here, Proceeds}
 
 -- ---- work
 
-spent_one : (left : ℕ) (now : MeaningState) → now.work ≡ suc left → (spent now).work ≡ left
+pub spent_one : (left : ℕ) (now : MeaningState) → now.work ≡ suc left → (spent now).work ≡ left
 spent_one left now is = ap one_less is
 
-per_one : (per left : ℕ) (now : MeaningState) → now.work ≡ suc left → per * now.work ≡ per * (spent now).work + per
+pub per_one : (per left : ℕ) (now : MeaningState) → now.work ≡ suc left → per * now.work ≡ per * (spent now).work + per
 per_one per left now is =
     ap (λ w. per * w) (is ∙ (let e : suc left ≡ left + 1 = omega arith in e))
     ∙ product_split per left 1
@@ -127,16 +127,16 @@ module _ {A : Type 0} {k : Scene} {room : A → Room} {Q : A → MeaningState �
     bounded = done (record { least = omega (arith, bounds.least); most = omega (arith, bounds.most, enough) }) is;
   }
 
-  -- a part that was counted from where it began, and then what stands on its value
-  pub Proceeds-then : {B : Type 0} {sub_room : B → Room} {P : B → MeaningState → State → Type 0} {a : Account} {spare : ℕ}
+  -- A part that was counted from where it began, and then what stands on its value. Steps that were made for the next unit of work stay so.
+  pub Proceeds-ahead : {B : Type 0} {sub_room : B → Room} {P : B → MeaningState → State → Type 0} {a : Account} {spare ahead : ℕ}
       {m : Run B} {f : B → Run A} {now : MeaningState} {t : State} →
       Proceeds k.code sub_room P (opened (setting k.code) now.work) m now t → ((x : B) → (sub_room x).over ≤ 8) → 96 ≤ k.code.per →
-      Bounds k a spare 0 now →
+      Bounds k a spare 0 now → IsAhead a ahead now →
       ((x : B) (then : MeaningState) (u : State) (n : ℕ) →
-      Bounds k (later n a) (spare + (sub_room x).spare) (sub_room x).over then → P x then u →
+      Bounds k (later n a) (spare + (sub_room x).spare) (sub_room x).over then → IsAhead (later n a) ahead then → P x then u →
       Proceeds k.code room Q (later n a) (f x) then u) →
       Proceeds k.code room Q a (and_then m f) now t
-  Proceeds-then {B} {sub_room} {P} {a} {spare} {m} {f} {now} {t} part few pays bounds more = record {
+  Proceeds-ahead {B} {sub_room} {P} {a} {spare} {ahead} {m} {f} {now} {t} part few pays bounds before more = record {
     bounded = subst (λ r. Bounded (setting k.code) a room t Q r) (sym (outcome_of-then m f now))
         (by_outcome (outcome_of (m now)) part.bounded.does);
   }
@@ -161,6 +161,7 @@ module _ {A : Type 0} {k : Scene} {room : A → Room} {Q : A → MeaningState �
               less_over k.code.per then.work now.work 8 (omega (arith, pays)) (omega (arith, does.most, few x)),
             );
           })
+          (record { ahead = omega (arith, before.ahead, does.least) })
           does.there).bounded
       by_outcome (Finishes end then) does = record {
         does = Reaches-changes (record { least = omega (arith, looser.least); most = omega (arith, looser.most) }) (IsWider-same just)
@@ -168,6 +169,18 @@ module _ {A : Type 0} {k : Scene} {room : A → Room} {Q : A → MeaningState �
       }
       by_outcome (Lacks then) does = record { does = Reaches-changes looser (IsWider-same just) (λ u same. same) does }
       by_outcome Unsaid does = record { does = tt }
+
+  pub Proceeds-then : {B : Type 0} {sub_room : B → Room} {P : B → MeaningState → State → Type 0} {a : Account} {spare : ℕ}
+      {m : Run B} {f : B → Run A} {now : MeaningState} {t : State} →
+      Proceeds k.code sub_room P (opened (setting k.code) now.work) m now t → ((x : B) → (sub_room x).over ≤ 8) → 96 ≤ k.code.per →
+      Bounds k a spare 0 now →
+      ((x : B) (then : MeaningState) (u : State) (n : ℕ) →
+      Bounds k (later n a) (spare + (sub_room x).spare) (sub_room x).over then → P x then u →
+      Proceeds k.code room Q (later n a) (f x) then u) →
+      Proceeds k.code room Q a (and_then m f) now t
+  Proceeds-then part few pays bounds more =
+      Proceeds-ahead {ahead = 0} part few pays bounds (record { ahead = omega (arith, bounds.least) })
+      (λ x then u n limits before ends. more x then u n limits ends)
 
   module _ {s : State} where
     -- some steps are made, which pay for what is owed

@@ -5,3 +5,5 @@ pub mod Return
 pub mod Jumps
 pub mod Items
 pub mod Scope
+pub mod Turns
+pub mod While
