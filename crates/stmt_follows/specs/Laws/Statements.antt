@@ -7,3 +7,4 @@ pub mod Items
 pub mod Scope
 pub mod Turns
 pub mod While
+pub mod DoWhile

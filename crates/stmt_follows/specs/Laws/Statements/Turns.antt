@@ -12,7 +12,9 @@ use Rattle.code_runs.specs.Bounded.{Account}
 use Rattle.stmt_follows.specs.Parts.{Ways, Ends, flow_room, IsAhead, Here, After, Proceeds}
 use Rattle.stmt_follows.specs.Laws.Ahead.{unit_then-apart, Proceeds-paid}
 use Rattle.stmt_follows.specs.Laws.Flowing.{Here-comes, Proceeds-next}
-use Rattle.stmt_follows.specs.Laws.Proceeding.{Proceeds-same, Proceeds-stuck, Proceeds-done, Here-less}
+use Rattle.stmt_follows.specs.Laws.Proceeding.{Proceeds-same, Proceeds-stuck, Proceeds-done, Proceeds-unit, Proceeds-jump, Here-less}
+use Rattle.code_follows.specs.Laws.Jumping.{Jumps}
+use Rattle.code_follows.specs.Laws.Operand.{IsAt-on}
 
 -- From where its turns are tested the code does so many turns, of which the next is paid for.
 pub record LoopsOn (k : Scene) (w : Ways) (s : State) (at to : ℕ) (run : Run Flow) : Type 0 where
@@ -52,3 +54,15 @@ after_turn Continued broke continued after before rest =
 after_turn (Returned v) broke continued after before rest =
     Proceeds-done (Returned v) after.bounds (omega arith)
     (record { at = after.ends.at; leaving = after.ends.leaving; value = after.ends.value; comes = after.ends.comes })
+
+-- the first turn, whose unit of work the jump to the test pays for
+pub turns_first : {k : Scene} {w : Ways} {s : State} {from test to : ℕ} {a : Account} {now : MeaningState} {t : State} {turn : Run Turn} →
+    IsScene k → Here k s from a 0 0 now t → Jumps k from test →
+    ((run : Run Flow) → LoopsOn k w s test to run → TurnsOn k w s test to turn run) → (bound : ℕ) →
+    Proceeds k.code flow_room (Ends k w s to) a (loop bound (unit_then turn)) now t
+turns_first scene on first each zero = Proceeds-stuck
+turns_first {now = now} {t} {turn} scene on first each (suc more) =
+    Proceeds-same (unit_then-apart turn (λ x. around_turn x (loop more (unit_then turn))) now)
+    (Proceeds-unit on (λ owing.
+    Proceeds-jump 80 (first.jumps t (IsAt-on owing)) owing (omega arith) (omega (arith, pays scene)) (λ there.
+    (each (loop more (unit_then turn)) (loops_on scene each more)).goes _ _ _ there)))

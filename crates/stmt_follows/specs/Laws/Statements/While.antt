@@ -1,9 +1,9 @@
 -- The code of `while` does what it means (this project's own).
-use Rattle.std.specs.Prelude.{◌≡◌, ℕ, zero, suc, ◌+◌, ◌<◌, true, not, nat_eq, [], ◌∷◌, Some, refl}
+use Rattle.std.specs.Prelude.{◌≡◌, ℕ, ◌+◌, ◌<◌, true, not, nat_eq, [], ◌∷◌, Some, refl}
 use Rattle.std.proofs.Common.{arith, sym, subst, ◌∙◌}
 use Rattle.a64_code.specs.State.{State}
-use Rattle.block_meaning.specs.Running.{Run, gives, and_then, unit_then, choice, State as MeaningState}
-use Rattle.block_meaning.specs.Statements.{StmtParts, Flow, Next, Turn, Leaves, after_body, loop, condition, stmt_node}
+use Rattle.block_meaning.specs.Running.{Run, gives, and_then, choice}
+use Rattle.block_meaning.specs.Statements.{StmtParts, Flow, Next, Turn, Leaves, after_body, condition, stmt_node}
 use Rattle.block_meaning.specs.Statements.{around as around_turn}
 use Rattle.c_type_base.specs.Types.{is_scalar}
 use Rattle.c_type_base.specs.declared.expr.TExpr.{TExpr}
@@ -15,19 +15,18 @@ use Rattle.code_follows.specs.Laws.Jumping.{Lies-label, Lies-other, Jumps, Lies-
 use Rattle.code_follows.specs.Laws.Jumping.{Lies-at, true_number, false_number}
 use Rattle.code_follows.specs.Laws.Operand.{IsAt-on, Lies-two}
 use Rattle.code_relation.specs.Items.{JumpsOnZero}
-use Rattle.code_runs.specs.Bounded.{Account}
 use Rattle.gen_base.specs.Code.{Code as Items, only, in_turn}
 use Rattle.gen_stmt.specs.Loops.{Around, Emits, result, in_loop, back_to, while_code}
 use Rattle.gen_stmt.specs.Statements.{value}
 use Rattle.sym_code.specs.declared.item.SymItem.TheVariants as item
 use Rattle.stmt_follows.specs.Expressions.{ValueRuns}
-use Rattle.stmt_follows.specs.Parts.{ways, Standing, Ends, flow_room, Here, Proceeds, StmtPart}
-use Rattle.stmt_follows.specs.Laws.Ahead.{unit_then-apart, Proceeds-chosen, Proceeds-flow_ahead}
+use Rattle.stmt_follows.specs.Parts.{ways, Standing, StmtPart}
+use Rattle.stmt_follows.specs.Laws.Ahead.{Proceeds-chosen, Proceeds-flow_ahead}
 use Rattle.stmt_follows.specs.Laws.Conditions.{and_then-apart, Proceeds-condition}
 use Rattle.stmt_follows.specs.Laws.Flowing.{Proceeds-next, StmtPart-by}
-use Rattle.stmt_follows.specs.Laws.Proceeding.{Proceeds-same, Proceeds-stuck, Proceeds-unit, Proceeds-jump}
+use Rattle.stmt_follows.specs.Laws.Proceeding.{Proceeds-same, Proceeds-jump}
 use Rattle.stmt_follows.specs.Laws.Standing.{Standing-turn, Standing-two, Standing-labelled}
-use Rattle.stmt_follows.specs.Laws.Statements.Turns.{LoopsOn, TurnsOn, loops_on, after_turn}
+use Rattle.stmt_follows.specs.Laws.Statements.Turns.{LoopsOn, TurnsOn, after_turn, turns_first}
 
 abbrev turns : Items → Emits → ℕ → Items
 turns c body l = in_turn (only (item.Jump l) ∷ only (item.Label (l + 1)) ∷ body (in_loop (l + 2) l) ∷ only (item.Label l) ∷
@@ -108,15 +107,4 @@ module _ {k : Scene} (scene : IsScene k) (parts : StmtParts) (e : TExpr) (st : T
       let named = Standing-labelled (turns (value (structs_in k) (frame_in k) e) emits) stands in
       let pieces = stands_while (value (structs_in k) (frame_in k) e) emits named.number named.stands in
       let each = turns_on around Leaving named.number from to s pieces in
-      by_bound around Leaving from pieces.test to s a now on pieces.first each parts.bound)
-    where
-      by_bound : (around : Around) (Leaving : ℕ → Type 0) (from test to : ℕ) (s : State) (a : Account) (now : MeaningState) →
-          Here k s from a 0 0 now s → Jumps k from test →
-          ((run : Run Flow) → LoopsOn k (ways k around Leaving) s test to run → TurnsOn k (ways k around Leaving) s test to turn run) →
-          (bound : ℕ) → Proceeds k.code flow_room (Ends k (ways k around Leaving) s to) a (loop bound (unit_then turn)) now s
-      by_bound around Leaving from test to s a now on first each zero = Proceeds-stuck
-      by_bound around Leaving from test to s a now on first each (suc more) =
-          Proceeds-same (unit_then-apart turn (λ x. around_turn x (loop more (unit_then turn))) now)
-          (Proceeds-unit on (λ owing.
-          Proceeds-jump 80 (first.jumps s (IsAt-on owing)) owing (omega arith) (omega (arith, pays scene)) (λ there.
-          (each (loop more (unit_then turn)) (loops_on scene each more)).goes _ _ _ there)))
+      turns_first scene on pieces.first each parts.bound)
