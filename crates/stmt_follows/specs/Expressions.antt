@@ -13,6 +13,7 @@ use Rattle.code_follows.specs.Values.{ValueIs}
 use Rattle.code_relation.specs.Calls.{has_tagged}
 use Rattle.code_relation.specs.Sites.{units_of}
 use Rattle.code_relation.specs.Trees.{HasOnly}
+use Rattle.frame_layout.specs.declared.frame.Frame.{Frame}
 use Rattle.frame_layout.specs.Needs.{need}
 use Rattle.gen_stmt.specs.Loops.{result}
 use Rattle.gen_stmt.specs.Statements.{value}
@@ -33,9 +34,9 @@ MaybeTells k parts None = Unit {0}
 MaybeTells k parts (Some e) = ValueRuns k parts e × (is_scalar e.ty ≡ true)
 
 -- an expression that code follows, and its temps are there and within the reach of loads and stores
-pub record IsReady (k : Scene) (e : TExpr) : Type 0 where
+pub record IsReady (f : Frame) (e : TExpr) : Type 0 where
   pub covered_is : covered e ≡ true
-  pub temps : need e ≤ (frame_in k).temps
+  pub temps : need e ≤ f.temps
   pub near : need e ≤ 4093
 
 -- the same code of the same function, in another scope and another context

@@ -5,3 +5,5 @@ pub mod Conditions
 pub mod Ahead
 pub mod Locals
 pub mod Statements
+pub mod Layers
+pub mod Whole
