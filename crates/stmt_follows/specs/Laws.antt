@@ -6,4 +6,3 @@ pub mod Ahead
 pub mod Locals
 pub mod Statements
 pub mod Layers
-pub mod Whole

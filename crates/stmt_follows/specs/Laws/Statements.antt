@@ -9,3 +9,4 @@ pub mod Turns
 pub mod While
 pub mod DoWhile
 pub mod For
+pub mod Declared
