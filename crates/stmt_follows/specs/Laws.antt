@@ -6,3 +6,4 @@ pub mod Ahead
 pub mod Locals
 pub mod Statements
 pub mod Layers
+pub mod Whole

@@ -1,12 +1,12 @@
 -- The code of a statement is that of its level (this project's own).
-use Rattle.std.specs.Prelude.{◌≡◌, ℕ, List, [], ◌∷◌, ◌++◌, map, refl}
-use Rattle.std.proofs.Common.{ap, ap₂, ◌∙◌}
+use Rattle.std.specs.Prelude.{◌≡◌, List, [], ◌∷◌, ◌++◌, map, refl}
+use Rattle.std.proofs.Common.{ap, ◌∙◌}
 use Rattle.block_meaning.specs.Statements.{StmtLayer, ItemLayer, declared_by}
 use Rattle.block_meaning.specs.Statements.{declared as declared_in}
 use Rattle.c_type_base.specs.Laws.Opened.{given_typed}
 use Rattle.c_type_base.specs.declared.statement.TItem.{TItem, out-TItem, map-TItem}
 use Rattle.c_type_base.specs.declared.statement.TItem.TheFolds.{fold_out-TItem, fold_out-TStmt}
-use Rattle.c_type_base.specs.declared.statement.TItem.TheOpen.{TItem-F, TStmt-F}
+use Rattle.c_type_base.specs.declared.statement.TItem.TheOpen.{TItem-F}
 use Rattle.c_type_base.specs.declared.statement.TStmt.{TStmt, out-TStmt, map-TStmt}
 use Rattle.c_type_base.specs.declared.typed.StructInfo.{StructInfo}
 use Rattle.frame_layout.specs.declared.frame.Frame.{Frame}

@@ -1,5 +1,5 @@
 -- Declarations among statements, and what a `for` has before its turns (this project's own).
-use Rattle.std.specs.Prelude.{◌≡◌, ℕ, ◌+◌, ◌≤◌, [], ◌∷◌, Option, Some, None, refl}
+use Rattle.std.specs.Prelude.{ℕ, [], ◌∷◌, Option, Some, None, refl}
 use Rattle.std.proofs.Common.{arith, sym, ◌∙◌}
 use Rattle.a64_code.specs.State.{State}
 use Rattle.block_meaning.specs.Expressions.{value_of}
