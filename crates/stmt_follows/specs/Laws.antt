@@ -7,3 +7,4 @@ pub mod Locals
 pub mod Statements
 pub mod Layers
 pub mod Whole
+pub mod Following
