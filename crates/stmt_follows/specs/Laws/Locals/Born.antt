@@ -122,12 +122,14 @@ module _ {g : Given} {here : Context} {now : MeaningState} {s : State} (injects 
     size_is = is.size_is;
   }
 
-  in_new_scope : (j n : ℕ) → (with_local k (length now.blocks) here).local j ≡ Some n → IsInScope (with_new b now) (latest here.open_calls) j n
+  in_new_scope : (j n : ℕ) → (with_local k (length now.blocks) here).local j ≡ Some n →
+      IsInScope (with_new b now) (latest here.open_calls) j n
   in_new_scope j n is = by_number (nat_eq j k) refl
     where
       by_number : (same : Bool) → nat_eq j k ≡ same → IsInScope (with_new b now) (latest here.open_calls) j n
       by_number true equal =
-          let found : (with_local k (length now.blocks) here).local j ≡ Some (length now.blocks) = of_nat (nat_eq j k) (Some (length now.blocks)) (here.local j) equal in
+          let found : (with_local k (length now.blocks) here).local j ≡ Some (length now.blocks) =
+          of_nat (nat_eq j k) (Some (length now.blocks)) (here.local j) equal in
           let n_is : length now.blocks ≡ n = cc in
           let j_is : j ≡ k = eqb-true j k equal in
           record {
@@ -161,7 +163,8 @@ module _ {g : Given} {here : Context} {now : MeaningState} {s : State} (injects 
           absurd (some_none before none)
       by_number false other = of_other (nat_eq j k) (Some (length now.blocks)) (here.local j) other ∙ before
 
-  new_in_scope : (n : ℕ) (j call : ℕ) → n ≡ length now.blocks → b.kind ≡ Local call j → (with_local k (length now.blocks) here).local j ≡ Some n
+  new_in_scope : (n : ℕ) (j call : ℕ) → n ≡ length now.blocks → b.kind ≡ Local call j →
+      (with_local k (length now.blocks) here).local j ≡ Some n
   new_in_scope n j call n_is kind_is =
       let j_is : j ≡ k = ap number_in (sym kind_is ∙ born.new.kind_is) in
       of_nat (nat_eq j k) (Some (length now.blocks)) (here.local j) (ap (λ m. nat_eq m k) j_is ∙ eq_same k) ∙ ap Some (sym n_is)
