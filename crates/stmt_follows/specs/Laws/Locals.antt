@@ -6,3 +6,5 @@ pub mod Ended
 pub mod Lists
 pub mod Entering
 pub mod Leaving
+pub mod Places
+pub mod Stored
