@@ -1,3 +1,4 @@
 pub mod Parts
 pub mod Expressions
+pub mod Declarations
 pub mod Laws

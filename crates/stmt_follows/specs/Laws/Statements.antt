@@ -8,3 +8,4 @@ pub mod Scope
 pub mod Turns
 pub mod While
 pub mod DoWhile
+pub mod Declarations
