@@ -5,3 +5,6 @@ pub mod Conditions
 pub mod Ahead
 pub mod Locals
 pub mod Statements
+pub mod Layers
+pub mod Whole
+pub mod Following

@@ -12,7 +12,7 @@ use Rattle.code_relation.specs.Numbers.{Holds}
 use Rattle.code_relation.specs.Outcomes.{outcome_of}
 use Rattle.code_relation.specs.Relates.{Relates}
 use Rattle.code_relation.specs.Trees.{Comes, statement_room}
-use Rattle.code_runs.specs.Bounded.{Account, Room, Bounded}
+use Rattle.code_runs.specs.Bounded.{Account, Room, just, Bounded}
 use Rattle.code_runs.specs.Laws.Bounded.{opened}
 use Rattle.gen_base.specs.Code.{Code as Items}
 use Rattle.gen_stmt.specs.Loops.{Around, Emits, result}
@@ -90,3 +90,9 @@ pub record Flows (k : Scene) (w : Ways) (from to : ℕ) (run : Run Flow) : Type 
 pub record StmtPart (k : Scene) (emits : Emits) (run : Run Flow) : Type 1 where
   pub part : (around : Around) (Leaving : ℕ → Type 0) (from to : ℕ) → Standing k Leaving (emits around) from to →
       Flows k (ways k around Leaving) from to run
+
+-- The same of declarations, which are left in one way.
+pub record DeclsPart (k : Scene) (code : Items) (run : Run (Unit {0})) : Type 0 where
+  pub part : (from to : ℕ) → Lies k code from to → (now : MeaningState) (s : State) → now.work ≤ k.code.reach →
+      Relates (given_in k) k.here now s → s.pc ≡ from →
+      Proceeds k.code (λ x. just) (λ x later t. Comes (given_in k) 0 to k.here s later t) (opened (setting k.code) now.work) run now s

@@ -27,7 +27,7 @@ use Rattle.stmt_follows.specs.Parts.{Here, Proceeds}
 use Rattle.stmt_follows.specs.Laws.Proceeding.{Proceeds-same, Proceeds-part, Proceeds-truth}
 
 -- an expression that code follows is one of a statement
-pub ValueRuns-follows : {k : Scene} {depth : ℕ} {e : TExpr} → IsReady k e → ValueFollows k depth e →
+pub ValueRuns-follows : {k : Scene} {depth : ℕ} {e : TExpr} → IsReady (frame_in k) e → ValueFollows k depth e →
     ValueRuns k (parts_at (calls_in k) k.here depth) e
 ValueRuns-follows {e = e} ready follows = record {
   alone = _;

@@ -8,3 +8,4 @@ pub mod Entering
 pub mod Leaving
 pub mod Places
 pub mod Stored
+pub mod Initialised

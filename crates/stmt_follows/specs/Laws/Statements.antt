@@ -9,3 +9,5 @@ pub mod Turns
 pub mod While
 pub mod DoWhile
 pub mod Declarations
+pub mod For
+pub mod Declared

@@ -235,3 +235,9 @@ module _ {k : Scene} (place : IsPlace k) (j : ℕ) (js : List ℕ) (new : AreNew
       (are_different (j ∷ js) new.different) (none_new place new) (λ inner last is relates work_is.
       in_scope inside Leaving p.middle to (Standing-at refl (past_nothing place.safe (Some r) q.back) q.front)
       (ways k around Leaving) refl inner is (here_in k (j ∷ js) inner is there relates work_is)))))
+
+-- where it declares none, there is no scope
+pub scoped_follows : {k : Scene} → IsPlace k → (ks : List ℕ) → AreNew k.scope.locals ks → (emits : Emits) (run : Context → Run Flow) →
+    BodyPart k ks emits run → StmtPart k (scope (frame_in k) ks emits) (scoped k.here ks run)
+scoped_follows {k} place [] new emits run part = part.part k.here place
+scoped_follows place (j ∷ js) new emits run part = scope_follows place j js new emits run part

@@ -23,7 +23,7 @@ pub record LoopsOn (k : Scene) (w : Ways) (s : State) (at to : ℕ) (run : Run F
 
 -- a turn, behind its unit of work, and then the others
 pub record TurnsOn (k : Scene) (w : Ways) (s : State) (at to : ℕ) (turn : Run Turn) (run : Run Flow) : Type 0 where
-  pub goes : (a : Account) (now : MeaningState) (t : State) → Here k s at a 0 80 now t →
+  pub goes : (a : Account) (now : MeaningState) (t : State) → Here k s at a 0 84 now t →
       Proceeds k.code flow_room (Ends k w s to) a (and_then turn (λ x. around_turn x run)) now t
 
 -- from one turn to all
@@ -37,7 +37,7 @@ loops_on {turn = turn} scene each (suc more) =
       goes = λ a now t on before.
           Proceeds-same (unit_then-apart turn (λ x. around_turn x (loop more (unit_then turn))) now)
           (Proceeds-paid on before (λ paid.
-          (each (loop more (unit_then turn)) rest).goes a _ t (Here-less 80 (omega (arith, pays scene)) paid)));
+          (each (loop more (unit_then turn)) rest).goes a _ t (Here-less 84 (omega (arith, pays scene)) paid)));
     }
 
 -- the body was left: by the next turn, or behind the loop
@@ -64,5 +64,5 @@ turns_first scene on first each zero = Proceeds-stuck
 turns_first {now = now} {t} {turn} scene on first each (suc more) =
     Proceeds-same (unit_then-apart turn (λ x. around_turn x (loop more (unit_then turn))) now)
     (Proceeds-unit on (λ owing.
-    Proceeds-jump 80 (first.jumps t (IsAt-on owing)) owing (omega arith) (omega (arith, pays scene)) (λ there.
+    Proceeds-jump 84 (first.jumps t (IsAt-on owing)) owing (omega arith) (omega (arith, pays scene)) (λ there.
     (each (loop more (unit_then turn)) (loops_on scene each more)).goes _ _ _ there)))
