@@ -1,15 +1,7 @@
 -- The code of the initialiser of a scalar local does what it means: a unit of work, the value, and its store (this project's own).
 use Rattle.std.specs.Prelude.{◌≡◌, ℕ, zero, suc, ◌<◌, ◌≤◌, ◌||◌, true, false, [], ◌∷◌, slice_get, Option, Some, None, IfSome, refl}
 use Rattle.std.proofs.Common.{arith, ap, sym, subst, ◌∙◌}
-use Rattle.a64_code.specs.declared.instr.Instr.TheVariants.{Nop}
-use Rattle.a64_code.specs.State.{State}
-use Rattle.block_meaning.specs.Expressions.{ExprParts, start_of, value_of}
-use Rattle.block_meaning.specs.Linkage.{function_named}
-use Rattle.block_meaning.specs.Locals.{InitParts, latest, local_in, local_info, is_list, after_zero, fill_one, fill_node, fill_at}
-use Rattle.block_meaning.specs.Locals.{initialised, declared_with}
-use Rattle.block_meaning.specs.Memory.{Object, object, write}
-use Rattle.block_meaning.specs.Running.{Call, gives, stuck, and_then, State as MeaningState}
-use Rattle.block_meaning.specs.declared.value.Value.{Value}
+use Rattle.c_ast.specs.declared.token.Span.{Span}
 use Rattle.c_type_base.specs.Types.{TyLayer, is_scalar, is_array, is_there, element_of_level}
 use Rattle.c_type_base.specs.declared.expr.TExpr.{TExpr}
 use Rattle.c_type_base.specs.declared.statement.TDecl.{TDecl}
@@ -18,20 +10,17 @@ use Rattle.c_type_base.specs.declared.statement.TInit.TheOpen.{TInit-F}
 use Rattle.c_type_base.specs.declared.ty.Ty.{Ty, out-Ty}
 use Rattle.c_type_base.specs.declared.ty.Ty.TheOpen.{Ty-F}
 use Rattle.c_type_base.specs.declared.typed.LocalInfo.{LocalInfo}
-use Rattle.code_follows.specs.Parts.{Result, On, Goes, Yields}
-use Rattle.code_follows.specs.Scene.{Scene, IsScene, given_in, structs_in, frame_in, Lies}
-use Rattle.code_follows.specs.Steps.{SameMachine, Walks}
-use Rattle.tag_plan.specs.Effects.{Puts}
-use Rattle.c_ast.specs.declared.token.Span.{Span}
+use Rattle.a64_code.specs.declared.instr.Instr.TheVariants.{Nop}
+use Rattle.a64_code.specs.State.{State}
 use Rattle.a64_code.specs.declared.instr.Reg.{Reg}
-use Rattle.code_follows.specs.Values.{ValueIs}
-use Rattle.code_follows.specs.Laws.Coming.{Came-start, pays, pays-some}
-use Rattle.code_follows.specs.Laws.Computing.{Suits-other}
-use Rattle.code_follows.specs.Laws.Going.{Goes-same, Goes-stuck, Goes-unit, Goes-some, Goes-part, Goes-list, Goes-walks, Goes-done, On-at}
-use Rattle.code_follows.specs.Laws.Here.{and_then-gives}
-use Rattle.code_follows.specs.Laws.Lying.{ActsFrom, HasOne, Lies-turn, Lies-plain, Lies-one, Lies-only, Lies-none}
-use Rattle.code_follows.specs.Laws.Scalars.{is_scalar_level}
-use Rattle.code_follows.specs.Laws.Slots.{SlotPlace, slot_place}
+use Rattle.block_meaning.specs.Expressions.{ExprParts, start_of, value_of}
+use Rattle.block_meaning.specs.Linkage.{function_named}
+use Rattle.block_meaning.specs.Locals.{InitParts, latest, local_in, local_info, is_list, after_zero, fill_one, fill_node, fill_at}
+use Rattle.block_meaning.specs.Locals.{initialised, declared_with}
+use Rattle.block_meaning.specs.Memory.{Object, object, write}
+use Rattle.block_meaning.specs.Running.{Call, gives, stuck, and_then, State as MeaningState}
+use Rattle.block_meaning.specs.declared.value.Value.{Value}
+use Rattle.tag_plan.specs.Effects.{Puts}
 use Rattle.code_relation.specs.Items.{PutsPointer}
 use Rattle.code_relation.specs.Numbers.{IsNumber}
 use Rattle.code_relation.specs.Relates.{Relates}
@@ -48,6 +37,18 @@ use Rattle.gen_laws.specs.Laws.Unary.{nop-computes}
 use Rattle.gen_stmt.specs.Loops.{result}
 use Rattle.gen_stmt.specs.Statements.{value, store_local, one_init, init_code, maybe_init}
 use Rattle.sym_code.specs.declared.item.SymItem.TheVariants as item
+use Rattle.code_follows.specs.Parts.{Result, On, Goes, Yields}
+use Rattle.code_follows.specs.Scene.{Scene, IsScene, given_in, structs_in, frame_in, Lies}
+use Rattle.code_follows.specs.Steps.{SameMachine, Walks}
+use Rattle.code_follows.specs.Values.{ValueIs}
+use Rattle.code_follows.specs.Laws.Coming.{Came-start, pays, pays-some}
+use Rattle.code_follows.specs.Laws.Computing.{Suits-other}
+use Rattle.code_follows.specs.Laws.Going.{Goes-same, Goes-stuck, Goes-unit, Goes-some, Goes-part, Goes-list, Goes-walks, Goes-done}
+use Rattle.code_follows.specs.Laws.Going.{On-at}
+use Rattle.code_follows.specs.Laws.Here.{and_then-gives}
+use Rattle.code_follows.specs.Laws.Lying.{ActsFrom, HasOne, Lies-turn, Lies-plain, Lies-one, Lies-only, Lies-none}
+use Rattle.code_follows.specs.Laws.Scalars.{is_scalar_level}
+use Rattle.code_follows.specs.Laws.Slots.{SlotPlace, slot_place}
 use Rattle.stmt_follows.specs.Declarations.{ScalarInit, InitRuns}
 use Rattle.stmt_follows.specs.Expressions.{IsPlace}
 use Rattle.stmt_follows.specs.Laws.Locals.Places.{LocalPlace, local_place}

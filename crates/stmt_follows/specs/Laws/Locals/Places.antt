@@ -68,6 +68,7 @@ local_place {k} {now} {s} place relates t local number l local_is type_is scalar
           aligned = whole_sum t scalar s.sp has.slot.start (sp_whole relates.injects) multiple;
           below = omega (arith, at.before);
         };
-        memory = stack_open relates.injects (s.sp + has.slot.start) (bytes_in t) (omega (arith, at.above)) (omega (arith, at.before, bytes));
+        memory = stack_open relates.injects (s.sp + has.slot.start) (bytes_in t) (omega (arith, at.above))
+            (omega (arith, at.before, bytes));
       };
     }

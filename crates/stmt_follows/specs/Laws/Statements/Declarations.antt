@@ -2,43 +2,37 @@
 use Rattle.std.specs.Prelude.{◌≡◌, ℕ, ◌||◌, Bool, true, false, List, [], ◌∷◌, map, slice_get, Option, Some, None, IfSome, refl}
 use Rattle.std.specs.List.{All}
 use Rattle.std.proofs.Common.{arith, ap, sym, subst, ◌∙◌}
-use Rattle.std.proofs.lemmas.List.Elements.{All-head, All-tail}
-use Rattle.block_meaning.specs.Expressions.{ExprParts}
-use Rattle.block_meaning.specs.Locals.{declaration as meaning, declarations as meant}
-use Rattle.block_meaning.specs.Running.{Run, gives, and_then}
-use Rattle.c_type_base.specs.Types.{TyLayer, is_scalar, is_array, is_there}
+use Rattle.std.proofs.lemmas.List.Elements.{All-head, All-tail, All-nil, All-cons}
+use Rattle.c_type_base.specs.Types.{TyLayer, is_scalar, is_array, is_there, is_struct, struct_of_level}
 use Rattle.c_type_base.specs.declared.statement.TDecl.{TDecl}
 use Rattle.c_type_base.specs.declared.statement.TInit.{TInit, out-TInit}
 use Rattle.c_type_base.specs.declared.statement.TInit.TheOpen.{TInit-F}
 use Rattle.c_type_base.specs.declared.ty.Ty.{out-Ty}
 use Rattle.c_type_base.specs.declared.ty.Ty.TheOpen.{Ty-F}
 use Rattle.c_type_base.specs.declared.typed.LocalInfo.{LocalInfo}
+use Rattle.block_meaning.specs.Expressions.{ExprParts, parts_at}
+use Rattle.block_meaning.specs.Locals.{declaration as meaning, declarations as meant}
+use Rattle.block_meaning.specs.Running.{Run, gives, and_then, Context}
+use Rattle.block_meaning.specs.ExpressionsInOrder.{Scope}
+use Rattle.block_meaning.specs.StatementsInOrder.{DeclarationInOrder, Initialises, scalar, struct_value, text, zero_of_list, elements}
+use Rattle.block_meaning.specs.StatementsInOrder.{members}
+use Rattle.gen_base.specs.Code.{Code as Items, in_turn}
+use Rattle.gen_stmt.specs.Loops.{result}
+use Rattle.gen_stmt.specs.Statements.{declaration, declarations}
 use Rattle.code_follows.specs.Parts.{Yields}
-use Rattle.code_follows.specs.Scene.{Scene, IsScene, structs_in, frame_in, Lies}
+use Rattle.code_follows.specs.Scene.{Scene, IsScene, structs_in, frame_in, Lies, calls_in}
 use Rattle.code_follows.specs.Laws.Coming.{pays, pays-some}
 use Rattle.code_follows.specs.Laws.Going.{Goes-same, Goes-part, Goes-done, On-at}
 use Rattle.code_follows.specs.Laws.Here.{and_then-gives}
 use Rattle.code_follows.specs.Laws.Lying.{Lies-turn, Lies-none}
 use Rattle.code_follows.specs.Laws.Scalars.{is_scalar_level}
-use Rattle.gen_base.specs.Code.{Code as Items, in_turn}
-use Rattle.gen_stmt.specs.Loops.{result}
-use Rattle.gen_stmt.specs.Statements.{declaration, declarations}
 use Rattle.stmt_follows.specs.Declarations.{ScalarInit, InitRuns, DeclarationRuns}
-use Rattle.stmt_follows.specs.Expressions.{IsPlace}
+use Rattle.stmt_follows.specs.Expressions.{IsPlace, IsReady, moved, ExpressionsFollow}
 use Rattle.stmt_follows.specs.Laws.Locals.Initialised.{Comes-only, not_array, never, starts_on, init_yields}
-use Rattle.stmt_follows.specs.Laws.Proceeding.{Proceeds-part}
-use Rattle.block_meaning.specs.ExpressionsInOrder.{Scope}
-use Rattle.block_meaning.specs.Expressions.{parts_at}
-use Rattle.block_meaning.specs.Running.{Context}
-use Rattle.block_meaning.specs.StatementsInOrder.{DeclarationInOrder, Initialises, scalar, struct_value, text, zero_of_list, elements, members}
-use Rattle.c_type_base.specs.Types.{is_struct, struct_of_level}
-use Rattle.code_follows.specs.Scene.{calls_in}
-use Rattle.std.proofs.lemmas.List.Elements.{All-nil, All-cons}
-use Rattle.stmt_follows.specs.Expressions.{IsReady, moved, ExpressionsFollow}
+use Rattle.stmt_follows.specs.Laws.Proceeding.{Proceeds-part, Proceeds-same, Proceeds-done, Bounds-here}
 use Rattle.stmt_follows.specs.Parts.{DeclsPart}
 use Rattle.stmt_follows.specs.Ready.{ReadyInit, MaybeReadyInit, ReadyDecls, DeclarationsFollow}
 use Rattle.stmt_follows.specs.Laws.Conditions.{ValueRuns-follows}
-use Rattle.stmt_follows.specs.Laws.Proceeding.{Proceeds-same, Proceeds-done, Bounds-here}
 
 -- ---- one after another
 
@@ -129,7 +123,8 @@ scalar_init s d i info there is _ out (members of each) =
     let whole : is_struct info.ty ≡ true = ap (λ o. is_there o) of in
     absurd (cc)
 
-module _ (k : Scene) (follow : ExpressionsFollow k) (scope : Scope) (here : Context) (depth : ℕ) (place : IsPlace (moved k scope here)) where
+module _ (k : Scene) (follow : ExpressionsFollow k) (scope : Scope) (here : Context) (depth : ℕ)
+    (place : IsPlace (moved k scope here)) where
   abbrev parts : ExprParts
   parts = parts_at (calls_in k) here depth
 
