@@ -1,12 +1,12 @@
 -- The expressions of which it is shown that their code does what they mean (this project's own): all but those with members of structs, or
 -- structs that are assigned, which have no code yet. Each constant is a value of its type, as the text has it, and operators compute in
 -- promoted types (ISO C11 6.3.1.8); conversions do not stand deep in one another. No law says yet that typed trees are so.
-use Rattle.std.specs.Prelude.{ℕ, ◌-◌, nat_le, nat_lt, Bool, true, false, ◌&&◌, ◌||◌, nat_eq, not, List, [], ◌∷◌, Option, Some, None}
+use Rattle.std.specs.Prelude.{ℕ, ◌-◌, nat_le, nat_lt, Bool, true, false, ◌&&◌, ◌||◌, nat_eq, List, [], ◌∷◌, Option, Some, None}
 use Rattle.std.specs.Prelude.{if◌then◌else◌}
 use Rattle.c_ast.specs.declared.int_type.IntType.{IntType}
 use Rattle.c_ast.specs.declared.operator.AssignOperator.{AssignOperator}
 use Rattle.c_type_base.specs.Conversions.{bits_of, wrap}
-use Rattle.c_type_base.specs.Types.{int_of, is_pointer, is_struct}
+use Rattle.c_type_base.specs.Types.{int_of, is_pointer, is_scalar}
 use Rattle.c_type_base.specs.declared.expr.TExpr.{TExpr}
 use Rattle.c_type_base.specs.declared.expr.TNode.{TNode, map-TNode}
 use Rattle.c_type_base.specs.declared.expr.TNode.TheFolds.{fold-TNode, fold-TExpr}
@@ -69,7 +69,7 @@ node_covered (TNode-F.Extern n) ty = true
 node_covered (TNode-F.Paren e) ty = e.is
 node_covered (TNode-F.Unary o e) ty = (if is_sign o then computes_in ty else true) && e.is
 node_covered (TNode-F.Binary o a b) ty = operates_in a.ty b.ty && (a.is && b.is)
-node_covered (TNode-F.Assign o a b) ty = (not (is_struct ty) && combines_by o a.ty b.ty) && (a.is && b.is)
+node_covered (TNode-F.Assign o a b) ty = (is_scalar ty && combines_by o a.ty b.ty) && (a.is && b.is)
 node_covered (TNode-F.Cond c a b) ty = c.is && (a.is && b.is)
 node_covered (TNode-F.Cast t e) ty = e.is
 node_covered (TNode-F.SizeofExpr e) ty = true

@@ -6,5 +6,7 @@ pub mod Values
 pub mod Parts
 pub mod Steps
 pub mod Waits
+pub mod Later
+pub mod Aligned
 pub mod Nodes
 pub mod Laws

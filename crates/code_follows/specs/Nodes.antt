@@ -1,5 +1,5 @@
 -- What has to be shown of each node: that its code does what it means, where that of its parts does (this project's own).
-use Rattle.std.specs.Prelude.{◌≡◌, ℕ, ◌<◌, true, false, ◌||◌, List, [], ◌∷◌, length, slice_get, Some, None}
+use Rattle.std.specs.Prelude.{◌≡◌, ℕ, ◌<◌, true, ◌||◌, List, [], ◌∷◌, length, slice_get, Some, None}
 use Rattle.std.specs.List.{Contains}
 use Rattle.c_ast.specs.declared.int_type.IntType.{IntType}
 use Rattle.c_ast.specs.declared.int_type.IntType.TheVariants as int
@@ -44,7 +44,7 @@ pub record ValueNodes (k : Scene) (depth : ℕ) : Type 0 where
       ValueFollows k depth b → is_scalar b.ty ≡ true → ValueNode k depth int_type (TNode-F.Binary o a b)
   pub operated : (o : BinaryOperator) (a b : TExpr) (t : Ty) → ValueFollows k depth a → ValueFollows k depth b →
       BinaryTypes o a.ty b.ty t → operates_in a.ty b.ty ≡ true → ValueNode k depth t (TNode-F.Binary o a b)
-  pub assigned : (a b : TExpr) → PlaceFollows k depth a → ValueFollows k depth b → b.ty ≡ a.ty → is_struct a.ty ≡ false →
+  pub assigned : (a b : TExpr) → PlaceFollows k depth a → ValueFollows k depth b → b.ty ≡ a.ty → is_scalar a.ty ≡ true →
       ValueNode k depth a.ty (TNode-F.Assign None a b)
   pub compound : (o : AssignOperator) (a b : TExpr) → PlaceFollows k depth a → ValueFollows k depth b → CompoundTypes o a.ty b.ty →
       combines_in o a.ty b.ty ≡ true → ValueNode k depth a.ty (TNode-F.Assign (Some o) a b)

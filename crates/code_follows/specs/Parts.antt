@@ -4,6 +4,7 @@ use Rattle.std.specs.Prelude.{◌≡◌, ◌≢◌, ℕ, ◌+◌, ◌*◌, ◌�
 use Rattle.c_ast.specs.declared.token.Span.{Span}
 use Rattle.c_type_base.specs.declared.expr.TExpr.{TExpr}
 use Rattle.c_type_base.specs.declared.ty.Ty.{Ty}
+use Rattle.c_type_base.specs.declared.typed.LocalInfo.{LocalInfo}
 use Rattle.a64_code.specs.declared.instr.Reg.{Reg}
 use Rattle.a64_code.specs.State.{State}
 use Rattle.frame_layout.specs.Needs.{need}
@@ -89,11 +90,11 @@ pub record PointerPart (k : Scene) (code : Coded) (needs : ℕ) (run : Run Point
   pub run_is : (now : MeaningState) → run now ≡ and_then first (owed owes) now
   pub part : Part k code.pointer needs (pointer_leaves owes) code.alone (PlaceIs (given_in k)) first
 
--- The run comes to the place of a local in a safe slot, which starts there and is reached from SP; or the definition's bound was too small
--- for it.
+-- The run comes to the place of a local of the type in a safe slot, which starts there and is reached from SP; or the definition's bound
+-- was too small for it.
 pub data SlotRun (k : Scene) (t : Ty) (start : ℕ) (run : Run Pointer) (now : MeaningState) : Type 0 where
-  names : (local : ℕ) → reached t (slice_get (frame_in k).slots local) ≡ Some start → run now ≡ starts (k.here.local local) now →
-      SlotRun k t start run now
+  names : (local : ℕ) (l : LocalInfo) → slice_get k.scope.function.locals local ≡ Some l → l.ty ≡ t →
+      reached t (slice_get (frame_in k).slots local) ≡ Some start → run now ≡ starts (k.here.local local) now → SlotRun k t start run now
   too_deep : run now ≡ stuck now → SlotRun k t start run now
 
 -- the place of what an expression of a type designates

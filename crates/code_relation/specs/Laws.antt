@@ -5,6 +5,7 @@ pub mod Told
 pub mod Sequence
 pub mod Lists
 pub mod Reading
+pub mod ReadingPointers
 pub mod Changing
 pub mod Writing
 pub mod Storing
@@ -19,3 +20,8 @@ pub mod Untouched
 pub mod LocalBytes
 pub mod StoredBytes
 pub mod Stores
+pub mod PointerCells
+pub mod SlotSites
+pub mod BytesPut
+pub mod TempBytes
+pub mod WholeFrames

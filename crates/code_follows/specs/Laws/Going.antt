@@ -6,6 +6,7 @@ use Rattle.a64_code.specs.declared.instr.Reg.{Reg}
 use Rattle.a64_code.specs.State.{State}
 use Rattle.block_meaning.specs.Blocks.{Block}
 use Rattle.block_meaning.specs.Running.{Run, Stop, gives, stuck, and_then, unit_then, choice, with_some, by_blocks}
+use Rattle.block_meaning.specs.Running.{Result as Result', Goes as Goes', Stops, Divide, Deep, More, IsUndefined, Stuck}
 use Rattle.block_meaning.specs.Running.{State as MeaningState}
 use Rattle.code_relation.specs.Follows.{setting}
 use Rattle.code_relation.specs.Laws.Follows.{does_unit}
@@ -17,6 +18,7 @@ use Rattle.code_runs.specs.Bounded.{Account, just, sparing, later, Case, Bounded
 use Rattle.code_runs.specs.Laws.Bounded.{IsLooser, IsWider-same, Reaches-changes, opened, done, after, unsaid, changes}
 use Rattle.gen_expr.specs.Coded.{Emits}
 use Rattle.code_runs.specs.Outcome.{Outcome, Completes, Finishes, Lacks, Unsaid, followed_by}
+use Rattle.code_follows.specs.Later.{Ran}
 use Rattle.code_follows.specs.Parts.{Result, Gave, On, Goes, Yields, Part}
 use Rattle.code_follows.specs.Scene.{Scene, given_in, Lies, IsFree}
 use Rattle.gen_laws.specs.Computes.{Computes}
@@ -27,10 +29,10 @@ use Rattle.code_follows.specs.Laws.Walking.{are_quiet, Short}
 
 -- ---- work
 
-spent_one : (left : ℕ) (now : MeaningState) → now.work ≡ suc left → (spent now).work ≡ left
+pub spent_one : (left : ℕ) (now : MeaningState) → now.work ≡ suc left → (spent now).work ≡ left
 spent_one left now is = ap one_less is
 
-per_one : (per left : ℕ) (now : MeaningState) → now.work ≡ suc left → per * now.work ≡ per * (spent now).work + per
+pub per_one : (per left : ℕ) (now : MeaningState) → now.work ≡ suc left → per * now.work ≡ per * (spent now).work + per
 per_one per left now is =
     ap (λ w. per * w) (is ∙ (let e : suc left ≡ left + 1 = omega arith in e))
     ∙ product_split per left 1
@@ -42,6 +44,15 @@ pub On-at : {k : Scene} {first : ℕ} {reg : Reg} {alone : Bool} {s : State} {a 
     {t : State} → from ≡ middle → On k first reg alone s from a owes spare now t → On k first reg alone s middle a owes spare now t
 On-at {k} {first} {reg} {alone} {s} {a} {owes} {spare} {now = now} {t} same on =
     subst (λ (at : ℕ). On k first reg alone s at a owes spare now t) same on
+
+-- what completes gave a value
+completes-goes : {A : Type 0} {a : A} {now : MeaningState} (r : Result' A) → outcome_of r ≡ Completes a now → r ≡ Goes' a now
+completes-goes (Goes' a now) is = cc
+completes-goes (Stops Divide now) is = absurd (cc)
+completes-goes (Stops Deep now) is = absurd (cc)
+completes-goes (Stops More now) is = absurd (cc)
+completes-goes (Stops (IsUndefined u) now) is = absurd (cc)
+completes-goes (Stops Stuck now) is = absurd (cc)
 
 -- ---- the words of a run
 
@@ -119,22 +130,22 @@ module _ {A : Type 0} {k : Scene} {first : ℕ} {reg : Reg} {alone : Bool} {resu
       Goes k first reg alone result s to leaves a (f now.blocks) now t → Goes k first reg alone result s to leaves a (by_blocks f) now t
   Goes-blocks f goes = record { bounded = goes.bounded }
 
-  -- a part, and then what stands on its value
-  pub Goes-part : {B : Type 0} {a : Account} {spare sub_first from middle sub_leaves : ℕ} {sub_reg : Reg} {sub_alone : Bool}
+  -- a part, and then what stands on its value, of which is known that the part's run gave it
+  pub Goes-part-ran : {B : Type 0} {a : Account} {spare sub_first from middle sub_leaves : ℕ} {sub_reg : Reg} {sub_alone : Bool}
       {sub_result : Result B}
       {m : Run B} {f : B → Run A} {now : MeaningState} {t : State} →
       Yields k sub_first sub_reg sub_alone sub_result from middle sub_leaves m → first ≤ sub_first →
       (alone ≡ true → (sub_reg.0 ≡ reg.0) × (sub_alone ≡ true)) → 1 ≤ k.code.per → On k first reg alone s from a 0 spare now t →
       ((x : B) (then : MeaningState) (u : State) (n : ℕ) → On k first reg alone s middle (later n a) 0 (spare + sub_leaves) then u →
-      Gave k sub_first sub_reg sub_alone sub_result t middle x then u →
+      Gave k sub_first sub_reg sub_alone sub_result t middle x then u → Ran m now x then →
       Goes k first reg alone result s to leaves (later n a) (f x) then u) →
       Goes k first reg alone result s to leaves a (and_then m f) now t
-  Goes-part {B} {a} {spare} {sub_first} {from} {middle} {sub_leaves} {sub_reg} {sub_alone} {sub_result} {m} {f} {now} {t} yields
+  Goes-part-ran {B} {a} {spare} {sub_first} {from} {middle} {sub_leaves} {sub_reg} {sub_alone} {sub_result} {m} {f} {now} {t} yields
       above others pays on more =
       record {
         bounded = subst (λ r. Bounded (setting k.code) a (λ v. sparing leaves) t (Gave k first reg alone result s to) r)
             (sym (outcome_of-then m f now))
-            (by_outcome (outcome_of (m now)) (yields.goes now t on.within on.came.comes.relates on.came.comes.pc).bounded.does);
+            (by_outcome (outcome_of (m now)) refl (yields.goes now t on.within on.came.comes.relates on.came.comes.pc).bounded.does);
       }
     where
       P : B → MeaningState → State → Type 0
@@ -146,10 +157,10 @@ module _ {A : Type 0} {k : Scene} {first : ℕ} {reg : Reg} {alone : Bool} {resu
       looser : IsLooser (opened (setting k.code) now.work) a
       looser = record { least = omega (arith, on.least); most = omega (arith, on.most) }
 
-      by_outcome : (r : Outcome MeaningState Stop B) → Case (setting k.code) (opened (setting k.code) now.work)
+      by_outcome : (r : Outcome MeaningState Stop B) → outcome_of (m now) ≡ r → Case (setting k.code) (opened (setting k.code) now.work)
           (λ v. sparing sub_leaves) t P r →
           Bounded (setting k.code) a (λ v. sparing leaves) t (Gave k first reg alone result s to) (followed_by r rest)
-      by_outcome (Completes x then) does =
+      by_outcome (Completes x then) is does =
           after does.led
           (more x then does.to does.steps
           (record {
@@ -158,13 +169,26 @@ module _ {A : Type 0} {k : Scene} {first : ℕ} {reg : Reg} {alone : Bool} {resu
             most = omega (arith, on.most, does.most);
             within = omega (arith, on.within, less_work k.code.per then.work now.work pays (omega (arith, does.most)));
           })
-          does.there).bounded
-      by_outcome (Finishes end then) does = record {
+          does.there (record { is = completes-goes (m now) is })).bounded
+      by_outcome (Finishes end then) is does = record {
         does = Reaches-changes (record { least = omega (arith, looser.least); most = omega (arith, looser.most) }) (IsWider-same just)
             (λ u over. over) does;
       }
-      by_outcome (Lacks then) does = record { does = Reaches-changes looser (IsWider-same just) (λ u same. same) does }
-      by_outcome Unsaid does = record { does = tt }
+      by_outcome (Lacks then) is does = record { does = Reaches-changes looser (IsWider-same just) (λ u same. same) does }
+      by_outcome Unsaid is does = record { does = tt }
+
+  -- the same, where that does not count
+  pub Goes-part : {B : Type 0} {a : Account} {spare sub_first from middle sub_leaves : ℕ} {sub_reg : Reg} {sub_alone : Bool}
+      {sub_result : Result B}
+      {m : Run B} {f : B → Run A} {now : MeaningState} {t : State} →
+      Yields k sub_first sub_reg sub_alone sub_result from middle sub_leaves m → first ≤ sub_first →
+      (alone ≡ true → (sub_reg.0 ≡ reg.0) × (sub_alone ≡ true)) → 1 ≤ k.code.per → On k first reg alone s from a 0 spare now t →
+      ((x : B) (then : MeaningState) (u : State) (n : ℕ) → On k first reg alone s middle (later n a) 0 (spare + sub_leaves) then u →
+      Gave k sub_first sub_reg sub_alone sub_result t middle x then u →
+      Goes k first reg alone result s to leaves (later n a) (f x) then u) →
+      Goes k first reg alone result s to leaves a (and_then m f) now t
+  Goes-part {f = f} yields above others pays on more =
+      Goes-part-ran {f = f} yields above others pays on (λ x then u n after gave ran. more x then u n after gave)
 
   -- instructions that compute something, of which there are so many
   pub Goes-computes : {a : Account} {owes spare from middle : ℕ} {m : Run A} {now : MeaningState} {t : State} {instrs : List Instr}

@@ -22,7 +22,7 @@ tag_below g calls c s = by_kind (is_tagged_slot s)
     by_kind true = next_tag-lt (base (choice_of g calls c)) s.index zero_excluded
     by_kind false = omega arith
 
-ends_below : (c : Call) (start size bytes : ℕ) → start + size ≤ bytes → bytes ≤ c.place → c.place ≤ stack_end →
+pub ends_below : (c : Call) (start size bytes : ℕ) → start + size ≤ bytes → bytes ≤ c.place → c.place ≤ stack_end →
     lowest c + start + size ≤ stack_end
 ends_below c start size bytes before within fit = omega (arith, before, within, fit)
 

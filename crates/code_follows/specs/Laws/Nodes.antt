@@ -7,7 +7,9 @@ pub mod Cast
 pub mod Signed
 pub mod Integers
 pub mod Operated
+pub mod Divided
 pub mod OnIntegers
+pub mod TwoIntegers
 pub mod Local
 pub mod Decay
 pub mod Denied
@@ -15,3 +17,9 @@ pub mod Chosen
 pub mod Logical
 pub mod Address
 pub mod Target
+pub mod AssignedSlot
+pub mod Element
+pub mod Both
+pub mod PointerSteps
+pub mod Steps
+pub mod SteppedSlot

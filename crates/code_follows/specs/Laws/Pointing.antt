@@ -82,7 +82,8 @@ module _ {k : Scene} (locals : LocalsLie k) {now : MeaningState} {s : State} (re
   injects = relates.injects
 
   -- a live block that is not the null block lies above 0
-  lies_above : (number : ℕ) (b : Block) → nat_eq number 0 ≡ false → Lives now number b → LiesAbove (site_of g now number b) b.size
+  pub lies_above : (number : ℕ) (b : Block) → nat_eq number 0 ≡ false → Lives now number b →
+      LiesAbove (site_of (given_in k) now number b) b.size
   unfolding g injects
   lies_above number b other lives = by_kind b.kind refl
     where
@@ -110,6 +111,11 @@ module _ {k : Scene} (locals : LocalsLie k) {now : MeaningState} {s : State} (re
       by_kind (Global unit i) is = at (Global unit i) is (of_file (Global unit i) is refl)
       by_kind (Text unit i) is = at (Text unit i) is (of_file (Text unit i) is refl)
       by_kind (Code unit i) is = at (Code unit i) is (of_file (Code unit i) is refl)
+
+  pub lies_here : (number : ℕ) (b : Block) → nat_eq number 0 ≡ false → Lives now number b →
+      LiesAbove (site_of (given_in k) now number b) b.size
+  unfolding g
+  lies_here number b other lives = lies_above number b other lives
 
   -- ---- the null block, and the others
 

@@ -28,19 +28,19 @@ or_none : (a b : Bool) → a ≡ false → b ≡ false → (a || b) ≡ false
 or_none true b first second = absurd (cc)
 or_none false b first second = second
 
-any_at : {X : Type 0} (p : X → Bool) (xs : List X) (k : ℕ) (d : X) → k < length xs → p (slice_index_or xs k d) ≡ true →
+pub any_at : {X : Type 0} (p : X → Bool) (xs : List X) (k : ℕ) (d : X) → k < length xs → p (slice_index_or xs k d) ≡ true →
     list_any p xs ≡ true
 any_at p [] k d within is = absurd (omega (arith, within))
 any_at p (x ∷ xs) zero d within is = or_first (p x) (list_any p xs) is
 any_at p (x ∷ xs) (suc k) d within is = or_second (p x) (list_any p xs) (any_at p xs k d (omega (arith, within)) is)
 
-none_at : {X : Type 0} (p : X → Bool) (xs : List X) → ((k : ℕ) (d : X) → k < length xs → p (slice_index_or xs k d) ≡ false) →
+pub none_at : {X : Type 0} (p : X → Bool) (xs : List X) → ((k : ℕ) (d : X) → k < length xs → p (slice_index_or xs k d) ≡ false) →
     list_any p xs ≡ false
 none_at p [] each = refl
 none_at p (x ∷ xs) each =
     or_none (p x) (list_any p xs) (each 0 x (omega arith)) (none_at p xs (λ k d within. each (suc k) d (omega (arith, within))))
 
-index_any : {X : Type 0} (xs : List X) (k : ℕ) (d e : X) → k < length xs → slice_index_or xs k d ≡ slice_index_or xs k e
+pub index_any : {X : Type 0} (xs : List X) (k : ℕ) (d e : X) → k < length xs → slice_index_or xs k d ≡ slice_index_or xs k e
 index_any [] k d e within = absurd (omega (arith, within))
 index_any (x ∷ xs) zero d e within = refl
 index_any (x ∷ xs) (suc k) d e within = index_any xs k d e (omega (arith, within))

@@ -1,15 +1,16 @@
 -- The code of each expression that is covered does what it means, where that of each node does (this project's own). By the number of
 -- levels, and the derivation that the expression is in order.
-use Rattle.std.specs.Prelude.{◌≡◌, ℕ, zero, suc, Bool, true, false, nat_lt, ◌<◌, ◌≤◌, ◌&&◌, not, if◌then◌else◌, List, map, refl}
+use Rattle.std.specs.Prelude.{◌≡◌, ℕ, zero, suc, Bool, true, false, nat_lt, ◌<◌, ◌≤◌, ◌&&◌, ◌||◌, if◌then◌else◌, List, map, refl}
 use Rattle.std.proofs.Common.{arith, ap, sym, subst, ◌∙◌}
 use Rattle.std.proofs.lemmas.Bool.{eqb-true}
 use Rattle.std.proofs.lemmas.Bool.Decides.{nat_tests}
 use Rattle.c_ast.specs.declared.operator.AssignOperator.{AssignOperator}
 use Rattle.c_ast.specs.declared.operator.UnaryOperator.{UnaryOperator}
-use Rattle.c_type_base.specs.Types.{is_struct}
+use Rattle.c_type_base.specs.Types.{TyLayer, int_of_level, target_of_level, struct_of_level, is_there, is_scalar}
 use Rattle.c_type_base.specs.declared.expr.TExpr.{TExpr}
 use Rattle.c_type_base.specs.declared.expr.TNode.{out-TNode}
-use Rattle.c_type_base.specs.declared.ty.Ty.{Ty}
+use Rattle.c_type_base.specs.declared.ty.Ty.{Ty, out-Ty}
+use Rattle.c_type_base.specs.declared.ty.Ty.TheOpen.{Ty-F}
 use Rattle.frame_layout.specs.Needs.{need}
 use Rattle.block_meaning.specs.Running.{stuck}
 use Rattle.gen_expr.specs.Coded.{Emits}
@@ -42,9 +43,11 @@ second_of : (a b : Bool) → (a && b) ≡ true → b ≡ true
 second_of true b both = both
 second_of false b both = absurd (cc)
 
-is_false : (b : Bool) → not b ≡ true → b ≡ false
-is_false true is = absurd (cc)
-is_false false is = refl
+-- a scalar is no struct
+no_struct : {X : Type 0} (l : TyLayer) → is_there (struct_of_level l) ≡ true →
+    (is_there (int_of_level l) || is_there (target_of_level l)) ≡ true → X
+no_struct (Ty-F.Struct n) is scalar = absurd (cc)
+no_struct _ is scalar = absurd (cc)
 
 sign_computes : (o : UnaryOperator) (t : Ty) → is_sign o ≡ true → (if is_sign o then computes_in t else true) ≡ true → computes_in t ≡ true
 sign_computes o t sign is = sym (ap (λ b. (if b then computes_in t else true)) sign) ∙ is
@@ -96,18 +99,17 @@ module _ {k : Scene} {depth : ℕ} (nodes : Nodes k) (below : Below k depth) whe
       (below.value b x (second_of (covered a) (covered b) both)) types
       (operated_types a b (first_of (operates_in (covering a).ty (covering b).ty) (covered a && covered b) cov))
   value_by t l (order.assigned {a} {b} d x same) cov =
-      let both : (covered a && covered b) ≡ true = second_of (not (is_struct a.ty) && true) (covered a && covered b) cov in
+      let both : (covered a && covered b) ≡ true = second_of (is_scalar a.ty && true) (covered a && covered b) cov in
       (nodes.values depth).assigned a b (below.place a d (first_of (covered a) (covered b) both))
       (below.value b x (second_of (covered a) (covered b) both)) same
-      (is_false (is_struct a.ty) (first_of (not (is_struct a.ty)) true
-      (first_of (not (is_struct a.ty) && true) (covered a && covered b) cov)))
+      (first_of (is_scalar a.ty) true (first_of (is_scalar a.ty && true) (covered a && covered b) cov))
   value_by t l (order.compound {o} {a} {b} d x types) cov =
       let combines : Bool = combines_in o (covering a).ty (covering b).ty in
-      let both : (covered a && covered b) ≡ true = second_of (not (is_struct a.ty) && combines) (covered a && covered b) cov in
+      let both : (covered a && covered b) ≡ true = second_of (is_scalar a.ty && combines) (covered a && covered b) cov in
       (nodes.values depth).compound o a b (below.place a d (first_of (covered a) (covered b) both))
       (below.value b x (second_of (covered a) (covered b) both)) types
-      (combined_types o a b (second_of (not (is_struct a.ty)) combines
-      (first_of (not (is_struct a.ty) && combines) (covered a && covered b) cov)))
+      (combined_types o a b (second_of (is_scalar a.ty) combines
+      (first_of (is_scalar a.ty && combines) (covered a && covered b) cov)))
   value_by t l (order.chosen {c} {a} {b} d is x a_is y b_is) cov =
       let both : (covered a && covered b) ≡ true = second_of (covered c) (covered a && covered b) cov in
       (nodes.values depth).chosen c a b t (below.value c d (first_of (covered c) (covered a && covered b) cov)) is
@@ -141,9 +143,7 @@ module _ {k : Scene} {depth : ℕ} (nodes : Nodes k) (below : Below k depth) whe
   place_by t l (order.member d has) cov = absurd (cc)
   place_by t l (order.arrow d is has) cov = absurd (cc)
   place_by t l (order.struct_assigned {a} {b} d x same is) cov =
-      let other : is_struct a.ty ≡ false = is_false (is_struct a.ty) (first_of (not (is_struct a.ty)) true
-      (first_of (not (is_struct a.ty) && true) (covered a && covered b) cov)) in
-      absurd (cc)
+      no_struct (out-Ty a.ty) is (first_of (is_scalar a.ty) true (first_of (is_scalar a.ty && true) (covered a && covered b) cov))
 
   -- one level more
   one_more : Below k (suc depth)

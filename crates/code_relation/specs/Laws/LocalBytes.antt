@@ -23,7 +23,7 @@ use Rattle.code_relation.specs.Laws.Untouched.{Untouched, AreFramed, Among, amon
 -- ---- frames of functions that are there
 
 -- the structs of the file of a function are laid out
-laid_out : (p : Program) → InOrder p → (f : Function) (function : TFunction) → function_named p.units f ≡ Some function →
+pub laid_out : (p : Program) → InOrder p → (f : Function) (function : TFunction) → function_named p.units f ≡ Some function →
     LaidOut (structs_of p.units f.unit)
 laid_out p order f function is = by_file (slice_get p.units f.unit) refl is
   where
@@ -31,7 +31,7 @@ laid_out p order f function is = by_file (slice_get p.units f.unit) refl is
     by_file None there is = absurd (cc)
     by_file (Some u) there is = (order.files f.unit u there).structs
 
-frame_is : (units : List Typed) (f : Function) (function : TFunction) → function_named units f ≡ Some function →
+pub frame_is : (units : List Typed) (f : Function) (function : TFunction) → function_named units f ≡ Some function →
     frame_of units f ≡ frame (structs_of units f.unit) function
 frame_is units f function is = ap (λ o. frame_by units f.unit o) is
 

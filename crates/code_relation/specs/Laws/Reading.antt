@@ -73,10 +73,10 @@ load-cells (Part k block offset ∷ cells) at n are is = absurd (cc)
 -- ---- integers
 
 -- where an access has no reason against it, its bytes are in the block
-within_block : (b : Block) (a : Access) → reason_against b a ≡ None → a.at.offset + a.size ≤ b.size
+pub within_block : (b : Block) (a : Access) → reason_against b a ≡ None → a.at.offset + a.size ≤ b.size
 within_block b a none = grind (arith, nat_tests)
 
-unless_read : (why : Option Reason) (r : ReadResult) (v : Value) → unless_reason why r ≡ ReadsAs v → (why ≡ None) × (r ≡ ReadsAs v)
+pub unless_read : (why : Option Reason) (r : ReadResult) (v : Value) → unless_reason why r ≡ ReadsAs v → (why ≡ None) × (r ≡ ReadsAs v)
 unless_read None r v is = (refl, is)
 unless_read (Some why) r v is = absurd (cc)
 
@@ -92,7 +92,7 @@ read_number t (Some m) v is = (m, refl, by_value v is)
     by_value : (v : Value) → ReadsAs (Number (wrap t m)) ≡ ReadsAs v → v ≡ Number (wrap t m)
     by_value v is = cc
 
-read_cells : (any : Bool) (r : ReadResult) (why : Reason) (v : Value) → (if any then UndefinedBy why else r) ≡ ReadsAs v → r ≡ ReadsAs v
+pub read_cells : (any : Bool) (r : ReadResult) (why : Reason) (v : Value) → (if any then UndefinedBy why else r) ≡ ReadsAs v → r ≡ ReadsAs v
 read_cells true r why v is = absurd (cc)
 read_cells false r why v is = is
 

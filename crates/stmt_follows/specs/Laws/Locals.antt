@@ -7,3 +7,6 @@ pub mod Ended
 pub mod Lists
 pub mod Entering
 pub mod Leaving
+pub mod Places
+pub mod Stored
+pub mod Initialised

@@ -8,5 +8,6 @@ pub mod Scope
 pub mod Turns
 pub mod While
 pub mod DoWhile
+pub mod Declarations
 pub mod For
 pub mod Declared

@@ -62,7 +62,7 @@ no_target _ is = absurd (cc)
 pub target-none : (t : Ty) → is_integer t ≡ true → target_of t ≡ None
 target-none t is = no_target (out-Ty t) is
 
-sign_short : (t : IntType) (r : Reg) → Short 1 (with_sign t r)
+pub sign_short : (t : IntType) (r : Reg) → Short 1 (with_sign t r)
 sign_short int.Char r = record { quiet = refl; few = omega arith }
 sign_short int.SignedChar r = record { quiet = refl; few = omega arith }
 sign_short int.UnsignedChar r = record { quiet = refl; few = omega arith }
