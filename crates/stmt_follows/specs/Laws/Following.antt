@@ -1,5 +1,5 @@
 -- Code that stands among a function's items follows its statement (this project's own), in a function without tagged slots.
-use Rattle.std.specs.Prelude.{◌≡◌, ℕ, List, map, length, slice_get, Some, refl}
+use Rattle.std.specs.Prelude.{◌≡◌, ℕ, false, List, map, length, slice_get, Some, refl}
 use Rattle.std.proofs.Common.{arith, ap, sym, subst, ◌∙◌}
 use Rattle.a64_code.specs.State.{State}
 use Rattle.block_meaning.specs.ExpressionsInOrder.{Scope}
@@ -11,7 +11,7 @@ use Rattle.c_type_base.specs.declared.statement.TItem.{TItem}
 use Rattle.c_type_base.specs.declared.statement.TStmt.{TStmt, out-TStmt}
 use Rattle.code_follows.specs.Scene.{Scene}
 use Rattle.block_meaning.specs.Linkage.{structs_of}
-use Rattle.code_relation.specs.Calls.{frame_of}
+use Rattle.code_relation.specs.Calls.{has_tagged, frame_of}
 use Rattle.code_relation.specs.Sites.{units_of}
 use Rattle.code_relation.specs.Follows.{Code, Follows}
 use Rattle.code_relation.specs.Items.{Place, StandsAt}
@@ -22,9 +22,10 @@ use Rattle.gen_stmt.specs.Loops.{Around, Emits}
 use Rattle.gen_stmt.specs.Statements.{items, statement_code, coded_item}
 use Rattle.sym_code.specs.declared.item.SymItem.{SymItem}
 use Rattle.sym_code.specs.declared.item.SymItem.TheVariants as item
-use Rattle.stmt_follows.specs.Expressions.{ExpressionsFollow, AllSafe, IsPlace}
+use Rattle.stmt_follows.specs.Expressions.{ExpressionsFollow, IsPlace}
 use Rattle.stmt_follows.specs.Parts.{ways, Ends, Flows, StmtPart}
-use Rattle.stmt_follows.specs.Ready.{DeclarationsFollow, Ready, ReadyItems}
+use Rattle.stmt_follows.specs.Ready.{Ready, ReadyItems}
+use Rattle.stmt_follows.specs.Laws.Statements.Declarations.{declarations_follow}
 use Rattle.stmt_follows.specs.Laws.Whole.{all_below, items_below}
 
 -- a list of items of a function, whose temps are all free
@@ -35,11 +36,10 @@ part_of f is = record { function = f; items = is; first = 0 }
 abbrev pub scene_at : Code → Function → Place → Scope → Context → ℕ → Scene
 scene_at c f p s here bound = record { code = c; function = f; label = p.label; scope = s; here = here; bound = bound }
 
--- what is asked of a function's expressions, declarations and slots, whatever runs there
+-- what is asked of a function's expressions and slots, whatever runs there
 pub record IsFollowed (c : Code) (f : Function) (p : Place) (s : Scope) (bound : ℕ) : Type 0 where
   pub expressions : (here : Context) → ExpressionsFollow (scene_at c f p s here bound)
-  pub declarations : (here : Context) → DeclarationsFollow (scene_at c f p s here bound)
-  pub safe : (here : Context) → AllSafe (scene_at c f p s here bound)
+  pub safe : has_tagged (units_of c.given) f ≡ false
 
 -- the item at a position, where the function ends
 record LeavesAt (p : Place) (is : List SymItem) (at : ℕ) : Type 0 where
@@ -75,7 +75,7 @@ module _ (c : Code) (f : Function) (p : Place) (s : Scope) (bound : ℕ) (is : L
   -- from what a part promises, in each context
   follows_by : (emits : Emits) (around : Around) (position : ℕ) → around.broke ≡ broke → around.continued ≡ continued →
       is ≡ emits around position → (run : Context → Run Flow) → IsPlaced (part_of f is) c p → IsScope c f s →
-      ((here : Context) → AllSafe (scene_at c f p s here bound)) →
+      has_tagged (units_of c.given) f ≡ false →
       ((here : Context) → IsPlace (scene_at c f p s here bound) → StmtPart (scene_at c f p s here bound) emits (run here)) →
       Follows c (statement_tree c.given run (part_of f is) p s.locals exits)
   follows_by emits around position broke_is continued_is code_is run placed of_scope safe each = record {
@@ -83,7 +83,7 @@ module _ (c : Code) (f : Function) (p : Place) (s : Scope) (bound : ℕ) (is : L
         let k : Scene = scene_at c f p s here bound in
         let place : IsPlace k = record {
           scene = record { file = placed.file; of_scope = of_scope; inside = begins.0.0 };
-          safe = safe here;
+          safe = record { safe = safe };
           only = begins.1;
         } in
         let flows : Flows k (ways k around (λ at. LeavesAt p is at)) (p.at 0) (p.at (length is)) (run here) =
@@ -152,8 +152,8 @@ follows_statement f is broke continued st each = record {
       (statement_code (structs_of (units_of c.given) f.unit) (frame_of (units_of c.given) f) st) asked.code.around asked.code.position
       asked.code.broke_is asked.code.continued_is asked.code.code_is (λ here. (statements_at (calls_at bound) depth).run here st) placed
       of_scope asked.followed.safe (λ here place.
-      (all_below (asked.followed.expressions here) (asked.followed.declarations here) depth).statement s here refl place st ordered new
-      asked.ready);
+      (all_below (asked.followed.expressions here) (declarations_follow _ (asked.followed.expressions here)) depth).statement s here refl
+      place st ordered new asked.ready);
 }
 
 -- the same of the parts of a block, whose locals are in scope
@@ -174,6 +174,6 @@ follows_items f is broke continued parts each = record {
       (items (map (coded_item (structs_of (units_of c.given) f.unit) (frame_of (units_of c.given) f)) parts)) asked.code.around
       asked.code.position asked.code.broke_is asked.code.continued_is asked.code.code_is
       (λ here. items_run (statements_at (calls_at bound) depth) here parts) placed of_scope asked.followed.safe (λ here place.
-      items_below (asked.followed.expressions here) (asked.followed.declarations here) depth s here refl place parts ordered new
-      asked.ready);
+      items_below (asked.followed.expressions here) (declarations_follow _ (asked.followed.expressions here)) depth s here refl place parts
+      ordered new asked.ready);
 }
