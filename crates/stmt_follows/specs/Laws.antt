@@ -1,0 +1,10 @@
+pub mod Standing
+pub mod Proceeding
+pub mod Flowing
+pub mod Conditions
+pub mod Ahead
+pub mod Locals
+pub mod Statements
+pub mod Layers
+pub mod Whole
+pub mod Following

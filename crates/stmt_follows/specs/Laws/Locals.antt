@@ -1,0 +1,12 @@
+pub mod Basics
+pub mod Slots
+pub mod Apart
+pub mod Born
+pub mod Opened
+pub mod Ended
+pub mod Lists
+pub mod Entering
+pub mod Leaving
+pub mod Places
+pub mod Stored
+pub mod Initialised

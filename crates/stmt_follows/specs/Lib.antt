@@ -1,0 +1,5 @@
+pub mod Parts
+pub mod Expressions
+pub mod Ready
+pub mod Declarations
+pub mod Laws
