@@ -1,0 +1,4 @@
+pub mod Standing
+pub mod Filled
+pub mod PlacedWords
+pub mod Lengths
