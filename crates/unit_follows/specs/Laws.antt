@@ -2,3 +2,5 @@ pub mod Standing
 pub mod Filled
 pub mod PlacedWords
 pub mod Lengths
+pub mod Ways
+pub mod Jumps
