@@ -4,3 +4,5 @@ pub mod PlacedWords
 pub mod Lengths
 pub mod Ways
 pub mod Jumps
+pub mod FileBlocks
+pub mod Pointers
