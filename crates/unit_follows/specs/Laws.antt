@@ -6,3 +6,4 @@ pub mod Ways
 pub mod Jumps
 pub mod FileBlocks
 pub mod Pointers
+pub mod SlotAddresses
