@@ -7,3 +7,5 @@ pub mod Jumps
 pub mod FileBlocks
 pub mod Pointers
 pub mod SlotAddresses
+pub mod Across
+pub mod CallItems
