@@ -9,3 +9,4 @@ pub mod Pointers
 pub mod SlotAddresses
 pub mod Across
 pub mod CallItems
+pub mod ExternCalls

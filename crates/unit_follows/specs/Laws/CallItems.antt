@@ -54,7 +54,7 @@ pub record Links (c : Code) (from to : ℕ) : Type 0 where
   pub reach : IsInReach 26 from way
   pub goes : goes_to from way ≡ to
 
-links_by : (c : Code) (p : Placing) (from to : ℕ) (f : Function) → HasInstr c from (jump_instr Linked (way (from / 4) (to / 4))) →
+pub links_by : (c : Code) (p : Placing) (from to : ℕ) (f : Function) → HasInstr c from (jump_instr Linked (way (from / 4) (to / 4))) →
     from % 4 ≡ 0 → to ≡ p.function f → p.load < 2 ^ 55 → IsNear p from 4 f → Links c from to
 links_by c p from to f has whole is low near = record {
   way = way (from / 4) (to / 4);
