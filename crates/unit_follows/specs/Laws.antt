@@ -10,3 +10,5 @@ pub mod SlotAddresses
 pub mod Across
 pub mod CallItems
 pub mod ExternCalls
+pub mod LabelPlaces
+pub mod Items

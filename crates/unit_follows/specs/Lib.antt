@@ -1,3 +1,4 @@
 pub mod Placing
 pub mod Placed
+pub mod Sound
 pub mod Laws

@@ -142,7 +142,7 @@ IsBranch-other r = record {
 -- how far it may go
 abbrev pub reach_of : Bool → ℕ
 reach_of false = 2 ^ 18
-reach_of true = 2 ^ 24
+reach_of true = 2 ^ 25
 
 -- taken where the one holds, and passed where the other does
 pub record Branching (c : Code) (from taken passed : ℕ) (P Q : State → Type 0) : Type 0 where
@@ -155,11 +155,12 @@ length_of true = 2
 
 pub Branching-words : {c : Code} {taken contrary : Branch} {P Q : State → Type 0} (long : Bool) (base from to : ℕ) →
     IsBranch taken contrary P Q → Standing c (base + 4 * from) (branch_words long taken contrary from to) →
-    from < to + reach_of long → to < from + reach_of long → base + 4 * to < 2 ^ 56 →
+    from + 1 < to + reach_of long → to < from + reach_of long → base + 4 * to < 2 ^ 56 →
     Branching c (base + 4 * from) (base + 4 * to) (base + 4 * (from + length_of long)) P Q
 Branching-words {c} {taken} {contrary} {P} {Q} false base from to is stands back on fits = record {
   on = λ s is_at holds. goes_in_one (taken-led taken (way from to) (base + 4 * to) is.unlinked has is_at
-      (subst (λ b. IsInReach b (base + 4 * from) (way from to)) (sym is.bits) (way-reaches 19 base from to back on (omega (arith, fits))))
+      (subst (λ b. IsInReach b (base + 4 * from) (way from to)) (sym is.bits) (way-reaches 19 base from to (omega (arith, back)) on
+      (omega (arith, fits))))
       (way-goes base from to) (is.goes s holds));
   off = λ s is_at holds. subst (λ a. GoesTo c a s) (omega arith) (goes_in_one (passed-led taken (way from to) has is_at (is.passes s holds)));
 }
