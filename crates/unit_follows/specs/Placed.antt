@@ -2,7 +2,6 @@
 use Rattle.std.specs.Prelude.{◌≡◌, ℕ, ◌+◌, ◌*◌, ◌<◌, ◌≤◌, false, length, slice_get, Option, Some, None}
 use Rattle.mt_base.specs.Granules.{granule_of}
 use Rattle.mt_base.specs.Memory.{load}
-use Rattle.c_type_base.specs.declared.typed.TFunction.{TFunction}
 use Rattle.c_type_base.specs.declared.typed.Typed.{Typed}
 use Rattle.a64_laws.specs.Laws.Effects.Open.{IsReadable}
 use Rattle.block_meaning.specs.Linkage.{function_of, object_block, text_block, extern_block}

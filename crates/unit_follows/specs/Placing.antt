@@ -6,7 +6,7 @@ use Rattle.a64_code.specs.declared.instr.Instr.{Instr}
 use Rattle.a64_code.specs.declared.instr.Instr.TheVariants.{AddImm, Adrp, Bl, Ldr}
 use Rattle.a64_laws.specs.Branches.{Linked, jump_instr}
 use Rattle.a64_laws.specs.Sequences.{page_instr}
-use Rattle.block_meaning.specs.Linkage.{Definition, AFunction, function_of, object_block, text_block, extern_block}
+use Rattle.block_meaning.specs.Linkage.{Definition, AFunction, function_of, text_block}
 use Rattle.block_meaning.specs.Linkage.{extern_at, definition_of}
 use Rattle.block_meaning.specs.Running.{Function}
 use Rattle.gen_unit.specs.declared.parts.CodeTarget.{CodeTarget}

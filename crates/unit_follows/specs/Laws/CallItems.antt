@@ -1,41 +1,21 @@
 -- Items that call a function, where their words stand, and the words of the function follow it (this project's own).
-use Rattle.std.specs.Prelude.{◌≡◌, ℕ, zero, suc, ◌+◌, ◌*◌, ◌/◌, ◌%◌, ◌^◌, ◌<◌, ◌≤◌, Bool, true, false, List, [], ◌∷◌, length}
-use Rattle.std.specs.Prelude.{Option, Some, None, refl, if◌then◌else◌}
-use Rattle.std.proofs.Common.{arith, ap, sym, subst, ◌∙◌}
+use Rattle.std.specs.Prelude.{◌≡◌, ℕ, ◌+◌, ◌*◌, ◌/◌, ◌%◌, ◌^◌, ◌<◌, ◌≤◌, length}
+use Rattle.std.specs.Prelude.{refl}
+use Rattle.std.proofs.Common.{arith, sym, subst, ◌∙◌}
 use Rattle.c_type_base.specs.declared.expr.Callee.TheVariants as callee
-use Rattle.c_type_base.specs.declared.typed.ExternInfo.{ExternInfo}
-use Rattle.c_type_base.specs.declared.typed.TFunction.{TFunction}
-use Rattle.a64_code.specs.State.{State}
-use Rattle.a64_code.specs.Step.{carried_out, step}
-use Rattle.a64_code.specs.Stepped.{Leads}
 use Rattle.a64_laws.specs.Branches.{Way, Linked, jump_instr, goes_to, IsInReach}
-use Rattle.a64_laws.specs.Forms.{puts_link}
-use Rattle.a64_laws.specs.Laws.Branches.{jump-taken}
-use Rattle.mte_machine.specs.Run.{Steps}
-use Rattle.mte_machine.specs.Laws.Steps.{Steps-one}
-use Rattle.block_meaning.specs.declared.value.Value.{Value}
-use Rattle.block_meaning.specs.Expressions.{Site, call_effect, if_agrees}
-use Rattle.block_meaning.specs.Linkage.{Definition, AnObject, AFunction, extern_at, definition_of, called_as, agrees_with, function_of}
-use Rattle.block_meaning.specs.Linkage.{function_named, structs_of, parameter_types}
-use Rattle.block_meaning.specs.Meaning.{calls_at}
-use Rattle.block_meaning.specs.Running.{Function, Context, Run, unit_then, with_some, State as MeaningState}
-use Rattle.code_runs.specs.Bounded.{later, just, Bounded}
-use Rattle.code_runs.specs.Laws.Bounded.{IsWider-same, Stands, opened, after, changes, finishes, unsaid}
-use Rattle.code_runs.specs.Laws.Within.{StepsWithin-one}
-use Rattle.code_relation.specs.Follows.{Code, setting, Does, HasArguments, Returns, Span, call_room, call_item, call_of, types_of}
+use Rattle.block_meaning.specs.Linkage.{function_of}
+use Rattle.block_meaning.specs.Linkage.{function_named}
+use Rattle.block_meaning.specs.Running.{Function}
+use Rattle.code_relation.specs.Follows.{Code, types_of}
 use Rattle.code_relation.specs.Follows.{WordsFollow}
-use Rattle.code_relation.specs.Items.{IsAt, HasInstr, Calls, call_from, types_of_extern}
-use Rattle.code_relation.specs.Outcomes.{outcome_of}
-use Rattle.code_relation.specs.Relates.{Relates}
-use Rattle.code_relation.specs.Sites.{Given, units_of}
+use Rattle.code_relation.specs.Items.{HasInstr, Calls}
+use Rattle.code_relation.specs.Sites.{units_of}
 use Rattle.code_relation.specs.Stands.{IsThere}
-use Rattle.code_relation.specs.Laws.Calling.{linked_pc, arguments_stay, linked_relates, returns_behind, Calls-words}
-use Rattle.code_relation.specs.Laws.Follows.{does_unit}
-use Rattle.code_relation.specs.Laws.Outcomes.{spent}
+use Rattle.code_relation.specs.Laws.Calling.{Calls-words}
 use Rattle.gen_unit.specs.declared.parts.CodeTarget.TheVariants as target
 use Rattle.gen_unit.specs.Words.{way, call_words}
-use Rattle.unit_follows.specs.Placing.{Placing, callee_at, defined_at}
-use Rattle.unit_follows.specs.Laws.Across.{arguments-over}
+use Rattle.unit_follows.specs.Placing.{Placing}
 use Rattle.unit_follows.specs.Laws.PlacedWords.{PlacedWords, IsNear}
 use Rattle.unit_follows.specs.Laws.Standing.{HasInstr-first}
 use Rattle.unit_follows.specs.Laws.Ways.{way-goes, way-reaches}

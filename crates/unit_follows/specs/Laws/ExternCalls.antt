@@ -1,6 +1,6 @@
 -- Items that call what another file defines, where their words stand (this project's own). Where no file has a function of the name, or
 -- one of another type, the call is no step of the code: the meaning stops there too.
-use Rattle.std.specs.Prelude.{◌≡◌, ℕ, zero, suc, ◌+◌, ◌*◌, ◌/◌, ◌%◌, ◌^◌, ◌<◌, ◌≤◌, Bool, true, false, List, [], ◌∷◌, length}
+use Rattle.std.specs.Prelude.{◌≡◌, ℕ, zero, suc, ◌+◌, ◌*◌, ◌/◌, ◌<◌, ◌≤◌, Bool, true, false, List, length}
 use Rattle.std.specs.Prelude.{Option, Some, None, refl, if◌then◌else◌, ◌&&◌}
 use Rattle.std.proofs.Common.{arith, ap, sym, subst, ◌∙◌}
 use Rattle.c_type_base.specs.declared.expr.Callee.TheVariants as callee
@@ -11,26 +11,26 @@ use Rattle.a64_code.specs.declared.instr.Instr.{Instr}
 use Rattle.a64_code.specs.State.{State}
 use Rattle.a64_code.specs.Step.{carried_out, step}
 use Rattle.a64_code.specs.Stepped.{Leads}
-use Rattle.a64_laws.specs.Branches.{Way, Linked, jump_instr, goes_to, IsInReach}
+use Rattle.a64_laws.specs.Branches.{Linked, jump_instr, goes_to, IsInReach}
 use Rattle.a64_laws.specs.Forms.{puts_link}
 use Rattle.a64_laws.specs.Laws.Branches.{jump-taken}
 use Rattle.mte_machine.specs.Run.{Steps}
 use Rattle.mte_machine.specs.Laws.Steps.{Steps-one}
 use Rattle.block_meaning.specs.declared.value.Value.{Value}
 use Rattle.block_meaning.specs.Expressions.{Site, call_effect, if_agrees}
-use Rattle.block_meaning.specs.Linkage.{Definition, AnObject, AFunction, extern_at, definition_of, called_as, agrees_with, function_of}
+use Rattle.block_meaning.specs.Linkage.{Definition, AnObject, AFunction, extern_at, definition_of, called_as, agrees_with}
 use Rattle.block_meaning.specs.Linkage.{function_named, structs_of, parameter_types, same_across, all_same_across}
 use Rattle.block_meaning.specs.Meaning.{calls_at}
 use Rattle.block_meaning.specs.Running.{Function, Program, Context, Run, stuck, unit_then, with_some, State as MeaningState}
-use Rattle.code_runs.specs.Bounded.{later, just, Bounded}
-use Rattle.code_runs.specs.Laws.Bounded.{IsWider-same, Stands, opened, after, changes, finishes, unsaid}
+use Rattle.code_runs.specs.Bounded.{later, Bounded}
+use Rattle.code_runs.specs.Laws.Bounded.{IsWider-same, opened, after, changes, finishes, unsaid}
 use Rattle.code_runs.specs.Laws.Within.{StepsWithin-one}
-use Rattle.code_relation.specs.Follows.{Code, setting, Does, HasArguments, Returns, Span, call_room, call_item, call_of, types_of}
+use Rattle.code_relation.specs.Follows.{Code, setting, HasArguments, Returns, call_room, types_of}
 use Rattle.code_relation.specs.Follows.{WordsFollow}
-use Rattle.code_relation.specs.Items.{IsAt, HasInstr, Calls, call_from, types_of_extern}
+use Rattle.code_relation.specs.Items.{IsAt, HasInstr, Calls, types_of_extern}
 use Rattle.code_relation.specs.Outcomes.{outcome_of}
 use Rattle.code_relation.specs.Relates.{Relates}
-use Rattle.code_relation.specs.Sites.{Given, units_of}
+use Rattle.code_relation.specs.Sites.{units_of}
 use Rattle.code_relation.specs.Stands.{IsThere}
 use Rattle.code_relation.specs.Laws.Calling.{linked_pc, arguments_stay, linked_relates, returns_behind}
 use Rattle.code_relation.specs.Laws.Follows.{does_unit, without_work}
@@ -41,7 +41,7 @@ use Rattle.gen_unit.specs.Words.{way, call_words}
 use Rattle.unit_follows.specs.Placing.{Placing, callee_at, defined_at}
 use Rattle.unit_follows.specs.Laws.Across.{arguments-over}
 use Rattle.unit_follows.specs.Laws.CallItems.{AllFollow, Links, links_by}
-use Rattle.unit_follows.specs.Laws.PlacedWords.{PlacedWords, IsNear}
+use Rattle.unit_follows.specs.Laws.PlacedWords.{PlacedWords}
 use Rattle.unit_follows.specs.Laws.Standing.{HasInstr-first}
 
 -- ---- the branch to any function

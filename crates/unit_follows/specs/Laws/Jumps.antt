@@ -1,12 +1,12 @@
 -- Jumps of a function's items, where their words stand (this project's own).
-use Rattle.std.specs.Prelude.{◌≡◌, ◌≢◌, ℕ, ◌+◌, ◌*◌, ◌%◌, ◌^◌, ◌<◌, ◌≤◌, ◌==◌, Bool, true, false, not, refl}
+use Rattle.std.specs.Prelude.{◌≡◌, ◌≢◌, ℕ, ◌+◌, ◌*◌, ◌%◌, ◌^◌, ◌<◌, Bool, true, false, not, refl}
 use Rattle.std.proofs.Common.{arith, ap, sym, subst, ◌∙◌}
 use Rattle.std.proofs.lemmas.Bool.{eq-eqb, ne_eqb}
 use Rattle.a64_code.specs.declared.instr.Instr.{Instr}
 use Rattle.a64_code.specs.declared.instr.Reg.{Reg}
 use Rattle.a64_code.specs.Effect.{effect}
 use Rattle.a64_code.specs.State.{State, general, at_pc}
-use Rattle.a64_code.specs.Step.{carried_out, step}
+use Rattle.a64_code.specs.Step.{carried_out}
 use Rattle.a64_code.specs.Stepped.{Leads}
 use Rattle.a64_laws.specs.Branches.{Way, Forward, Branch, Always, OnZero, OnOther, jump_instr, goes_to, is_taken, IsInReach, field_bits}
 use Rattle.a64_laws.specs.Branches.{Linked, OnCondition, jumped}
@@ -15,10 +15,9 @@ use Rattle.a64_laws.specs.Laws.Branches.{jump-taken, jump-passed}
 use Rattle.mte_machine.specs.Run.{Steps}
 use Rattle.mte_machine.specs.Laws.Steps.{Steps-one}
 use Rattle.code_runs.specs.Within.{StepsWithin}
-use Rattle.code_runs.specs.Laws.Ranges.{IsInRange-Steps}
 use Rattle.code_runs.specs.Laws.Within.{StepsWithin-one, StepsWithin-add}
 use Rattle.code_relation.specs.Follows.{Code}
-use Rattle.code_relation.specs.Items.{IsAt, HasInstr, GoesTo, JumpsOnZero}
+use Rattle.code_relation.specs.Items.{IsAt, HasInstr, GoesTo}
 use Rattle.gen_unit.specs.Words.{way, branch_words}
 use Rattle.unit_follows.specs.Laws.Standing.{Standing, HasInstr-first, Standing-rest}
 use Rattle.unit_follows.specs.Laws.Ways.{way-goes, way-reaches}

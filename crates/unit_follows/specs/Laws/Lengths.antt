@@ -1,7 +1,7 @@
 -- How many words items become, and where each of them stands (this project's own).
-use Rattle.std.specs.Prelude.{◌≡◌, ℕ, zero, suc, ◌+◌, ◌≤◌, Bool, true, false, List, [], ◌∷◌, ◌++◌, length, map, take, slice_get, Some}
+use Rattle.std.specs.Prelude.{◌≡◌, ℕ, zero, suc, ◌+◌, ◌≤◌, Bool, true, false, List, [], ◌∷◌, length, map, take, slice_get, Some}
 use Rattle.std.specs.Prelude.{refl}
-use Rattle.std.proofs.Common.{arith, ap, sym, ◌∙◌, length-append}
+use Rattle.std.proofs.Common.{arith, ap, length-append}
 use Rattle.sym_code.specs.declared.item.SymItem.{SymItem}
 use Rattle.sym_code.specs.declared.item.SymItem.TheVariants as item
 use Rattle.gen_unit.specs.Labels.{end_of, words_in}

@@ -1,6 +1,6 @@
 -- Some of a file's words where they stand, with what is known of the symbols that they name (this project's own).
-use Rattle.std.specs.Prelude.{◌≡◌, ℕ, ◌+◌, ◌*◌, ◌%◌, ◌^◌, ◌<◌, ◌≤◌, List, [], ◌∷◌, ◌++◌, length, Some}
-use Rattle.std.proofs.Common.{arith, subst, ap, sym, length-append}
+use Rattle.std.specs.Prelude.{◌≡◌, ℕ, ◌+◌, ◌*◌, ◌%◌, ◌^◌, ◌<◌, ◌≤◌, List, ◌++◌, length}
+use Rattle.std.proofs.Common.{arith, subst, length-append}
 use Rattle.block_meaning.specs.Running.{Function}
 use Rattle.code_relation.specs.Follows.{Code}
 use Rattle.code_relation.specs.Laws.Placing.{get_front, get_back}

@@ -1,41 +1,37 @@
 -- Items that put the address of an object or a text, where their words stand (this project's own).
-use Rattle.std.specs.Prelude.{◌≡◌, ◌≢◌, ℕ, zero, suc, ◌+◌, ◌-◌, ◌*◌, ◌%◌, ◌^◌, ◌<◌, ◌≤◌, false}
-use Rattle.std.specs.Prelude.{List, [], ◌∷◌, length, Option, Some, None, refl}
-use Rattle.std.proofs.Common.{arith, ap, sym, subst, ◌∙◌}
+use Rattle.std.specs.Prelude.{◌≡◌, ℕ, ◌+◌, ◌-◌, ◌*◌, ◌%◌, ◌<◌, ◌≤◌, false}
+use Rattle.std.specs.Prelude.{List, length, Some, refl}
+use Rattle.std.proofs.Common.{arith, sym, subst, ◌∙◌}
 use Rattle.std.proofs.lemmas.Bool.Decides.{nat_tests}
 use Rattle.mt_base.specs.Granules.{granule_of}
 use Rattle.mt_base.specs.Laws.Memory.{load_same}
 use Rattle.mt_base.specs.Memory.{load, is_between}
 use Rattle.a64_code.specs.declared.instr.Instr.{Instr}
-use Rattle.a64_code.specs.declared.instr.Instr.TheVariants.{AddImm, Adrp, Ldr}
 use Rattle.a64_code.specs.declared.instr.Reg.{Reg}
 use Rattle.a64_code.specs.State.{State}
 use Rattle.a64_laws.specs.Constants.{PutsConstant}
 use Rattle.a64_laws.specs.Laws.Addresses.{address_put, got_loaded}
-use Rattle.a64_laws.specs.Laws.Effects.Open.{IsReadable}
 use Rattle.a64_laws.specs.Laws.OpenMemory.{IsReadable-kept}
 use Rattle.a64_laws.specs.Sequences.{address_instrs, got_instrs, IsPageNear}
 use Rattle.block_meaning.specs.declared.value.Pointer.{Pointer}
 use Rattle.block_meaning.specs.Blocks.{pointer}
 use Rattle.block_meaning.specs.Linkage.{text_block}
-use Rattle.block_meaning.specs.Running.{Function, Context, State as MeaningState}
+use Rattle.block_meaning.specs.Running.{Context, State as MeaningState}
 use Rattle.code_relation.specs.Calls.{stack_end}
-use Rattle.code_relation.specs.Follows.{Code, IsIn}
+use Rattle.code_relation.specs.Follows.{Code}
 use Rattle.code_relation.specs.Injects.{Injects}
-use Rattle.code_relation.specs.Items.{IsAt, PutsPointer, PutsAddress}
-use Rattle.code_relation.specs.Loaded.{on_stack, is_stack_granule, NoObjectAt, IsLoaded, FilesLie}
-use Rattle.code_relation.specs.Numbers.{number_at, IsNumber}
+use Rattle.code_relation.specs.Items.{IsAt, PutsPointer}
+use Rattle.code_relation.specs.Loaded.{IsLoaded}
+use Rattle.code_relation.specs.Numbers.{IsNumber}
 use Rattle.code_relation.specs.Sites.{Given, units_of}
 use Rattle.code_relation.specs.Tags.{IsAsLoaded}
 use Rattle.gen_unit.specs.declared.parts.CodeTarget.{CodeTarget}
-use Rattle.gen_unit.specs.declared.parts.CodeTarget.TheVariants as target
-use Rattle.gen_unit.specs.Words.{Word, object_words, text_words, page_kind, got_page_kind}
-use Rattle.tag_plan.specs.Effects.{Puts}
-use Rattle.unit_follows.specs.Placing.{Placing, IsInImage, reached_at, text_at, filled}
-use Rattle.unit_follows.specs.Placed.{HasGot, block_of_target}
+use Rattle.gen_unit.specs.Words.{object_words, text_words}
+use Rattle.unit_follows.specs.Placing.{Placing, IsInImage, reached_at, text_at}
+use Rattle.unit_follows.specs.Placed.{block_of_target}
 use Rattle.unit_follows.specs.Laws.FileBlocks.{FileBlock, IsNumber-file}
 use Rattle.unit_follows.specs.Laws.PlacedWords.{PlacedWords, IsGot}
-use Rattle.unit_follows.specs.Laws.Standing.{Standing, Comes, Comes-Runs, AreQuiet}
+use Rattle.unit_follows.specs.Laws.Standing.{Standing, Comes-Runs, AreQuiet}
 
 -- ---- a list that puts a number into a register
 

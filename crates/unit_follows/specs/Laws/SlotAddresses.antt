@@ -1,14 +1,13 @@
 -- Items that put the address of a safe slot, where their words stand (this project's own).
-use Rattle.std.specs.Prelude.{◌≡◌, ℕ, zero, suc, ◌+◌, ◌-◌, ◌*◌, ◌%◌, ◌^◌, ◌<◌, ◌≤◌, true, false, List, [], ◌∷◌, length, slice_get}
-use Rattle.std.specs.Prelude.{Option, Some, None, refl, if◌then◌else◌}
-use Rattle.std.proofs.Common.{arith, ap, sym, subst, ◌∙◌, inl, inr, lit≤}
+use Rattle.std.specs.Prelude.{◌≡◌, ℕ, zero, suc, ◌+◌, ◌*◌, ◌^◌, ◌<◌, ◌≤◌, false, List, [], ◌∷◌, length, slice_get}
+use Rattle.std.specs.Prelude.{Some, refl}
+use Rattle.std.proofs.Common.{arith, ap, sym, subst, ◌∙◌, inl, inr}
 use Rattle.std.proofs.lemmas.Bool.{cases_lt, lt-ltb, le-ltb}
 use Rattle.a64_code.specs.declared.instr.Instr.{Instr}
 use Rattle.a64_code.specs.declared.instr.Reg.{Reg}
 use Rattle.a64_code.specs.State.{State}
 use Rattle.a64_laws.specs.Forms.{stack_pointer}
 use Rattle.a64_laws.specs.Runs.{Runs}
-use Rattle.block_meaning.specs.declared.kind.Kind.TheVariants.{Local}
 use Rattle.block_meaning.specs.declared.value.Pointer.{Pointer}
 use Rattle.block_meaning.specs.Blocks.{pointer}
 use Rattle.block_meaning.specs.Locals.{latest}
@@ -21,13 +20,12 @@ use Rattle.code_relation.specs.Items.{IsAt, PutsPointer, PutsAddress}
 use Rattle.code_relation.specs.Numbers.{number_at, IsNumber}
 use Rattle.code_relation.specs.Sites.{Given, Site, site, units_of, site_of_local, site_of_slot, site_by, slot_in}
 use Rattle.code_relation.specs.Stands.{AreCalls, IsInScope}
-use Rattle.frame_layout.specs.declared.frame.Frame.{Frame}
 use Rattle.frame_layout.specs.declared.frame.Slot.{Slot}
 use Rattle.frame_layout.specs.WellFormed.{is_tagged_slot}
 use Rattle.tag_plan.specs.Effects.{Puts}
-use Rattle.tag_plan.specs.Laws.Slots.{Offset, offset_placed, length-offset}
+use Rattle.tag_plan.specs.Laws.Slots.{Offset, offset_placed}
 use Rattle.tag_plan.specs.Lists.{offset_from, address_by, slot_address_list}
-use Rattle.unit_follows.specs.Laws.Standing.{Standing, Comes, Comes-Runs, AreQuiet}
+use Rattle.unit_follows.specs.Laws.Standing.{Standing, Comes-Runs, AreQuiet}
 
 -- ---- a list that puts a number into a register, in any number of steps
 

@@ -1,6 +1,6 @@
 -- Ways between places that are counted in words (this project's own).
 use Rattle.std.specs.Prelude.{◌≡◌, ℕ, ◌+◌, ◌-◌, ◌*◌, ◌^◌, ◌<◌, ◌≤◌, Bool, true, false, nat_le, if◌then◌else◌, refl}
-use Rattle.std.proofs.Common.{arith, ap, ◌∙◌}
+use Rattle.std.proofs.Common.{arith}
 use Rattle.std.proofs.lemmas.Bool.Decides.{nat_tests}
 use Rattle.a64_laws.specs.Branches.{Way, Forward, Back, goes_to, IsInReach}
 use Rattle.gen_unit.specs.Words.{way}
