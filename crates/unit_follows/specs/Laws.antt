@@ -12,3 +12,4 @@ pub mod CallItems
 pub mod ExternCalls
 pub mod LabelPlaces
 pub mod Items
+pub mod FileWords
