@@ -13,3 +13,4 @@ pub mod ExternCalls
 pub mod LabelPlaces
 pub mod Items
 pub mod FileWords
+pub mod Entering
