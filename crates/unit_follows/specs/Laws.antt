@@ -14,3 +14,4 @@ pub mod LabelPlaces
 pub mod Items
 pub mod FileWords
 pub mod Entering
+pub mod Spares
