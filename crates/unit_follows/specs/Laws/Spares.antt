@@ -1,3 +1,5 @@
 pub mod Runs
 pub mod Values
 pub mod Expressions
+pub mod Locals
+pub mod Statements
