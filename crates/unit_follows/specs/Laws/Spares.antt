@@ -3,3 +3,4 @@ pub mod Values
 pub mod Expressions
 pub mod Locals
 pub mod Statements
+pub mod Meaning
