@@ -1,9 +1,11 @@
 -- Locals and initialisers keep the blocks that were there, in contexts whose locals came later (this project's own).
-use Rattle.std.proofs.Common.{◌≡◌, ◌≤◌, length, arith, length-append, refl, ℕ, zero, suc, ◌+◌, Bool, true, false, ◌||◌, List, []}
+use Rattle.std.proofs.Common.{◌≡◌, ◌≤◌, ◌∙◌, sym, ap, length, arith, length-append, refl, ℕ, zero, suc, ◌+◌, Bool, true, false, ◌||◌, List, []}
 use Rattle.std.proofs.Common.{◌∷◌, Option, Some, None}
 use Rattle.std.specs.Prelude.{slice_get, nat_eq, if◌then◌else◌, ◌++◌}
 use Rattle.code_relation.specs.Laws.Changing.{SameBlock-same}
+use Rattle.code_relation.specs.Laws.Lists.{InJoined, front, back, get_joined}
 use Rattle.code_relation.specs.Laws.Placing.{get_front}
+use Rattle.block_meaning.specs.declared.kind.Kind.TheVariants.{Local}
 use Rattle.c_type_base.specs.declared.ty.Ty.{out-Ty}
 use Rattle.c_type_base.specs.declared.ty.Ty.TheOpen.{Ty-F}
 use Rattle.c_type_base.specs.declared.expr.TExpr.{TExpr}
@@ -24,7 +26,7 @@ use Rattle.block_meaning.specs.Locals.{is_list, after_zero, declared_with, decla
 use Rattle.block_meaning.specs.Memory.{Object, object, structs_at}
 use Rattle.block_meaning.specs.Opening.{zero_cells}
 use Rattle.block_meaning.specs.Running.{Call, Run, Context}
-use Rattle.unit_follows.specs.Laws.Spares.Runs.{Moment, SparesTo, Spares, kept-itself, spares-gives, spares-stuck, spares-stored, spares-then}
+use Rattle.unit_follows.specs.Laws.Spares.Runs.{Moment, AreNewer, SparesTo, Spares, kept-itself, spares-gives, spares-stuck, spares-stored, spares-then}
 use Rattle.unit_follows.specs.Laws.Spares.Runs.{spares-then_to, spares-unit, spares-some, spares-some_to, spares-blocks_by, keeps-with_block}
 use Rattle.unit_follows.specs.Laws.Spares.Values.{write_spares, copy_spares}
 use Rattle.unit_follows.specs.Laws.Spares.Expressions.{SparesParts}
@@ -45,32 +47,46 @@ above_local {mark} here k number above later = record {
     by_number true j other is = let same : number ≡ other = cc in omega (arith, later, same)
     by_number false j other is = above.locals j other is
 
-pub new_block_spares : {mark : Moment} (here : Context) (k : ℕ) (b : Block) → IsAbove mark here →
-    SparesTo mark (IsAbove mark) (new_block here k b)
-new_block_spares here k b above = record {
+pub new_block_spares : {mark : Moment} (here : Context) (k call : ℕ) (b : Block) → IsAbove mark here → b.kind ≡ Local call k →
+    mark.calls ≤ call → SparesTo mark (IsAbove mark) (new_block here k b)
+new_block_spares {mark} here k call b above kind_is later = record {
   spares = λ now since. (
     record {
       blocks = omega (arith, length-append now.blocks (b ∷ []));
       calls = omega arith;
       each = λ number c less is.
           record { block = c; is = get_front now.blocks (b ∷ []) number c is; same = SameBlock-same c };
+      newer = λ h number call j c more is kind. by_part number call j c h more (get_joined now.blocks (b ∷ []) number c is) kind;
     },
     above_local here k (length now.blocks) above since.blocks,
   );
 }
+  where
+    of_new : (i other j : ℕ) (c : Block) → slice_get (b ∷ []) i ≡ Some c → c.kind ≡ Local other j → mark.calls ≤ other
+    of_new zero other j c is kind =
+        let same : b ≡ c = cc in
+        let kinds : Local call k ≡ Local other j = sym kind_is ∙ ap (λ (x : Block). x.kind) same ∙ kind in
+        let calls : call ≡ other = cc in
+        omega (arith, later, calls)
+    of_new (suc i) other j c is kind = absurd (cc)
+
+    by_part : {blocks : List Block} (number other j : ℕ) (c : Block) → AreNewer mark blocks → mark.blocks ≤ number →
+        InJoined blocks (b ∷ []) number c → c.kind ≡ Local other j → mark.calls ≤ other
+    by_part number other j c h more (front is) kind = h number other j c more is kind
+    by_part number other j c h more (back i same is) kind = of_new i other j c is kind
 
 pub new_locals_spares : {mark : Moment} (here : Context) (ks : List ℕ) → IsAbove mark here →
     SparesTo mark (IsAbove mark) (new_locals here ks)
 new_locals_spares here [] above = record { spares = λ now since. (kept-itself now, above) }
 new_locals_spares {mark} here (k ∷ ks) above = spares-then_to (spares-some_to (latest here.open_calls) (λ c is.
-    spares-some_to (local_info here c k) (λ l there. new_block_spares here k _ above)))
+    spares-some_to (local_info here c k) (λ l there. new_block_spares here k c.number _ above refl (above.call c is))))
     (λ inner over. new_locals_spares inner ks over)
 
 end_locals_spares : {mark : Moment} (here : Context) (ks : List ℕ) → IsAbove mark here → Spares mark (end_locals here ks)
 end_locals_spares here [] above = spares-gives tt
 end_locals_spares here (k ∷ ks) above =
     spares-then (spares-some_to (here.local k) (λ b is. spares-blocks_by (keeps-with_block b ended
-    (λ c less. absurd (omega (arith, less, above.locals k b is)))))) (λ _. end_locals_spares here ks above)
+    (λ c less. absurd (omega (arith, less, above.locals k b is))) (λ c. refl)))) (λ _. end_locals_spares here ks above)
 
 pub scope_spares : {A : Type 0} {mark : Moment} (here : Context) (ks : List ℕ) {f : Context → Run A} → IsAbove mark here →
     ((inner : Context) → IsAbove mark inner → Spares mark (f inner)) → Spares mark (scoped here ks f)

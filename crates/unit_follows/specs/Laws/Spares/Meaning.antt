@@ -1,5 +1,5 @@
 -- Calls keep the blocks that were there (this project's own).
-use Rattle.std.proofs.Common.{◌≡◌, ◌≤◌, ◌<◌, refl, ap, ◌∙◌, leb, ℕ, zero, suc, ◌+◌, arith, List, [], Bool, true, false, length}
+use Rattle.std.proofs.Common.{◌≡◌, ◌≤◌, ◌<◌, refl, sym, ap, ◌∙◌, leb, ℕ, zero, suc, ◌+◌, arith, List, [], Bool, true, false, length}
 use Rattle.std.proofs.Common.{length-append, Option, Some, None}
 use Rattle.std.proofs.Common.{◌∷◌, take}
 use Rattle.std.specs.Prelude.{nat_eq, if◌then◌else◌, ◌++◌, slice_get, map}
@@ -31,7 +31,7 @@ arguments_spares : {mark : Moment} (here : Context) (k : ℕ) (ls : List LocalIn
     SparesTo mark (IsAbove mark) (with_arguments here k ls vs)
 arguments_spares here k [] [] above = record { spares = λ now since. (kept-itself now, above) }
 arguments_spares here k (l ∷ ls) (v ∷ vs) above =
-    spares-then_to (spares-some_to (latest here.open_calls) (λ c is. new_block_spares here k _ above))
+    spares-then_to (spares-some_to (latest here.open_calls) (λ c is. new_block_spares here k c.number _ above refl (above.call c is)))
     (λ inner over. arguments_spares inner (k + 1) ls vs over)
 arguments_spares here k _ _ above = spares-stuck
 
@@ -68,11 +68,26 @@ end_still call calls (x ∷ xs) (suc number) b later is older =
     let rest = end_still call calls xs number b later is older in
     record { block = rest.block; is = rest.is; same = rest.same }
 
+kind_kept : (of : Bool) (x : Block) → (if of then ended x else x).kind ≡ x.kind
+kind_kept true x = refl
+kind_kept false x = refl
+
+end_newer : (call : ℕ) (mark : Moment) (blocks : List Block) (number other k : ℕ) (b : Block) →
+    slice_get (end_call call blocks) number ≡ Some b → b.kind ≡ Local other k →
+    ((c : Block) → slice_get blocks number ≡ Some c → c.kind ≡ Local other k → mark.calls ≤ other) → mark.calls ≤ other
+end_newer call mark [] number other k b is kind h = absurd (cc)
+end_newer call mark (x ∷ xs) zero other k b is kind h =
+    let same : (if is_of_call call x.kind then ended x else x) ≡ b = cc in
+    h x refl (sym (kind_kept (is_of_call call x.kind) x) ∙ ap (λ (y : Block). y.kind) same ∙ kind)
+end_newer call mark (x ∷ xs) (suc number) other k b is kind h = end_newer call mark xs number other k b is kind h
+
 end_kept : {mark : Moment} (call : ℕ) → mark.calls ≤ call → KeepsBlocks mark (end_call call)
 end_kept {mark} call later = record {
   as_many = λ blocks. length-map blocks (λ (b : Block). (if is_of_call call b.kind then ended b else b));
   each = λ now since number b less is. end_still call mark.calls now.blocks number b later is
       (λ c k kind. since.older number c k b less is kind);
+  newer = λ blocks h number other k b more is kind. end_newer call mark blocks number other k b is kind
+      (λ c there same. h number other k c more there same);
 }
 
 body_spares : {mark : Moment} {s : StmtParts} → SparesStmts mark s → (f : TFunction) (vs : List Value) (here : Context) →
@@ -93,6 +108,7 @@ new_call_spares here f place = record {
       blocks = omega arith;
       calls = omega (arith, length-append now.calls (record { number = length now.calls; function = f; place = place } ∷ []));
       each = λ number b less is. record { block = b; is = is; same = SameBlock-same b };
+      newer = λ h. h;
     },
     record {
       locals = λ k number is. absurd (cc);

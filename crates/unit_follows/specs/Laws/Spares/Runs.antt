@@ -42,10 +42,16 @@ pub record IsStill (blocks : List Block) (number : ℕ) (b : Block) : Type 0 whe
 abbrev pub AreStill : Moment → List Block → List Block → Type 0
 AreStill t before after = (number : ℕ) (b : Block) → number < t.blocks → slice_get before number ≡ Some b → IsStill after number b
 
+-- those that came later are locals of later calls
+abbrev pub AreNewer : Moment → List Block → Type 0
+AreNewer t blocks = (number call k : ℕ) (b : Block) → t.blocks ≤ number → slice_get blocks number ≡ Some b → b.kind ≡ Local call k →
+    t.calls ≤ call
+
 pub record IsKept (t : Moment) (now later : State) : Type 0 where
   pub blocks : length now.blocks ≤ length later.blocks
   pub calls : length now.calls ≤ length later.calls
   pub each : AreStill t now.blocks later.blocks
+  pub newer : AreNewer t now.blocks → AreNewer t later.blocks
 
 abbrev pub OnGoes : {A : Type 0} → Result A → (A → State → Type 0) → Type 0
 OnGoes (Goes a now) P = P a now
@@ -81,6 +87,7 @@ kept-itself now = record {
   blocks = omega arith;
   calls = omega arith;
   each = λ number b less is. record { block = b; is = is; same = SameBlock-same b };
+  newer = λ h. h;
 }
 
 pub kept-then : {t : Moment} {r s u : State} → IsKept t r s → IsKept t s u → IsKept t r u
@@ -88,6 +95,7 @@ kept-then first second = record {
   blocks = omega (arith, first.blocks, second.blocks);
   calls = omega (arith, first.calls, second.calls);
   each = λ number b less is. still_then (λ c there. second.each number c less there) (first.each number b less is);
+  newer = λ h. second.newer (first.newer h);
 }
 
 get_below : {A : Type 0} (xs : List A) (k : ℕ) → k < length xs → (x : A) × (slice_get xs k ≡ Some x)
@@ -112,6 +120,7 @@ kept-rest {t} {now} {later} blocks calls = record {
   blocks = omega (arith, ap length blocks);
   calls = omega (arith, ap length calls);
   each = λ number b less is. record { block = b; is = ap (λ bs. slice_get bs number) blocks ∙ is; same = SameBlock-same b };
+  newer = λ h. subst (AreNewer t) (sym blocks) h;
 }
 
 -- ---- runs
@@ -139,6 +148,7 @@ spares-undefined here span access why = record { spares = λ now since. tt }
 pub record KeepsBlocks (t : Moment) (f : List Block → List Block) : Type 0 where
   pub as_many : (blocks : List Block) → length (f blocks) ≡ length blocks
   pub each : (now : State) → IsSince t now → AreStill t now.blocks (f now.blocks)
+  pub newer : (blocks : List Block) → AreNewer t blocks → AreNewer t (f blocks)
 
 pub spares-blocks_by : {t : Moment} {f : List Block → List Block} → KeepsBlocks t f → Spares t (with_blocks f)
 spares-blocks_by keeps = record {
@@ -147,6 +157,7 @@ spares-blocks_by keeps = record {
       blocks = omega (arith, keeps.as_many now.blocks);
       calls = omega arith;
       each = λ number b less is. keeps.each now since number b less is;
+      newer = keeps.newer now.blocks;
     },
     tt,
   );
@@ -213,12 +224,24 @@ spares-all each (b ∷ bs) = spares-then (each b) (λ a. spares-then (spares-all
 -- ---- changes of blocks
 
 pub keeps-with_block : {t : Moment} (number : ℕ) (f : Block → Block) → ((b : Block) → number < t.blocks → SameBlock b (f b)) →
-    KeepsBlocks t (with_block number f)
-keeps-with_block {t} number f same = record {
+    ((b : Block) → (f b).kind ≡ b.kind) → KeepsBlocks t (with_block number f)
+keeps-with_block {t} number f same kinds = record {
   as_many = λ blocks. count blocks (slice_get blocks number);
   each = λ now since i b less is. still now.blocks (slice_get now.blocks number) refl i b less is;
+  newer = λ blocks h. newer_by blocks (slice_get blocks number) refl h;
 }
   where
+    newer_by : (blocks : List Block) (o : Option Block) → slice_get blocks number ≡ o → AreNewer t blocks →
+        AreNewer t (changed f o number blocks)
+    newer_by blocks None there h = h
+    newer_by blocks (Some c) there h = λ i call k b more is kind. elim (cases_eq number i) [
+      | inl here ↦
+          let equal : f c ≡ b = let e : Some (f c) ≡ Some b = sym (get_set_same blocks number c (f c) there)
+          ∙ ap (λ n. slice_get (slice_set blocks number (f c)) n) here ∙ is in cc in
+          h number call k c (omega (arith, here, more)) there (sym (kinds c) ∙ ap (λ (x : Block). x.kind) equal ∙ kind)
+      | inr other ↦ h i call k b more (sym (get_set_other blocks number i (f c) other) ∙ is) kind
+    ]
+
     count : (blocks : List Block) (o : Option Block) → length (changed f o number blocks) ≡ length blocks
     count blocks None = refl
     count blocks (Some b) = length-set blocks number (f b)
@@ -240,7 +263,7 @@ keeps-with_block {t} number f same = record {
 -- cells are stored
 pub keeps-stored : {t : Moment} (p : Pointer) (cells : List Cell) → KeepsBlocks t (stored p cells)
 keeps-stored p cells = keeps-with_block p.block (with_cells_in p.offset cells)
-    (λ b less. record { kind = refl; size = refl; live = refl })
+    (λ b less. record { kind = refl; size = refl; live = refl }) (λ b. refl)
 
 pub spares-stored : {t : Moment} (p : Pointer) (cells : List Cell) → Spares t (with_blocks (stored p cells))
 spares-stored p cells = spares-blocks_by (keeps-stored p cells)
@@ -250,6 +273,7 @@ pub keeps-copied : {t : Moment} (source target : Pointer) (bytes : ℕ) → Keep
 keeps-copied source target bytes = record {
   as_many = λ blocks. (keeps-stored {t = nowhen} target (cells_at blocks source bytes)).as_many blocks;
   each = λ now since number b less is. (keeps-stored target (cells_at now.blocks source bytes)).each now since number b less is;
+  newer = λ blocks h. (keeps-stored target (cells_at blocks source bytes)).newer blocks h;
 }
   where
     nowhen : Moment
