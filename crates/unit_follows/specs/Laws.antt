@@ -15,3 +15,4 @@ pub mod Items
 pub mod FileWords
 pub mod Entering
 pub mod Spares
+pub mod Leaving

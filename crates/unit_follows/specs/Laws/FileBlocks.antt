@@ -24,7 +24,7 @@ use Rattle.unit_follows.specs.Sound.{HasText}
 
 -- ---- what the blocks are
 
-abbrev AllOfFile : List Block → Type 0
+abbrev pub AllOfFile : List Block → Type 0
 AllOfFile bs = (k : ℕ) (b : Block) → slice_get bs k ≡ Some b → is_of_file b.kind ≡ true
 
 none_of_file : AllOfFile []
@@ -54,7 +54,7 @@ codes_of_file : (unit n : ℕ) (fs : List TFunction) → AllOfFile (codes_from u
 codes_of_file unit n [] = none_of_file
 codes_of_file unit n (f ∷ fs) = first_of_file _ _ refl (codes_of_file unit (n + 1) fs)
 
-opening_of_file : (units : List Typed) (unit : ℕ) (us : List Typed) → AllOfFile (opening_from units unit us)
+pub opening_of_file : (units : List Typed) (unit : ℕ) (us : List Typed) → AllOfFile (opening_from units unit us)
 opening_of_file units unit [] = none_of_file
 opening_of_file units unit (u ∷ us) =
     both_of_file _ _ (both_of_file _ _ (both_of_file _ _ (objects_of_file units unit u.structs 0 u.globals) (texts_of_file unit 0 u.texts))
