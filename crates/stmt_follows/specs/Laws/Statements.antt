@@ -1,0 +1,10 @@
+pub mod Simple
+pub mod If
+pub mod IfElse
+pub mod Return
+pub mod Jumps
+pub mod Items
+pub mod Scope
+pub mod Turns
+pub mod While
+pub mod DoWhile
