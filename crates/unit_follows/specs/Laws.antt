@@ -16,3 +16,4 @@ pub mod FileWords
 pub mod Entering
 pub mod Spares
 pub mod Leaving
+pub mod EntrySteps
