@@ -17,3 +17,4 @@ pub mod Entering
 pub mod Spares
 pub mod Leaving
 pub mod EntrySteps
+pub mod ExitSteps

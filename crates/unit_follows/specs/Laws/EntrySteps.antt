@@ -124,7 +124,7 @@ raised bytes s small below fits = elim (cases_lt bytes 4096) [
   }
 ]
 
-raise_quiet : (bytes : ℕ) → AreQuiet (offset_from stack_pointer bytes stack_pointer)
+pub raise_quiet : (bytes : ℕ) → AreQuiet (offset_from stack_pointer bytes stack_pointer)
 raise_quiet bytes = elim (cases_lt bytes 4096) [
   | inl few ↦ rw (lt-ltb bytes 4096 few) (λ u a. refl, tt)
   | inr many ↦ rw (le-ltb bytes 4096 many) (λ u a. refl, (λ u a. refl, tt))
