@@ -18,3 +18,4 @@ pub mod Spares
 pub mod Leaving
 pub mod EntrySteps
 pub mod ExitSteps
+pub mod Finishing
