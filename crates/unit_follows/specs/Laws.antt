@@ -19,3 +19,4 @@ pub mod Leaving
 pub mod EntrySteps
 pub mod ExitSteps
 pub mod Finishing
+pub mod Arguments
