@@ -20,3 +20,6 @@ pub mod EntrySteps
 pub mod ExitSteps
 pub mod Finishing
 pub mod Arguments
+pub mod InCalls
+pub mod Bodies
+pub mod Running

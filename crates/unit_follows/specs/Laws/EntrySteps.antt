@@ -132,7 +132,7 @@ raise_quiet bytes = elim (cases_lt bytes 4096) [
 
 -- ---- no tagged slot
 
-none_tagged : (ss : List Slot) → list_any is_tagged_slot ss ≡ false → tagged_slots ss ≡ []
+pub none_tagged : (ss : List Slot) → list_any is_tagged_slot ss ≡ false → tagged_slots ss ≡ []
 none_tagged [] none = refl
 none_tagged (s ∷ ss) none = by_first (is_tagged_slot s) refl none (none_tagged ss)
   where
