@@ -23,3 +23,4 @@ pub mod Arguments
 pub mod InCalls
 pub mod Bodies
 pub mod Running
+pub mod Whole

@@ -71,7 +71,7 @@ append-three : (xs ys : List SymItem) (i : SymItem) → xs ++ (ys ++ ((i ∷ [])
 append-three xs ys i = sym (append_assoc xs ys (i ∷ []))
 
 -- a frame has its words
-frame_some : {c : Code} {p : Placing} {f : Function} {tf : TFunction} {base : ℕ} → IsPlacedFunction c p f tf base →
+pub frame_some : {c : Code} {p : Placing} {f : Function} {tf : TFunction} {base : ℕ} → IsPlacedFunction c p f tf base →
     24 ≤ (frame_of (units_of c.given) f).bytes
 frame_some {c} {p} {f} {tf} fn =
     let one : Call = record { number = 0; function = f; place = 0 } in

@@ -106,7 +106,7 @@ module _ {c : Code} {p : Placing} {f : Function} {tf : TFunction} {base : ℕ} (
       Bounded (setting c) a (λ v. call_room vs) t (Back c here now s)
       (outcome_of (and_then (items parts inner fn.order.items) (behind_body tf here call) then'))
   items_do ready inner then' t a is_ready is_inner relates pc in_call within least most =
-      does_then c (items parts inner fn.order.items) (behind_body tf here call) then'
+      does_then c {first_room = body_room does.extra} (items parts inner fn.order.items) (behind_body tf here call) then'
       (Bounded-joint c (items parts inner fn.order.items then') (omega (arith, least)) (omega (arith, most))
       (λ flow. omega (arith, most)) (λ flow last u holds. holds)
       (Bounded-told c (items parts inner fn.order.items then') does.bounded))
@@ -119,7 +119,7 @@ module _ {c : Code} {p : Placing} {f : Function} {tf : TFunction} {base : ℕ} (
       open_is = is_inner.open_calls ∙ is_ready.open_calls
 
       is_in : IsIn f inner
-      is_in = (call, (ap latest open_is, (of, is_inner.unit ∙ is_ready.unit ∙ ap (λ (x : Function). x.unit) of)))
+      is_in = (call, ap latest open_is, of, is_inner.unit ∙ is_ready.unit ∙ ap (λ (x : Function). x.unit) of)
 
       only : HasOnly scope.locals inner
       only k number found = by_inner (is_inner.only k number found)
@@ -138,7 +138,7 @@ module _ {c : Code} {p : Placing} {f : Function} {tf : TFunction} {base : ℕ} (
 
   -- ---- the locals of its outermost block
 
-  body_does : (then' : MeaningState) (t : State) (a : Account) → Relates c.given (inside here call) then' t →
+  pub body_does : (then' : MeaningState) (t : State) (a : Account) → Relates c.given (inside here call) then' t →
       t.pc ≡ (spot fn).at 0 → HasArguments c.given then' t 0 (map type_of_local (parameters tf)) vs → InCall c.given here call s t →
       then'.work ≤ c.reach → a.least ≤ then'.work + a.so_far → a.so_far + 92 + c.per * then'.work ≤ a.most →
       Bounded (setting c) a (λ v. call_room vs) t (Back c here now s) (outcome_of (body_of parts tf vs (inside here call) then'))
@@ -164,7 +164,7 @@ module _ {c : Code} {p : Placing} {f : Function} {tf : TFunction} {base : ℕ} (
         where
           by_ready : (number : ℕ) → Contains taken j ⊎ ((inside here call).local j ≡ Some number) → stored.ready.local j ≡ None
           by_ready number (inl there) = absurd ((body_fresh fn.fresh).0.not_there j has there)
-          by_ready number (inr no) = absurd (cc)
+          by_ready number (inr empty) = absurd (cc)
 
           by_local : (o : Option ℕ) → stored.ready.local j ≡ o → stored.ready.local j ≡ None
           by_local None is = is
