@@ -1,8 +1,7 @@
 -- A function of a placed file, with what has to be known of it, so that its words follow it (this project's own). None of its slots is
 -- tagged.
-use Rattle.std.specs.Prelude.{◌≡◌, ℕ, ◌+◌, ◌≤◌, false, List, ◌++◌, length, map, take, Some, true}
+use Rattle.std.specs.Prelude.{◌≡◌, ℕ, ◌+◌, ◌≤◌, false, List, length, map, take, Some, true}
 use Rattle.a64_code.specs.State.{State}
-use Rattle.c_type_base.specs.declared.statement.TItem.{TItem}
 use Rattle.c_type_base.specs.declared.statement.TItem.TheOpen.{TStmt-F}
 use Rattle.c_type_base.specs.declared.statement.TStmt.{out-TStmt}
 use Rattle.c_type_base.specs.declared.ty.Ty.{Ty}
@@ -22,7 +21,7 @@ use Rattle.code_relation.specs.Follows.{Code, HasArguments, IsIn}
 use Rattle.code_relation.specs.Fresh.{Fresh}
 use Rattle.code_relation.specs.Items.{Place}
 use Rattle.code_relation.specs.Relates.{Relates}
-use Rattle.code_relation.specs.Sites.{Given, units_of}
+use Rattle.code_relation.specs.Sites.{units_of}
 use Rattle.code_relation.specs.Trees.{Part, HasFile, FollowsItems}
 use Rattle.frame_layout.specs.declared.frame.Frame.{Frame}
 use Rattle.frame_layout.specs.Frames.{largest_frame}

@@ -1,5 +1,5 @@
 -- What it is that the arguments of a call are stored into the slots of the parameters (this project's own).
-use Rattle.std.specs.Prelude.{◌≡◌, ℕ, ◌*◌, ◌≤◌, List, length, slice_get}
+use Rattle.std.specs.Prelude.{◌≡◌, ℕ, ◌*◌, ◌≤◌, List, length}
 use Rattle.a64_code.specs.State.{State}
 use Rattle.c_type_base.specs.declared.typed.LocalInfo.{LocalInfo}
 use Rattle.block_meaning.specs.declared.value.Value.{Value}

@@ -1,10 +1,9 @@
 -- The body of a function that was entered: its arguments are stored, its items follow it, and its end leads back (this project's own).
-use Rattle.std.specs.Prelude.{◌≡◌, ◌≢◌, ℕ, zero, suc, ◌+◌, ◌-◌, ◌*◌, ◌%◌, ◌^◌, ◌<◌, ◌≤◌, Bool, true, false, ◌||◌, List, [], ◌∷◌, ◌++◌}
-use Rattle.std.specs.Prelude.{length, map, slice_get, Option, Some, None, refl}
-use Rattle.std.specs.List.{Contains, filter}
-use Rattle.std.proofs.Common.{arith, ap, sym, subst, ◌∙◌, inl, inr, length-append, append_assoc}
+use Rattle.std.specs.Prelude.{◌≡◌, ℕ, suc, ◌+◌, ◌*◌, ◌%◌, ◌^◌, ◌<◌, ◌≤◌, true, List, [], ◌∷◌, ◌++◌}
+use Rattle.std.specs.Prelude.{length, slice_get, Some, refl}
+use Rattle.std.specs.List.{filter}
+use Rattle.std.proofs.Common.{arith, ap, sym, subst, ◌∙◌, length-append, append_assoc}
 use Rattle.std.proofs.Math.Path.{fun_ext}
-use Rattle.a64_code.specs.declared.instr.Instr.{Instr}
 use Rattle.a64_code.specs.declared.instr.Instr.TheVariants.{Movz}
 use Rattle.a64_code.specs.State.{State, at_pc, with_tags}
 use Rattle.a64_laws.specs.Branches.{Always, jump_instr}
@@ -13,20 +12,17 @@ use Rattle.a64_laws.specs.Laws.Results.{constant_moved}
 use Rattle.c_type_base.specs.declared.ty.Ty.{Ty, out-Ty}
 use Rattle.c_type_base.specs.declared.ty.Ty.TheOpen.{Ty-F}
 use Rattle.c_type_base.specs.Types.{TyLayer, is_void_level}
-use Rattle.c_type_base.specs.declared.statement.TItem.TheOpen.{TStmt-F}
-use Rattle.c_type_base.specs.declared.statement.TStmt.{out-TStmt}
 use Rattle.c_type_base.specs.declared.typed.StructInfo.{StructInfo}
 use Rattle.c_type_base.specs.declared.typed.TFunction.{TFunction}
 use Rattle.block_meaning.specs.declared.value.Value.{Value}
 use Rattle.block_meaning.specs.declared.value.Value.TheVariants.{Number, Address, Struct, NoValue}
-use Rattle.block_meaning.specs.Blocks.{null}
 use Rattle.block_meaning.specs.Linkage.{structs_of}
-use Rattle.block_meaning.specs.Meaning.{calls_at, inside, result_of, end_call}
+use Rattle.block_meaning.specs.Meaning.{result_of}
 use Rattle.block_meaning.specs.ProgramsInOrder.{InOrder}
-use Rattle.block_meaning.specs.Running.{Function, Call, Context, Run, Goes, gives, and_then, with_some, with_blocks, State as MeaningState}
-use Rattle.block_meaning.specs.Statements.{Flow, Next, Broke, Continued, Returned, statements_at, items}
+use Rattle.block_meaning.specs.Running.{Function, Call, Context, Goes, State as MeaningState}
+use Rattle.block_meaning.specs.Statements.{Flow, Next, Broke, Continued, Returned}
 use Rattle.block_meaning.specs.Values.{missing_result, zero_as}
-use Rattle.code_runs.specs.Bounded.{Account, Room, later, Bounded}
+use Rattle.code_runs.specs.Bounded.{Account, later, Bounded}
 use Rattle.code_runs.specs.Laws.Bounded.{after}
 use Rattle.code_runs.specs.Laws.Ranges.{IsInRange-Steps}
 use Rattle.code_runs.specs.Within.{StepsWithin}
@@ -44,9 +40,8 @@ use Rattle.code_relation.specs.Trees.{Part, Exits, Comes, ComesBy, ComesToLeave,
 use Rattle.code_relation.specs.Laws.Kept.{SameInjected, Injects-same}
 use Rattle.code_relation.specs.Laws.LocalBytes.{all_framed}
 use Rattle.code_relation.specs.Laws.Placing.{get_front, get_back, from_item}
-use Rattle.code_relation.specs.Laws.Registers.{Relates-register, KeepsFrom-register}
+use Rattle.code_relation.specs.Laws.Registers.{Relates-register}
 use Rattle.frame_layout.specs.declared.frame.Frame.{Frame}
-use Rattle.frame_layout.specs.Frames.{largest_frame}
 use Rattle.gen_base.specs.Registers.{returned}
 use Rattle.gen_unit.specs.Functions.{entry, exit}
 use Rattle.gen_unit.specs.Labels.{end_of, form_of}
@@ -57,12 +52,12 @@ use Rattle.sym_code.specs.declared.item.SymItem.TheVariants as item
 use Rattle.unit_follows.specs.Functions.{IsPlacedFunction, argument_items, body_items, body_part, all_items, function_place, EndsBody}
 use Rattle.unit_follows.specs.Placing.{Placing}
 use Rattle.unit_follows.specs.Laws.Entering.{IsNewCall}
-use Rattle.unit_follows.specs.Laws.Finishing.{InCall, Finished, call_finishes}
+use Rattle.unit_follows.specs.Laws.Finishing.{InCall, call_finishes}
 use Rattle.unit_follows.specs.Laws.InCalls.{InCall-kept, InCall-bytes, Back, Bounded-finished}
 use Rattle.unit_follows.specs.Laws.Items.{StandsAt-words, item_placed, targets}
 use Rattle.unit_follows.specs.Laws.Jumps.{GoesTo-jump, StepsWithin-instr}
 use Rattle.unit_follows.specs.Laws.Leaving.{with_ended}
-use Rattle.unit_follows.specs.Laws.Lengths.{place-end, place_of, place-within, length-words, place-behind}
+use Rattle.unit_follows.specs.Laws.Lengths.{place-end, place_of, place-within}
 use Rattle.unit_follows.specs.Laws.EntrySteps.{none_tagged}
 use Rattle.unit_follows.specs.Laws.PlacedWords.{PlacedWords}
 use Rattle.unit_follows.specs.Laws.Standing.{Standing, HasInstr-first}

@@ -1,7 +1,7 @@
 -- A function without tagged slots is entered: a call is open, its frame is made below the others, and the relation holds (this project's
 -- own).
-use Rattle.std.specs.Prelude.{◌≡◌, ℕ, zero, suc, ◌+◌, ◌-◌, ◌*◌, ◌%◌, ◌<◌, ◌≤◌, Bool, true, false, ◌&&◌, ◌||◌, nat_eq, nat_lt}
-use Rattle.std.specs.Prelude.{List, [], ◌∷◌, ◌++◌, length, slice_get, Option, Some, None, refl, if◌then◌else◌}
+use Rattle.std.specs.Prelude.{◌≡◌, ℕ, ◌+◌, ◌-◌, ◌<◌, ◌≤◌, Bool, true, false, ◌||◌, nat_eq, nat_lt}
+use Rattle.std.specs.Prelude.{List, [], ◌∷◌, ◌++◌, length, slice_get, Some, refl, if◌then◌else◌}
 use Rattle.std.proofs.Common.{arith, ap, sym, subst, ◌∙◌}
 use Rattle.std.proofs.lemmas.Bool.Decides.{nat_tests}
 use Rattle.mt_base.specs.Granules.{granule_of}
@@ -12,23 +12,21 @@ use Rattle.block_meaning.specs.declared.cell.Cell.{Cell}
 use Rattle.block_meaning.specs.declared.kind.Kind.{Kind}
 use Rattle.block_meaning.specs.declared.kind.Kind.TheVariants.{NullBlock, Global, Text, Code, Local}
 use Rattle.block_meaning.specs.Blocks.{Block, null_block}
-use Rattle.block_meaning.specs.Locals.{latest}
 use Rattle.block_meaning.specs.Meaning.{open_bytes, inside}
 use Rattle.block_meaning.specs.ProgramsInOrder.{InOrder}
 use Rattle.block_meaning.specs.Running.{Call, Context, State as MeaningState}
 use Rattle.code_relation.specs.Bases.{tagged_base_of, HaveBaseWords}
-use Rattle.code_relation.specs.Calls.{stack_end, lowest, frame_of, has_tagged, is_among, LieInOrder}
+use Rattle.code_relation.specs.Calls.{stack_end, lowest, frame_of, has_tagged, is_among}
 use Rattle.code_relation.specs.Cells.{IsCell}
 use Rattle.code_relation.specs.Injects.{Injects}
-use Rattle.code_relation.specs.Loaded.{on_stack, NoObjectAt, IsFileBlock, file_byte}
+use Rattle.code_relation.specs.Loaded.{on_stack, IsFileBlock}
 use Rattle.code_relation.specs.Sites.{Given, units_of, Lives, site_of, site_by, has_byte, is_of_file}
-use Rattle.code_relation.specs.Stands.{IsThere, IsLocal, IsInScope, WasOpened, Stands}
-use Rattle.code_relation.specs.Tags.{IsAsLoaded}
+use Rattle.code_relation.specs.Stands.{IsThere, IsLocal, WasOpened, Stands}
 use Rattle.code_relation.specs.Laws.Called.{with_call, Injects-called}
 use Rattle.code_relation.specs.Laws.Framed.{ChangesWithin, StartFrom, StartFrom-frame, words_above}
 use Rattle.code_relation.specs.Laws.Lists.{get_within}
 use Rattle.code_relation.specs.Laws.LocalBytes.{InFrame, in_frame}
-use Rattle.code_relation.specs.Laws.Untouched.{Among, among_calls, place_within, frame_within}
+use Rattle.code_relation.specs.Laws.Untouched.{Among, among_calls, place_within}
 use Rattle.tag_plan.specs.Lists.{tagged_base}
 
 -- SP went down by so many bytes, and only bytes between were written

@@ -1,23 +1,22 @@
 -- The steps of the entry and of the exit of a function without tagged slots (this project's own).
-use Rattle.std.specs.Prelude.{◌≡◌, ◌≢◌, ℕ, zero, suc, ◌+◌, ◌-◌, ◌*◌, ◌/◌, ◌%◌, ◌^◌, ◌<◌, ◌≤◌, Bool, true, false, ◌||◌, List, [], ◌∷◌, ◌++◌}
+use Rattle.std.specs.Prelude.{◌≡◌, ℕ, ◌+◌, ◌-◌, ◌*◌, ◌/◌, ◌%◌, ◌^◌, ◌<◌, ◌≤◌, Bool, true, false, ◌||◌, List, [], ◌∷◌, ◌++◌}
 use Rattle.std.specs.Prelude.{length, refl}
-use Rattle.std.specs.List.{list_any, filter}
-use Rattle.std.proofs.Common.{arith, ap, sym, subst, ◌∙◌, inl, inr, length-append}
+use Rattle.std.specs.List.{list_any}
+use Rattle.std.proofs.Common.{arith, ap, subst, ◌∙◌, inl, inr, length-append}
 use Rattle.std.proofs.lemmas.Bool.{cases_lt, lt-ltb, le-ltb}
-use Rattle.mt_base.specs.Memory.{load, store, bytes_of}
+use Rattle.mt_base.specs.Memory.{store, bytes_of}
 use Rattle.mt_base.specs.Laws.Memory.{store_bytes_below, store_bytes_above, length-bytes_of}
 use Rattle.a64_code.specs.declared.instr.Instr.{Instr}
 use Rattle.a64_code.specs.declared.instr.Instr.TheVariants.{Stp, Ldp, Ret}
 use Rattle.a64_code.specs.State.{State}
-use Rattle.a64_laws.specs.Forms.{stack_pointer, puts_sp, puts_bytes, puts_registers, puts_pc}
+use Rattle.a64_laws.specs.Forms.{stack_pointer, puts_sp, puts_bytes}
 use Rattle.a64_laws.specs.Frames.{frame_pointer, link_register, HasPair}
-use Rattle.a64_laws.specs.Laws.Branches.{returned}
-use Rattle.a64_laws.specs.Laws.Effects.Open.{IsOpen, IsReadable}
+use Rattle.a64_laws.specs.Laws.Effects.Open.{IsOpen}
 use Rattle.a64_laws.specs.Laws.Frames.{HasPair-stored}
-use Rattle.a64_laws.specs.Laws.OpenMemory.{IsOpen-kept, IsReadable-kept}
-use Rattle.a64_laws.specs.Laws.Pairs.{pair_stored, pair_loaded}
+use Rattle.a64_laws.specs.Laws.OpenMemory.{IsOpen-kept}
+use Rattle.a64_laws.specs.Laws.Pairs.{pair_stored}
 use Rattle.a64_laws.specs.Laws.Results.{sp_lowered, sp_raised}
-use Rattle.a64_laws.specs.Laws.Runs.{Runs-one, Runs-two, Runs-cons}
+use Rattle.a64_laws.specs.Laws.Runs.{Runs-one, Runs-two}
 use Rattle.a64_laws.specs.Runs.{Runs}
 use Rattle.code_runs.specs.Within.{StepsWithin}
 use Rattle.code_runs.specs.Laws.Within.{StepsWithin-add}
@@ -27,7 +26,7 @@ use Rattle.frame_layout.specs.declared.frame.Frame.{Frame}
 use Rattle.frame_layout.specs.declared.frame.Slot.{Slot}
 use Rattle.frame_layout.specs.WellFormed.{is_tagged_slot, tagged_slots}
 use Rattle.gen_unit.specs.Functions.{lower, entry, exit}
-use Rattle.tag_plan.specs.Lists.{offset_from, entry_list, exit_list}
+use Rattle.tag_plan.specs.Lists.{offset_from}
 use Rattle.unit_follows.specs.Laws.Entering.{IsEntered}
 use Rattle.unit_follows.specs.Laws.Jumps.{StepsWithin-instr}
 use Rattle.unit_follows.specs.Laws.Standing.{Standing, Standing-as, Standing-front, Standing-back, HasInstr-first, Comes, Comes-Runs, AreQuiet}

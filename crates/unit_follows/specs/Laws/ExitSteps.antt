@@ -1,7 +1,7 @@
 -- The steps of the exit of a function without tagged slots, and an entry that meets the guard (this project's own).
 use Rattle.std.specs.Prelude.{◌≡◌, ◌≢◌, ℕ, suc, ◌+◌, ◌*◌, ◌%◌, ◌^◌, ◌<◌, ◌≤◌, true, false, List, [], ◌∷◌, ◌++◌, length, refl}
 use Rattle.std.specs.List.{list_any}
-use Rattle.std.proofs.Common.{arith, ap, sym, subst, ◌∙◌, length-append}
+use Rattle.std.proofs.Common.{arith, ap, ◌∙◌, length-append}
 use Rattle.std.proofs.lemmas.Bool.{ne_eqb}
 use Rattle.mt_base.specs.Laws.Memory.{some_byte_from}
 use Rattle.mt_base.specs.Memory.{load, is_in_span}
@@ -14,7 +14,6 @@ use Rattle.a64_code.specs.declared.instr.Instr.TheVariants.{Stp, Ldp, Ret}
 use Rattle.a64_code.specs.declared.instr.Reg.{Reg}
 use Rattle.a64_code.specs.Effect.{effect}
 use Rattle.a64_code.specs.State.{State}
-use Rattle.a64_code.specs.Step.{carried_out, step}
 use Rattle.a64_code.specs.Stepped.{Ends}
 use Rattle.a64_laws.specs.Forms.{stack_pointer, puts_registers, puts_pc}
 use Rattle.a64_laws.specs.Frames.{frame_pointer, link_register, HasPair}
@@ -32,7 +31,7 @@ use Rattle.frame_layout.specs.declared.frame.Frame.{Frame}
 use Rattle.frame_layout.specs.WellFormed.{is_tagged_slot}
 use Rattle.gen_unit.specs.Functions.{exit}
 use Rattle.tag_plan.specs.Lists.{offset_from}
-use Rattle.unit_follows.specs.Laws.EntrySteps.{SameButSp, Raised, raised, raise_quiet, exit-safe, AtPair}
+use Rattle.unit_follows.specs.Laws.EntrySteps.{Raised, raised, raise_quiet, exit-safe}
 use Rattle.unit_follows.specs.Laws.Jumps.{StepsWithin-instr}
 use Rattle.unit_follows.specs.Laws.Leaving.{IsLeft}
 use Rattle.unit_follows.specs.Laws.Standing.{Standing, Standing-as, Standing-front, Standing-back, HasInstr-first, Comes, Comes-Runs, AreQuiet}

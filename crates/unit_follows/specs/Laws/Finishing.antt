@@ -1,31 +1,25 @@
 -- The end of a call: from where the exit of a function stands, with the value in X0, its steps lead back (this project's own).
-use Rattle.std.specs.Prelude.{◌≡◌, ◌≢◌, ℕ, suc, ◌+◌, ◌-◌, ◌*◌, ◌%◌, ◌^◌, ◌<◌, ◌≤◌, true, false, List, [], ◌∷◌, length, slice_get, refl, Some}
+use Rattle.std.specs.Prelude.{◌≡◌, ℕ, ◌%◌, ◌^◌, ◌<◌, ◌≤◌, ◌∷◌, refl}
 use Rattle.std.proofs.Common.{arith, ap, sym, subst, ◌∙◌}
-use Rattle.mt_base.specs.Memory.{load}
 use Rattle.a64_code.specs.State.{State}
 use Rattle.a64_laws.specs.Frames.{HasPair}
-use Rattle.a64_laws.specs.Laws.OpenMemory.{IsReadable-kept}
-use Rattle.c_type_base.specs.declared.typed.Typed.{Typed}
-use Rattle.block_meaning.specs.declared.kind.Kind.TheVariants.{Local}
 use Rattle.block_meaning.specs.declared.value.Value.{Value}
-use Rattle.block_meaning.specs.Blocks.{Block}
 use Rattle.block_meaning.specs.Meaning.{open_bytes}
 use Rattle.block_meaning.specs.ProgramsInOrder.{InOrder}
-use Rattle.block_meaning.specs.Running.{Call, Context, Run, Result, Goes, Stops, Stop, Divide, Deep, More, IsUndefined, Stuck}
+use Rattle.block_meaning.specs.Running.{Call, Context, Result, Goes, Stops, Divide, Deep, More, IsUndefined, Stuck}
 use Rattle.block_meaning.specs.Running.{State as MeaningState}
-use Rattle.code_runs.specs.Bounded.{Account, Room, Bounded, Reaches}
+use Rattle.code_runs.specs.Bounded.{Account, Room, Bounded}
 use Rattle.code_runs.specs.Laws.Bounded.{IsWider-same, Reaches-changes}
 use Rattle.code_runs.specs.Laws.Ranges.{IsInRange-Steps}
 use Rattle.code_runs.specs.Within.{StepsWithin}
 use Rattle.code_follows.specs.Laws.Stack.{stack_open}
-use Rattle.code_relation.specs.Calls.{stack_end, lowest, frame_of, has_tagged, LieInOrder}
+use Rattle.code_relation.specs.Calls.{lowest, frame_of}
 use Rattle.code_relation.specs.Follows.{Code, setting, Returns}
 use Rattle.code_relation.specs.Injects.{Injects}
-use Rattle.code_relation.specs.Items.{IsAt}
 use Rattle.code_relation.specs.Kept.{KeepsAll}
 use Rattle.code_relation.specs.Numbers.{Holds}
 use Rattle.code_relation.specs.Outcomes.{outcome_of}
-use Rattle.code_relation.specs.Relates.{Relates, SameOutside}
+use Rattle.code_relation.specs.Relates.{Relates}
 use Rattle.code_relation.specs.Sites.{Given, units_of}
 use Rattle.code_relation.specs.Stands.{Stands, IsLocal}
 use Rattle.code_relation.specs.Laws.Keeps.{KeepsAll-bytes, KeepsAll-then}
@@ -35,8 +29,8 @@ use Rattle.gen_unit.specs.Functions.{exit}
 use Rattle.stmt_follows.specs.Laws.Locals.Slots.{open_whole}
 use Rattle.unit_follows.specs.Laws.Entering.{IsNewCall}
 use Rattle.unit_follows.specs.Laws.ExitSteps.{IsAtExit, ExitDone, exit_done}
-use Rattle.unit_follows.specs.Laws.Leaving.{IsLeft, with_ended, moment, Holds-ended, Injects-left}
-use Rattle.unit_follows.specs.Laws.Spares.Runs.{Moment, IsSince, IsKept}
+use Rattle.unit_follows.specs.Laws.Leaving.{with_ended, moment, Holds-ended, Injects-left}
+use Rattle.unit_follows.specs.Laws.Spares.Runs.{IsSince, IsKept}
 use Rattle.unit_follows.specs.Laws.Standing.{Standing}
 
 -- ---- what a run gives is told

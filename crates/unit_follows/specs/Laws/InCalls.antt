@@ -1,18 +1,17 @@
 -- Inside a call: what is kept on the way, and how the way ends (this project's own).
-use Rattle.std.specs.Prelude.{◌≡◌, ◌≢◌, ℕ, suc, ◌+◌, ◌-◌, ◌*◌, ◌%◌, ◌^◌, ◌<◌, ◌≤◌, true, false, List, [], ◌∷◌, length, refl}
+use Rattle.std.specs.Prelude.{◌≡◌, ℕ, ◌+◌, ◌*◌, ◌≤◌, List, ◌∷◌, length}
 use Rattle.std.proofs.Common.{arith, ap, sym, subst, ◌∙◌}
 use Rattle.mt_base.specs.Memory.{load}
 use Rattle.a64_code.specs.State.{State}
 use Rattle.a64_laws.specs.Frames.{HasPair}
 use Rattle.block_meaning.specs.declared.value.Value.{Value}
-use Rattle.block_meaning.specs.ProgramsInOrder.{InOrder}
-use Rattle.block_meaning.specs.Running.{Call, Context, Run, Result, Goes, Stops, Stop, Divide, Deep, More, IsUndefined, Stuck}
+use Rattle.block_meaning.specs.Running.{Call, Context, Result, Goes, Stops, Divide, Deep, More, IsUndefined, Stuck}
 use Rattle.block_meaning.specs.Running.{State as MeaningState}
-use Rattle.code_runs.specs.Bounded.{Account, Room, later, just, Bounded, Reaches}
-use Rattle.code_runs.specs.Laws.Bounded.{IsWider-same, Reaches-changes, Stands, after, done}
+use Rattle.code_runs.specs.Bounded.{Account, Room, just, Bounded}
+use Rattle.code_runs.specs.Laws.Bounded.{IsWider-same, Reaches-changes, after, done}
 use Rattle.code_relation.specs.Calls.{lowest}
 use Rattle.code_relation.specs.Follows.{Code, setting, Returns, call_room}
-use Rattle.code_relation.specs.Kept.{KeepsAll, KeepsFrom}
+use Rattle.code_relation.specs.Kept.{KeepsFrom}
 use Rattle.code_relation.specs.Outcomes.{outcome_of}
 use Rattle.code_relation.specs.Sites.{Given, units_of}
 use Rattle.code_relation.specs.Laws.Keeps.{KeepsAll-bytes, KeepsAll-then}

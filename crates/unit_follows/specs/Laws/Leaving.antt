@@ -1,13 +1,12 @@
 -- A call of a function without tagged slots is over: the blocks of its locals end, its frame goes, and the relation holds for the call
 -- around it (this project's own).
-use Rattle.std.specs.Prelude.{◌≡◌, ℕ, zero, suc, ◌+◌, ◌-◌, ◌*◌, ◌%◌, ◌<◌, ◌≤◌, Bool, true, false, ◌&&◌, ◌||◌, nat_eq, nat_lt}
-use Rattle.std.specs.Prelude.{List, [], ◌∷◌, ◌++◌, length, slice_get, Option, Some, None, refl, if◌then◌else◌}
+use Rattle.std.specs.Prelude.{◌≡◌, ℕ, zero, suc, ◌+◌, ◌<◌, Bool, true, false, ◌||◌, nat_eq}
+use Rattle.std.specs.Prelude.{List, [], ◌∷◌, length, slice_get, Option, Some, refl, if◌then◌else◌}
 use Rattle.std.specs.List.{list_any}
 use Rattle.std.proofs.Common.{arith, ap, sym, subst, ◌∙◌, inl, inr}
 use Rattle.std.proofs.lemmas.Bool.{cases_lt}
 use Rattle.std.proofs.lemmas.Bool.Decides.{nat_tests}
 use Rattle.mt_base.specs.Granules.{granule_of}
-use Rattle.mt_base.specs.Memory.{is_between}
 use Rattle.a64_code.specs.State.{State}
 use Rattle.a64_laws.specs.Laws.Effects.InRange.{IsInRange}
 use Rattle.block_meaning.specs.declared.cell.Cell.{Cell}
@@ -24,13 +23,13 @@ use Rattle.block_meaning.specs.Opening.{opening}
 use Rattle.block_meaning.specs.Running.{Call, Context, State as MeaningState}
 use Rattle.code_relation.specs.Apart.{AreTwo}
 use Rattle.code_relation.specs.Bases.{tagged_base_of, HaveBaseWords}
-use Rattle.code_relation.specs.Calls.{stack_end, lowest, frame_of, has_tagged, is_among, LieInOrder}
+use Rattle.code_relation.specs.Calls.{frame_of, has_tagged, is_among, LieInOrder}
 use Rattle.code_relation.specs.Cells.{IsCell}
 use Rattle.code_relation.specs.Injects.{Injects}
 use Rattle.code_relation.specs.Numbers.{number_at, IsNumber, Holds}
-use Rattle.code_relation.specs.Sites.{Given, units_of, Lives, site_of, site_by, has_byte, is_of_file, is_tagged_block, is_tagged_local, slot_in}
+use Rattle.code_relation.specs.Sites.{Given, units_of, Lives, site_of, site_by, is_of_file, is_tagged_block, is_tagged_local}
 use Rattle.code_relation.specs.Sites.{is_tagged_by}
-use Rattle.code_relation.specs.Stands.{AreCalls, IsThere, IsLocal, IsInScope, IsAsOpened, WasOpened, Stands}
+use Rattle.code_relation.specs.Stands.{AreCalls, IsLocal, IsInScope, IsAsOpened, WasOpened, Stands}
 use Rattle.code_relation.specs.Laws.Framed.{StartFrom, words_above}
 use Rattle.code_relation.specs.Laws.Lists.{get_within}
 use Rattle.frame_layout.specs.declared.frame.Slot.{Slot}

@@ -1,5 +1,5 @@
 -- A function that was entered does what its body means (this project's own).
-use Rattle.std.specs.Prelude.{◌≡◌, ℕ, zero, suc, ◌+◌, ◌*◌, ◌<◌, ◌≤◌, true, false, List, [], ◌∷◌, ◌++◌, length, map, Option, Some, None, refl}
+use Rattle.std.specs.Prelude.{◌≡◌, ℕ, ◌+◌, ◌*◌, ◌≤◌, List, [], ◌∷◌, ◌++◌, length, map, Option, Some, None, refl}
 use Rattle.std.specs.List.{Contains}
 use Rattle.std.proofs.Common.{arith, ap, sym, subst, ◌∙◌, inl, inr, ◌⊎◌}
 use Rattle.a64_code.specs.State.{State}
@@ -11,32 +11,30 @@ use Rattle.block_meaning.specs.declared.value.Value.{Value}
 use Rattle.block_meaning.specs.ExpressionsInOrder.{Scope}
 use Rattle.block_meaning.specs.Linkage.{type_of_local}
 use Rattle.block_meaning.specs.Locals.{latest, new_locals}
-use Rattle.block_meaning.specs.Meaning.{calls_at, inside, body_of, body_node, end_call, result_of, with_arguments}
+use Rattle.block_meaning.specs.Meaning.{calls_at, inside, body_of, body_node, end_call, result_of}
 use Rattle.block_meaning.specs.ProgramsInOrder.{numbered, body_scope}
-use Rattle.block_meaning.specs.Running.{Function, Call, Context, Run, Goes, gives, goes_on, and_then, with_some, with_blocks}
+use Rattle.block_meaning.specs.Running.{Function, Call, Context, Run, gives, goes_on, and_then, with_some, with_blocks}
 use Rattle.block_meaning.specs.Running.{State as MeaningState}
 use Rattle.block_meaning.specs.Statements.{StmtLayer, StmtParts, Flow, Next, Broke, Continued, Returned, statements_at, items, declared}
 use Rattle.code_runs.specs.Bounded.{Account, Room, later, Bounded}
-use Rattle.code_runs.specs.Laws.Bounded.{after, opened}
-use Rattle.code_relation.specs.Calls.{has_tagged}
+use Rattle.code_runs.specs.Laws.Bounded.{after}
 use Rattle.code_relation.specs.Follows.{Code, setting, Does, HasArguments, IsIn, call_room}
 use Rattle.code_relation.specs.Fresh.{Fresh, FreshItems, AreNew, block}
 use Rattle.code_relation.specs.Injects.{Injects}
 use Rattle.code_relation.specs.Items.{StandsAt}
 use Rattle.code_relation.specs.Outcomes.{outcome_of}
 use Rattle.code_relation.specs.Relates.{Relates}
-use Rattle.code_relation.specs.Sites.{Given, units_of}
-use Rattle.code_relation.specs.Trees.{IsPlaced, IsScope, Exits, HasOnly, statement_room, statement_tree}
+use Rattle.code_relation.specs.Trees.{IsPlaced, Exits, HasOnly, statement_room, statement_tree}
 use Rattle.code_relation.specs.Laws.Follows.{does_then}
 use Rattle.code_relation.specs.Laws.Placing.{StandsAt-front, StandsAt-back}
 use Rattle.stmt_follows.specs.Parts.{Proceeds}
 use Rattle.stmt_follows.specs.Laws.Conditions.{and_then-apart}
 use Rattle.stmt_follows.specs.Laws.Locals.Entering.{IsInner, IsSafeCall, Proceeds-enter}
-use Rattle.stmt_follows.specs.Laws.Locals.Lists.{contains_first, contains_more, contains_cases, contains_none, AreDifferent, are_different}
+use Rattle.stmt_follows.specs.Laws.Locals.Lists.{contains_first, contains_more, contains_cases, contains_none, are_different}
 use Rattle.unit_follows.specs.Functions.{IsPlacedFunction, EndsBody, parameters}
 use Rattle.unit_follows.specs.Placing.{Placing}
 use Rattle.unit_follows.specs.Laws.Arguments.{ArgumentsStored}
-use Rattle.unit_follows.specs.Laws.Bodies.{order, args, body, every, spot, part, body_place, first, zero_item, parts_are, all_stand, after_body, fr}
+use Rattle.unit_follows.specs.Laws.Bodies.{order, args, body, spot, part, body_place, zero_item, parts_are, all_stand, after_body, fr}
 use Rattle.unit_follows.specs.Laws.Entering.{IsNewCall}
 use Rattle.unit_follows.specs.Laws.Finishing.{InCall, Bounded-told}
 use Rattle.unit_follows.specs.Laws.InCalls.{Bounded-joint, InCall-kept, Back}

@@ -1,12 +1,11 @@
 -- The words of a function without tagged slots follow it: its entry, its body and its exit, or the guard that they meet (this project's
 -- own).
-use Rattle.std.specs.Prelude.{◌≡◌, ℕ, zero, suc, ◌+◌, ◌-◌, ◌*◌, ◌%◌, ◌<◌, ◌≤◌, Bool, true, false, leb, List, [], ◌∷◌, ◌++◌, length, map}
-use Rattle.std.specs.Prelude.{Option, Some, None, refl, if◌then◌else◌}
+use Rattle.std.specs.Prelude.{◌≡◌, ℕ, zero, suc, ◌+◌, ◌-◌, ◌*◌, ◌%◌, ◌<◌, ◌≤◌, Bool, true, false, leb, List, [], ◌∷◌, length, map}
+use Rattle.std.specs.Prelude.{Some, refl, if◌then◌else◌}
 use Rattle.std.proofs.Common.{arith, ap, sym, subst, ◌∙◌}
 use Rattle.std.proofs.lemmas.Bool.{leb-true, leb-false}
 use Rattle.std.proofs.lemmas.Bool.Decides.{nat_tests}
 use Rattle.mt_base.specs.Memory.{Span, is_in_span}
-use Rattle.a64_code.specs.declared.end.MachineEnd.TheVariants.{StackFault}
 use Rattle.a64_code.specs.State.{State}
 use Rattle.a64_code.specs.Step.{carried_out}
 use Rattle.a64_laws.specs.Frames.{frame_pointer, link_register, HasPair}
@@ -14,38 +13,35 @@ use Rattle.c_type_base.specs.declared.ty.Ty.{Ty}
 use Rattle.c_type_base.specs.declared.typed.TFunction.{TFunction}
 use Rattle.block_meaning.specs.declared.value.Value.{Value}
 use Rattle.block_meaning.specs.declared.value.Value.TheVariants.{Number, Address, Struct, NoValue}
-use Rattle.block_meaning.specs.Linkage.{function_named, type_of_local, parameter_types}
-use Rattle.block_meaning.specs.Meaning.{calls_at, frame_bytes, open_bytes, inside, call_of, body_of, new_call, unless_deep}
-use Rattle.block_meaning.specs.ProgramsInOrder.{InOrder, HasFrame}
-use Rattle.block_meaning.specs.Running.{Function, Call, Program, Context, Run, Result, Goes, Stops, Deep, and_then, with_some, unit_then}
-use Rattle.block_meaning.specs.Running.{one_of, stuck, State as MeaningState}
+use Rattle.block_meaning.specs.Linkage.{function_named, type_of_local}
+use Rattle.block_meaning.specs.Meaning.{calls_at, frame_bytes, open_bytes, inside, call_of, body_of, new_call}
+use Rattle.block_meaning.specs.ProgramsInOrder.{HasFrame}
+use Rattle.block_meaning.specs.Running.{Function, Call, Program, Context, Run, Result, Goes, Stops, Deep, and_then, with_some}
+use Rattle.block_meaning.specs.Running.{one_of, State as MeaningState}
 use Rattle.block_meaning.specs.Statements.{statements_at}
 use Rattle.code_runs.specs.Bounded.{Account, later, Bounded}
 use Rattle.code_runs.specs.Laws.Bounded.{opened, after, finishes, unsaid, changes, IsWider-same}
 use Rattle.code_runs.specs.Laws.Ranges.{IsInRange-Steps}
 use Rattle.code_follows.specs.Laws.Stack.{stack_open}
-use Rattle.code_relation.specs.Calls.{stack_end, guard_bytes, lowest, frame_of, LieInOrder}
+use Rattle.code_relation.specs.Calls.{stack_end, lowest, frame_of}
 use Rattle.code_relation.specs.Follows.{Code, setting, Does, HasArguments, Returns, call_room, function_words, types_of, WordsFollow}
 use Rattle.code_relation.specs.Follows.{call_of as tree_of}
 use Rattle.code_relation.specs.Injects.{Injects}
 use Rattle.code_relation.specs.Items.{IsAt}
-use Rattle.code_relation.specs.Kept.{KeepsAll}
 use Rattle.code_relation.specs.Numbers.{Holds}
 use Rattle.code_relation.specs.Outcomes.{outcome_of}
 use Rattle.code_relation.specs.Relates.{Relates}
 use Rattle.code_relation.specs.Sites.{Given, units_of}
-use Rattle.code_relation.specs.Stands.{IsThere, Stands}
+use Rattle.code_relation.specs.Stands.{Stands}
 use Rattle.code_relation.specs.Laws.Called.{with_call, IsNumber-called}
 use Rattle.code_relation.specs.Laws.Framed.{StartFrom, StartFrom-frame, keeps_above}
 use Rattle.code_relation.specs.Laws.Kept.{Injects-with, Holds-with}
 use Rattle.code_relation.specs.Laws.Told.{product_split}
-use Rattle.frame_layout.specs.declared.frame.Frame.{Frame}
-use Rattle.gen_unit.specs.Functions.{entry}
 use Rattle.stmt_follows.specs.Laws.Locals.Slots.{open_whole}
 use Rattle.unit_follows.specs.Functions.{IsPlacedFunction, parameters}
 use Rattle.unit_follows.specs.Placing.{Placing}
-use Rattle.unit_follows.specs.Laws.Bodies.{order, spot, fr, frame_some}
-use Rattle.unit_follows.specs.Laws.Entering.{IsEntered, IsNewCall, Injects-entered}
+use Rattle.unit_follows.specs.Laws.Bodies.{order, fr, frame_some}
+use Rattle.unit_follows.specs.Laws.Entering.{IsNewCall, Injects-entered}
 use Rattle.unit_follows.specs.Laws.EntrySteps.{HasSpace, AtPair, at_pair, EntryDone, entry_done}
 use Rattle.unit_follows.specs.Laws.ExitSteps.{pair_guarded}
 use Rattle.unit_follows.specs.Laws.Finishing.{InCall, Bounded-told, since_made}

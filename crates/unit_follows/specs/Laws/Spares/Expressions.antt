@@ -1,5 +1,5 @@
 -- Expressions keep the blocks that were there, where calls do (this project's own).
-use Rattle.std.proofs.Common.{refl, ℕ, zero, suc, ◌%◌, Bool, true, false, List, []}
+use Rattle.std.proofs.Common.{refl, ℕ, zero, suc, Bool, true, false, List, []}
 use Rattle.std.proofs.Common.{◌∷◌, Option, Some, None}
 use Rattle.c_ast.specs.declared.token.Span.{Span}
 use Rattle.c_ast.specs.declared.operator.UnaryOperator.{UnaryOperator}

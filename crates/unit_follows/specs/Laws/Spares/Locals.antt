@@ -1,7 +1,7 @@
 -- Locals and initialisers keep the blocks that were there, in contexts whose locals came later (this project's own).
 use Rattle.std.proofs.Common.{◌≡◌, ◌≤◌, ◌∙◌, sym, ap, length, arith, length-append, refl, ℕ, zero, suc, ◌+◌, Bool, true, false, ◌||◌, List, []}
 use Rattle.std.proofs.Common.{◌∷◌, Option, Some, None}
-use Rattle.std.specs.Prelude.{slice_get, nat_eq, if◌then◌else◌, ◌++◌}
+use Rattle.std.specs.Prelude.{slice_get, nat_eq, if◌then◌else◌}
 use Rattle.code_relation.specs.Laws.Changing.{SameBlock-same}
 use Rattle.code_relation.specs.Laws.Lists.{InJoined, front, back, get_joined}
 use Rattle.code_relation.specs.Laws.Placing.{get_front}

@@ -2,7 +2,7 @@
 use Rattle.std.proofs.Common.{◌≡◌, ◌≤◌, ◌<◌, refl, sym, ap, ◌∙◌, leb, ℕ, zero, suc, ◌+◌, arith, List, [], Bool, true, false, length}
 use Rattle.std.proofs.Common.{length-append, Option, Some, None}
 use Rattle.std.proofs.Common.{◌∷◌, take}
-use Rattle.std.specs.Prelude.{nat_eq, if◌then◌else◌, ◌++◌, slice_get, map}
+use Rattle.std.specs.Prelude.{nat_eq, if◌then◌else◌, slice_get}
 use Rattle.std.proofs.lemmas.Bool.Decides.{nat_tests}
 use Rattle.std.proofs.lemmas.List.{length-map}
 use Rattle.block_meaning.specs.declared.kind.Kind.{Kind}

@@ -1,8 +1,8 @@
 -- Runs that leave the blocks that were there at some moment as they are, in kind, size and life (this project's own). So the locals of the
 -- calls that were open then are alive still.
-use Rattle.std.specs.Prelude.{◌≡◌, ◌≢◌, ℕ, zero, suc, ◌+◌, ◌<◌, ◌≤◌, Bool, true, false, List, [], ◌∷◌, ◌++◌, length, map, slice_get}
+use Rattle.std.specs.Prelude.{◌≡◌, ℕ, zero, suc, ◌<◌, ◌≤◌, Bool, true, false, List, [], ◌∷◌, length, map, slice_get}
 use Rattle.std.specs.Prelude.{slice_set, Option, Some, None, refl}
-use Rattle.std.proofs.Common.{arith, ap, sym, subst, ◌∙◌, length-append, inl, inr}
+use Rattle.std.proofs.Common.{arith, ap, sym, subst, ◌∙◌, inl, inr}
 use Rattle.std.proofs.lemmas.Bool.{cases_eq}
 use Rattle.std.proofs.lemmas.List.{length-set}
 use Rattle.c_ast.specs.declared.token.Span.{Span}
@@ -16,8 +16,7 @@ use Rattle.block_meaning.specs.Memory.{copied}
 use Rattle.block_meaning.specs.Running.{State, Result, Goes, Stops, Run, Stop, Divide, Deep, gives, stops, goes_on, and_then, one_of}
 use Rattle.block_meaning.specs.Running.{unit_then, choice, stuck, with_some, by_blocks, with_blocks, all_of, Context, undefined}
 use Rattle.code_relation.specs.Laws.Changing.{SameBlock, SameBlock-same}
-use Rattle.code_relation.specs.Laws.Lists.{get_within, get_set_same, get_set_other}
-use Rattle.code_relation.specs.Laws.Placing.{get_front}
+use Rattle.code_relation.specs.Laws.Lists.{get_set_same, get_set_other}
 
 -- so many blocks and so many calls, at that moment
 pub record Moment : Type 0 where
