@@ -24,3 +24,4 @@ pub mod InCalls
 pub mod Bodies
 pub mod Running
 pub mod Whole
+pub mod Files
