@@ -45,7 +45,7 @@ linked_bytes : (a : ℕ) (s : State) → (puts_link a s).byte ≡ s.byte
 unfolding puts_link
 linked_bytes a s = refl
 
-linked_pc : (a : ℕ) (s : State) → (puts_link a s).pc ≡ a
+pub linked_pc : (a : ℕ) (s : State) → (puts_link a s).pc ≡ a
 unfolding puts_link
 linked_pc a s = refl
 
@@ -61,7 +61,7 @@ linked_register a k s below = rw (ne_eqb k 30 (not_thirty k below)) refl
     not_thirty k below same = omega (arith, below, same)
 
 -- arguments are where they were
-arguments_stay : (g : Given) (now : MeaningState) (a : ℕ) (s : State) (k : ℕ) (ts : List Ty) (vs : List Value) → k + length ts ≤ 30 →
+pub arguments_stay : (g : Given) (now : MeaningState) (a : ℕ) (s : State) (k : ℕ) (ts : List Ty) (vs : List Value) → k + length ts ≤ 30 →
     HasArguments g now s k ts vs → HasArguments g now (puts_link a s) k ts vs
 arguments_stay g now a s k [] [] few has = tt
 arguments_stay g now a s k [] (v ∷ vs) few has = absurd has
@@ -72,7 +72,7 @@ arguments_stay g now a s k (t ∷ ts) (v ∷ vs) few has = (
   arguments_stay g now a s (suc k) ts vs (omega (arith, few)) has.2,
 )
 
-linked_relates : {g : Given} {here : Context} {now : MeaningState} {s : State} (a : ℕ) → Steps 1 s (puts_link a s) → Relates g here now s →
+pub linked_relates : {g : Given} {here : Context} {now : MeaningState} {s : State} (a : ℕ) → Steps 1 s (puts_link a s) → Relates g here now s →
     Relates g here now (puts_link a s)
 linked_relates {s = s} a steps relates = record {
   injects = Injects-same (linked_same a s) (IsInRange-Steps 1 steps relates.injects.in_range) relates.injects;
@@ -86,7 +86,7 @@ linked_relates {s = s} a steps relates = record {
 
 -- ---- the call
 
-returns_behind : {g : Given} {here : Context} {s : State} {v : Value} {then : MeaningState} {u : State} (a from : ℕ) → s.pc ≡ from →
+pub returns_behind : {g : Given} {here : Context} {s : State} {v : Value} {then : MeaningState} {u : State} (a from : ℕ) → s.pc ≡ from →
     from + 4 < 2 ^ 64 → Returns g ((puts_link a s).register 30) here (puts_link a s) v then u → Returns g (from + 4) here s v then u
 returns_behind {g} {here} {s} {v} {then} {u} a from is fits returns = record {
   relates = returns.relates;

@@ -60,7 +60,7 @@ StartFrom_less : (less to : ℕ) (ds : List Call) → less ≤ to → StartFrom 
 StartFrom_less less to [] lower start = tt
 StartFrom_less less to (d ∷ ds) lower start = (omega (arith, lower, start.0), StartFrom_less less to ds lower start.1)
 
-keeps_above : {from to : ℕ} (units : List Typed) (s t : State) (ds : List Call) → ChangesWithin from to s t → StartFrom to ds →
+pub keeps_above : {from to : ℕ} (units : List Typed) (s t : State) (ds : List Call) → ChangesWithin from to s t → StartFrom to ds →
     KeepsAll units s t ds
 keeps_above units s t [] changes start = tt
 keeps_above units s t (d ∷ ds) changes start = (
@@ -69,7 +69,7 @@ keeps_above units s t (d ∷ ds) changes start = (
   keeps_above units s t ds changes start.1,
 )
 
-words_above : {from to : ℕ} (g : Given) (calls : List Call) (s t : State) (ds : List Call) → ChangesWithin from to s t →
+pub words_above : {from to : ℕ} (g : Given) (calls : List Call) (s t : State) (ds : List Call) → ChangesWithin from to s t →
     StartFrom to ds → HaveBaseWords g calls s ds → HaveBaseWords g calls t ds
 words_above g calls s t [] changes start words = tt
 words_above g calls s t (d ∷ ds) changes start words = (

@@ -1,0 +1,5 @@
+pub mod Placing
+pub mod Placed
+pub mod Sound
+pub mod Functions
+pub mod Laws
