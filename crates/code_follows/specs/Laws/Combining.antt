@@ -30,8 +30,8 @@ use Rattle.code_follows.specs.Values.{ValueIs}
 use Rattle.code_follows.specs.Laws.Computing.{Suits-other}
 use Rattle.code_follows.specs.Laws.Going.{Goes-same, Goes-computes}
 use Rattle.code_follows.specs.Laws.Lying.{HasInstrs, Lies-plain}
-use Rattle.code_follows.specs.Laws.Nodes.PointerSteps.{added_does, taken_does}
-use Rattle.code_follows.specs.Laws.Nodes.Element.{ValueIs-address}
+use Rattle.code_follows.specs.Laws.Nodes.OnPointers.{added_does, taken_does}
+use Rattle.code_follows.specs.Laws.PointerValues.{ValueIs-address}
 use Rattle.code_follows.specs.Laws.Operand.{begins, IsAt-on, Goes-undefined, Listed}
 use Rattle.code_follows.specs.Laws.Operands.{DoesBeside, computes_it, is_undefined, DoesBoth}
 use Rattle.code_follows.specs.Laws.CombiningIntegers.{Next, combines_integers}
@@ -110,10 +110,10 @@ module _ {A : Type 0} {k : Scene} (scene : IsScene k) {first : ℕ} {reg : Reg} 
   Goes-combines left_over assign.Add (adds points second_int) combines v w lies v_is w_is on fits more =
       let there = has_target s points in
       combines_pointer left_over assign.Add there.target there.is second_int
-      (added_does scene there.target s t there.is second_int span) v w
+      (added_does scene span s t there.target there.is second_int) v w
       lies v_is w_is on fits more
   Goes-combines left_over assign.Subtract (takes points second_int) combines v w lies v_is w_is on fits more =
       let there = has_target s points in
       combines_pointer left_over assign.Subtract there.target there.is second_int
-      (taken_does scene there.target s t there.is second_int span)
+      (taken_does scene span s t there.target there.is second_int)
       v w lies v_is w_is on fits more

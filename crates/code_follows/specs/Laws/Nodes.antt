@@ -24,8 +24,6 @@ pub mod OnPointers
 pub mod OnTwoPointers
 pub mod PointersOperated
 pub mod AnyOperator
-pub mod Both
-pub mod PointerSteps
 pub mod Steps
 pub mod SteppedSlot
 pub mod CompoundSlot
