@@ -19,4 +19,5 @@ pub mod Pointing
 pub mod LocalSites
 pub mod Paying
 pub mod Nodes
+pub mod ArgumentsKept
 pub mod Whole

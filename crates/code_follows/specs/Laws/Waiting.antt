@@ -47,21 +47,21 @@ HasTemp-kept {k} {t} {value} {s} {u} kept has = record { is = λ c open_is. by_c
         subst (λ x. load 8 s.byte (lowest x + (24 + 8 * t)) ≡ value → load 8 u.byte (lowest x + (24 + 8 * t)) ≡ value) same
         (λ there. kept.1 t (omega arith) ∙ there) held
 
-fetch_short : (t : ℕ) (r : Reg) → t ≤ 4092 → Short 1 (fetch t r)
+pub fetch_short : (t : ℕ) (r : Reg) → t ≤ 4092 → Short 1 (fetch t r)
 fetch_short t r near = rw (lt-ltb (3 + t) 4096 (let e : 3 + t < 4096 = omega (arith, near) in e))
     (record { quiet = refl; few = omega arith })
 
-move_computes : (from into : Reg) (s : State) → from.0 < 31 → into.0 < 31 → s.pc < 2 ^ 56 →
+pub move_computes : (from into : Reg) (s : State) → from.0 < 31 → into.0 < 31 → s.pc < 2 ^ 56 →
     Computes (move from into ∷ []) into (s.register from.0) all s
 move_computes from into s first small near =
     Computes-put (move from into) into (s.register from.0) s (moved from into s first small) (omega (arith, near))
 
-never : {X : Type 0} → false ≡ true → X
+pub never : {X : Type 0} → false ≡ true → X
 never is = absurd (cc)
 
 -- ---- the words of a run
 
-On-spare : {k : Scene} {first : ℕ} {reg : Reg} {alone : Bool} {s : State} {a : Account} {owes spare at : ℕ} {now : MeaningState} {t : State}
+pub On-spare : {k : Scene} {first : ℕ} {reg : Reg} {alone : Bool} {s : State} {a : Account} {owes spare at : ℕ} {now : MeaningState} {t : State}
     (less : ℕ) → less ≤ spare → On k first reg alone s at a owes spare now t → On k first reg alone s at a owes less now t
 On-spare less fits on = record { came = on.came; least = on.least; most = omega (arith, on.most, fits); within = on.within }
 
