@@ -20,4 +20,5 @@ pub mod LocalSites
 pub mod Paying
 pub mod Nodes
 pub mod ArgumentsKept
+pub mod ArgumentsFetched
 pub mod Whole
