@@ -70,6 +70,7 @@ break_follows f first broke continued st span is = record {
               outside = record {
                 output = relates.outside.output;
                 input = relates.outside.input;
+                bytes = relates.outside.bytes;
                 takes = relates.outside.takes;
                 puts = relates.outside.puts;
               };
