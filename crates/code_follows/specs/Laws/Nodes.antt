@@ -15,3 +15,4 @@ pub mod Chosen
 pub mod Logical
 pub mod Address
 pub mod Target
+pub mod CallBytes
