@@ -7,5 +7,6 @@ pub mod Parts
 pub mod Steps
 pub mod Waits
 pub mod Later
+pub mod CallsGive
 pub mod Nodes
 pub mod Laws

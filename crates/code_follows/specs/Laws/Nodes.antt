@@ -16,3 +16,5 @@ pub mod Logical
 pub mod Address
 pub mod Target
 pub mod CallBytes
+pub mod CallItems
+pub mod CallAcross
