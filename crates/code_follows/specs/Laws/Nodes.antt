@@ -18,3 +18,4 @@ pub mod Target
 pub mod CallBytes
 pub mod CallItems
 pub mod CallAcross
+pub mod Call

@@ -1,6 +1,6 @@
 -- The code of each expression that is covered does what it means, where that of each node does (this project's own). By the number of
 -- levels, and the derivation that the expression is in order.
-use Rattle.std.specs.Prelude.{◌≡◌, ℕ, zero, suc, Bool, true, false, nat_lt, ◌<◌, ◌≤◌, ◌&&◌, not, if◌then◌else◌, List, map, refl}
+use Rattle.std.specs.Prelude.{◌≡◌, ℕ, zero, suc, Bool, true, false, nat_le, nat_lt, ◌<◌, ◌≤◌, ◌&&◌, not, if◌then◌else◌, List, [], ◌∷◌, length, map, refl}
 use Rattle.std.proofs.Common.{arith, ap, sym, subst, ◌∙◌}
 use Rattle.std.proofs.lemmas.Bool.{eqb-true}
 use Rattle.std.proofs.lemmas.Bool.Decides.{nat_tests}
@@ -51,6 +51,16 @@ sign_computes o t sign is = sym (ap (λ b. (if b then computes_in t else true)) 
 
 lt_of : {n m : ℕ} → nat_lt n m ≡ true → n < m
 lt_of {n} {m} is = grind (arith, nat_tests)
+
+le_of : {n m : ℕ} → nat_le n m ≡ true → n ≤ m
+le_of {n} {m} is = grind (arith, nat_tests)
+
+covering_length : (es : List TExpr) → length (map covering es) ≡ length es
+covering_length [] = refl
+covering_length (e ∷ es) = ap suc (covering_length es)
+
+few_arguments : (es : List TExpr) → nat_le (length (map covering es)) 8 ≡ true → length es ≤ 8
+few_arguments es is = let few : length (map covering es) ≤ 8 = le_of is in omega (arith, few, covering_length es)
 
 -- ---- what is left of the bound
 
@@ -116,7 +126,10 @@ module _ {k : Scene} {depth : ℕ} (nodes : Nodes k) (below : Below k depth) whe
   value_by t l (order.cast_to_void {e = e} d is) cov = (nodes.values depth).cast_to_void t e (below.value e d cov) is
   value_by t l (order.size_of {e}) cov = (nodes.values depth).size_of e
   value_by t l (order.size_of_type {t = other}) cov = (nodes.values depth).size_of_type other
-  value_by t l (order.call {f} {es} {ts} callable ds) cov = (nodes.values depth).call f es ts t callable ds (all_value es ts ds cov)
+  value_by t l (order.call {f} {es} {ts} callable ds) cov =
+      (nodes.values depth).call f es ts t callable ds
+      (few_arguments es (first_of (nat_le (length (map covering es)) 8) (all_covered (map covering es)) cov))
+      (all_value es ts ds (second_of (nat_le (length (map covering es)) 8) (all_covered (map covering es)) cov))
   value_by t l (order.step {o} {e} d is) cov = (nodes.values depth).step o e (below.place e d cov) is
   value_by t l (order.read {e} d is) cov = (nodes.values depth).read e (below.place e d cov) is
   value_by t l (order.decay {e} {t = element} d is) cov = (nodes.values depth).decay e element (below.place e d cov) is

@@ -1,5 +1,5 @@
 -- The calls of functions of the program: their items, whose value comes back in X0 (this project's own).
-use Rattle.std.specs.Prelude.{◌≡◌, ℕ, zero, suc, ◌+◌, ◌*◌, ◌≤◌, false, List, [], ◌∷◌, length, Some, refl}
+use Rattle.std.specs.Prelude.{◌≡◌, ℕ, zero, suc, ◌≤◌, false, List, [], ◌∷◌, length, Some, refl}
 use Rattle.std.proofs.Common.{arith, ap, sym, subst, ◌∙◌}
 use Rattle.c_type_base.specs.declared.expr.Callee.{Callee}
 use Rattle.c_type_base.specs.declared.ty.Ty.{Ty}
