@@ -17,7 +17,11 @@ pub mod Truth
 pub mod Jumping
 pub mod Pointing
 pub mod LocalSites
+pub mod Differing
 pub mod Paying
+pub mod Operands
+pub mod Moving
+pub mod PointerValues
 pub mod Nodes
 pub mod ArgumentsKept
 pub mod ArgumentsFetched

@@ -19,3 +19,7 @@ pub mod CallBytes
 pub mod CallItems
 pub mod CallAcross
 pub mod Call
+pub mod Element
+pub mod OnPointers
+pub mod OnTwoPointers
+pub mod PointersOperated

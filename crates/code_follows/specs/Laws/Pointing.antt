@@ -111,6 +111,11 @@ module _ {k : Scene} (locals : LocalsLie k) {now : MeaningState} {s : State} (re
       by_kind (Text unit i) is = at (Text unit i) is (of_file (Text unit i) is refl)
       by_kind (Code unit i) is = at (Code unit i) is (of_file (Code unit i) is refl)
 
+  pub lies_here : (number : ℕ) (b : Block) → nat_eq number 0 ≡ false → Lives now number b →
+      LiesAbove (site_of (given_in k) now number b) b.size
+  unfolding g
+  lies_here number b other lives = lies_above number b other lives
+
   -- ---- the null block, and the others
 
   in_null : (p : Pointer) (n : ℕ) (b : Bool) → p.block ≡ 0 → IsNumber g now p n → within_block binary.NotEqual p null ≡ Some b →

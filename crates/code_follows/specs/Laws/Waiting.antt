@@ -109,8 +109,8 @@ module _ {C : Type 0} {k : Scene} {first : ℕ} {reg : Reg} {result : Result C} 
       result_b y behind (u.register reg.0) → Stands (given_in k) k.here between → Ran n between y behind →
       Goes k first reg false result s to leaves c (f x y) behind u) →
       Goes k first reg false result s to leaves a (and_then m (λ x. and_then n (f x))) now t
-  Goes-waits-ran {a = a} {spare} {from} {middle} {needs_b = needs_b} {result_b = result_b} {m} {n} {f} {now} {t} into e b high top pa pb free_a
-      free_b lies on more =
+  Goes-waits-ran {a = a} {spare} {from} {middle} {needs_b = needs_b} {result_b = result_b} {m} {n} {f} {now} {t} into e b high top
+      pa pb free_a free_b lies on more =
       by_alone b.alone lies pb
     where
       by_alone : (flag : Bool) → Lies k (if flag then in_turn (e first reg ∷ plain (move reg into ∷ []) ∷ b.value first reg ∷ []) else

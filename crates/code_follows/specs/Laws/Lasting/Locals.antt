@@ -115,7 +115,8 @@ fill_last here {p = p} of (suc depth) o i =
 zero_last : (here : Context) (o : Object) (b : Bool) {m : Run (Unit {0})} → Lasts m → Lasts (after_zero here o b m)
 zero_last here o false lasts = lasts
 zero_last here o true lasts = lasts-then
-    (lasts-with_blocks (stored o.at (zero_cells (structs_at here) o.ty)) (stays-stored o.at (zero_cells (structs_at here) o.ty))) (λ _. lasts)
+    (lasts-with_blocks (stored o.at (zero_cells (structs_at here) o.ty)) (stays-stored o.at (zero_cells (structs_at here) o.ty)))
+    (λ _. lasts)
 
 declared_last : (here : Context) {p : ExprParts} → LastParts p → (depth : ℕ) (d : TDecl) (i : Option TInit) →
     Lasts (declared_with here p depth d i)

@@ -1,5 +1,6 @@
 -- Runs lead to later states: the words that they are made of (this project's own).
-use Rattle.std.specs.Prelude.{◌≡◌, ◌≢◌, ◌⊎◌, ℕ, zero, suc, Bool, true, false, List, [], ◌∷◌, ◌++◌, map, slice_get, slice_set, Option, Some, None, refl}
+use Rattle.std.specs.Prelude.{◌≡◌, ◌≢◌, ◌⊎◌, ℕ, zero, suc, Bool, true, false, List}
+use Rattle.std.specs.Prelude.{[], ◌∷◌, ◌++◌, map, slice_get, slice_set, Option, Some, None, refl}
 use Rattle.std.proofs.Common.{ap, sym, inl, inr, append_assoc, append-nil, ◌∙◌}
 use Rattle.std.proofs.lemmas.Bool.{cases_eq}
 use Rattle.c_ast.specs.declared.token.Span.{Span}
@@ -62,7 +63,8 @@ stays-changed : (f : Block → Block) → KeepsBlocks f → (o : Option Block) (
 stays-changed f keeps None number blocks is = stays-same blocks
 stays-changed f keeps (Some b) number blocks is = stays-set f keeps blocks number b is
 
-pub stays-with_block : (f : Block → Block) → KeepsBlocks f → (number : ℕ) (blocks : List Block) → AllStay blocks (with_block number f blocks)
+pub stays-with_block : (f : Block → Block) → KeepsBlocks f → (number : ℕ) (blocks : List Block) →
+    AllStay blocks (with_block number f blocks)
 stays-with_block f keeps number blocks = stays-changed f keeps (slice_get blocks number) number blocks refl
 
 pub stays-stored : (p : Pointer) (cells : List Cell) (blocks : List Block) → AllStay blocks (stored p cells blocks)

@@ -42,20 +42,20 @@ use Rattle.code_follows.specs.Laws.Waiting.{Goes-waits}
 
 -- ---- operators that are not `&&` or `||`
 
-plain_run : (at : Site) (o : BinaryOperator) (a b : TExpr) → group_of o ≢ Logical → (now : MeaningState) → binary_node at o a b now
+pub plain_run : (at : Site) (o : BinaryOperator) (a b : TExpr) → group_of o ≢ Logical → (now : MeaningState) → binary_node at o a b now
     ≡ and_then (value_of at.parts a) (λ v. and_then (value_of at.parts b) (λ w.
     unit_then (operated at.here at.span o (operand a.ty v) (operand b.ty w)))) now
 plain_run at binary.And a b other now = absurd (other refl)
 plain_run at binary.Or a b other now = absurd (other refl)
 plain_run at _ a b other now = refl
 
-plain_code : (structs : List StructInfo) (o : BinaryOperator) (a b : Coded) (t : ℕ) (r : Reg) → group_of o ≢ Logical →
+pub plain_code : (structs : List StructInfo) (o : BinaryOperator) (a b : Coded) (t : ℕ) (r : Reg) → group_of o ≢ Logical →
     binary_code structs o a b t r ≡ in_turn (first_waits left a.value b t r ∷ operated_code structs o a.ty b.ty r ∷ [])
 plain_code structs binary.And a b t r other = absurd (other refl)
 plain_code structs binary.Or a b t r other = absurd (other refl)
 plain_code structs _ a b t r other = refl
 
-plain_need : (o : BinaryOperator) (a b : ℕ) → group_of o ≢ Logical → both o a b ≡ waiting a b
+pub plain_need : (o : BinaryOperator) (a b : ℕ) → group_of o ≢ Logical → both o a b ≡ waiting a b
 plain_need binary.And a b other = absurd (other refl)
 plain_need binary.Or a b other = absurd (other refl)
 plain_need _ a b other = refl
