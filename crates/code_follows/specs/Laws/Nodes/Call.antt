@@ -30,7 +30,7 @@ use Rattle.gen_laws.specs.Laws.Computing.{Computes-is}
 use Rattle.sym_code.specs.declared.item.SymItem.{SymItem}
 use Rattle.sym_code.specs.declared.item.SymItem.TheVariants as item
 use Rattle.code_follows.specs.CallsGive.{CallsGive}
-use Rattle.code_follows.specs.Later.{Ran}
+use Rattle.code_follows.specs.Later.{AreBytes, Ran}
 use Rattle.code_follows.specs.Leaves.{value_leaves}
 use Rattle.code_follows.specs.Nodes.{AllFollow}
 use Rattle.code_follows.specs.Parts.{Result, On, Goes, ValueNode, coded_in, site_in}
@@ -62,30 +62,33 @@ some_ran f {now} {last} {b} is ran = subst (λ o. with_some o f now ≡ Goes' b 
 
 module _ (k : Scene) (give : CallsGive (given_in k).program k.bound) (same : k.here.program ≡ (given_in k).program) (depth : ℕ)
     (span around : Span) (ty : Ty) (vs : List Value) where
-  function_gives : (n : ℕ) (g : TFunction) (now last : MeaningState) (v : Value) →
+  function_gives : (n : ℕ) (g : TFunction) (now last : MeaningState) (v : Value) → AreBytes now.input →
       function_named (units_of (given_in k)) (function_of k.here.unit n) ≡ Some g →
       Ran (unit_then (call_effect (site_in k depth span around ty) (callee.Function n) vs)) now v last → IsOfType g.result v
-  function_gives n g now last v is ran =
-      give.gives k.here (function_of k.here.unit n) g vs (spent now) last v same is
+  function_gives n g now last v bytes is ran =
+      give.gives k.here (function_of k.here.unit n) g vs (spent now) last v same is bytes
       (Ran-unit (call_effect (site_in k depth span around ty) (callee.Function n) vs) now last v ran)
 
-  agreed_gives : (e : ExternInfo) (o : Option Function) (now last : MeaningState) (v : Value) →
-      ((f : Function) → o ≡ Some f → GivesAs k.here.program.units e f) → if_agrees (site_in k depth span around ty) vs o now ≡ Goes' v last → IsOfType e.result v
-  agreed_gives e None now last v each ran = absurd (cc)
-  agreed_gives e (Some f) now last v each ran =
+  agreed_gives : (e : ExternInfo) (o : Option Function) (now last : MeaningState) (v : Value) → AreBytes now.input →
+      ((f : Function) → o ≡ Some f → GivesAs k.here.program.units e f) →
+      if_agrees (site_in k depth span around ty) vs o now ≡ Goes' v last → IsOfType e.result v
+  agreed_gives e None now last v bytes each ran = absurd (cc)
+  agreed_gives e (Some f) now last v bytes each ran =
       let as_declared : GivesAs k.here.program.units e f = each f refl in
       as_declared.gives v
       (give.gives k.here f as_declared.function vs now last v same
-      (subst (λ p. function_named p.units f ≡ Some as_declared.function) same as_declared.function_is) (record { is = ran }))
+      (subst (λ p. function_named p.units f ≡ Some as_declared.function) same as_declared.function_is) bytes (record { is = ran }))
 
-  extern_gives : (n : ℕ) (e : ExternInfo) (now last : MeaningState) (v : Value) → extern_at k.here.program.units k.here.unit n ≡ Some e →
-      IsDefined k.here.program.units e.name → Ran (unit_then (call_effect (site_in k depth span around ty) (callee.Extern n) vs)) now v last → IsOfType e.result v
-  extern_gives n e now last v is defines ran =
+  extern_gives : (n : ℕ) (e : ExternInfo) (now last : MeaningState) (v : Value) → AreBytes now.input →
+      extern_at k.here.program.units k.here.unit n ≡ Some e → IsDefined k.here.program.units e.name →
+      Ran (unit_then (call_effect (site_in k depth span around ty) (callee.Extern n) vs)) now v last → IsOfType e.result v
+  extern_gives n e now last v bytes is defines ran =
       let units = k.here.program.units in
       let d = defines.definition in
       let run = Ran-unit (call_effect (site_in k depth span around ty) (callee.Extern n) vs) now last v ran in
-      let named : call_extern (site_in k depth span around ty) vs e (spent now) ≡ Goes' v last = some_ran (call_extern (site_in k depth span around ty) vs) is run.is in
-      agreed_gives e (called_as units k.here.unit e d) (spent now) last v (λ f agrees. gives-as units k.here.unit e d f agrees)
+      let named : call_extern (site_in k depth span around ty) vs e (spent now) ≡ Goes' v last =
+      some_ran (call_extern (site_in k depth span around ty) vs) is run.is in
+      agreed_gives e (called_as units k.here.unit e d) (spent now) last v bytes (λ f agrees. gives-as units k.here.unit e d f agrees)
       (some_ran (λ d. if_agrees (site_in k depth span around ty) vs (called_as units k.here.unit e d)) defines.is named)
 
 -- ---- what is called
@@ -139,7 +142,7 @@ module _ {k : Scene} {first : ℕ} {reg : Reg} {result : Result Value} {s : Stat
       (call_does scene (callee.Function n) (site_in k depth span around ty) vs
       (item_calls (item.CallFunction n) (callee.Function n) (λ acts. acts.acts) lies) refl on
       (subst (λ o. HasArguments (given_in k) now t 0 (types_of o) vs) (sym known) has))
-      (λ v last ran. function_gives k give same depth span around ty vs n g now last v here ran) more
+      (λ v last ran. function_gives k give same depth span around ty vs n g now last v on.came.comes.relates.outside.bytes here ran) more
   Goes-called {now = now} {t} f ts u vs (order.extern {k = n} {e} is none defines) can lies on has more =
       let same = on.came.comes.relates.injects.stands.program_is in
       let names = same_names scene same in
@@ -156,7 +159,7 @@ module _ {k : Scene} {first : ℕ} {reg : Reg} {result : Result Value} {s : Stat
       (call_does scene (callee.Extern n) (site_in k depth span around ty) vs
       (item_calls (item.CallExtern n) (callee.Extern n) (λ acts. acts.acts) lies) refl on
       (subst (λ o. HasArguments (given_in k) now t 0 (types_of_extern o) vs) (sym known) has))
-      (λ v last ran. extern_gives k give same depth span around ty vs n e now last v here defined_here ran) more
+      (λ v last ran. extern_gives k give same depth span around ty vs n e now last v on.came.comes.relates.outside.bytes here defined_here ran) more
   Goes-called f ts u vs order.putchar can lies on has more = Goes-putchar scene vs lies on has more
   Goes-called f ts u vs order.getchar can lies on has more = Goes-getchar scene lies on more
 
