@@ -12,4 +12,5 @@ use Rattle.code_follows.specs.Values.{IsOfType}
 -- expressions are.
 pub record CallsGive (p : Program) (bound : ℕ) : Type 0 where
   pub gives : (here : Context) (f : Function) (g : TFunction) (vs : List Value) (now later : MeaningState) (v : Value) →
-      here.program ≡ p → function_named p.units f ≡ Some g → AreBytes now.input → Ran (calls_at bound here f vs) now v later → IsOfType g.result v
+      here.program ≡ p → function_named p.units f ≡ Some g → AreBytes now.input →
+      Ran (calls_at bound here f vs) now v later → IsOfType g.result v

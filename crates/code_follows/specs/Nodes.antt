@@ -22,10 +22,10 @@ use Rattle.block_meaning.specs.ExpressionsInOrder.{CompoundTypes, Converts, Call
 use Rattle.block_meaning.specs.Linkage.{extern_at}
 use Rattle.block_meaning.specs.Locals.{text_of}
 use Rattle.gen_laws.specs.Computes.{IsOf}
-use Rattle.code_follows.specs.Covered.{computes_in, operates_in, combines_in, leaves}
+use Rattle.code_follows.specs.Covered.{computes_in, operates_in, divides_by, combines_in, leaves}
 use Rattle.code_follows.specs.Leaves.{bare_leaves}
 use Rattle.code_follows.specs.Parts.{ValueFollows, PlaceFollows, ValueNode, PlaceNode}
-use Rattle.code_follows.specs.Scene.{Scene}
+use Rattle.code_follows.specs.Scene.{Scene, structs_in}
 
 -- the code of each of some expressions does what it means
 abbrev pub AllFollow : Scene → ℕ → List TExpr → Type 0
@@ -43,7 +43,8 @@ pub record ValueNodes (k : Scene) (depth : ℕ) : Type 0 where
   pub logical : (o : BinaryOperator) (a b : TExpr) → group_of o ≡ Logical → ValueFollows k depth a → is_scalar a.ty ≡ true →
       ValueFollows k depth b → is_scalar b.ty ≡ true → ValueNode k depth int_type (TNode-F.Binary o a b)
   pub operated : (o : BinaryOperator) (a b : TExpr) (t : Ty) → ValueFollows k depth a → ValueFollows k depth b →
-      BinaryTypes o a.ty b.ty t → operates_in a.ty b.ty ≡ true → ValueNode k depth t (TNode-F.Binary o a b)
+      BinaryTypes o a.ty b.ty t → operates_in a.ty b.ty ≡ true → divides_by (structs_in k) o a.ty b.ty ≡ true →
+      ValueNode k depth t (TNode-F.Binary o a b)
   pub assigned : (a b : TExpr) → PlaceFollows k depth a → ValueFollows k depth b → b.ty ≡ a.ty → is_struct a.ty ≡ false →
       ValueNode k depth a.ty (TNode-F.Assign None a b)
   pub compound : (o : AssignOperator) (a b : TExpr) → PlaceFollows k depth a → ValueFollows k depth b → CompoundTypes o a.ty b.ty →

@@ -38,8 +38,8 @@ AreKept k t now s (e ∷ es) (v ∷ vs) =
     (number : ℕ) × HasTemp k t number s × ValueIs (given_in k) e.ty v now number × AreKept k (suc t) now s es vs
 AreKept k t now s _ _ = ⊥
 
--- Some arguments are still to be evaluated, while so many wait in temps from the first one on: there are temps for all of them, and for what
--- they need.
+-- Some arguments are still to be evaluated, while so many wait in temps from the first one on: there are temps for all of them, and for
+-- what they need.
 pub record HasTemps (k : Scene) (first : ℕ) (reg : Reg) (waiting : ℕ) (es : List TExpr) : Type 0 where
   pub low : 9 ≤ reg.0
   pub high : reg.0 ≤ 15
@@ -135,7 +135,8 @@ module _ {C : Type 0} {k : Scene} {first : ℕ} {reg : Reg} {result : Result C} 
   pub Goes-arguments : (es : List TExpr) (waiting t : ℕ) {a : Account} {spare from middle : ℕ} {f : List Value → Run C} {now : MeaningState}
       {u : State} → AllFollow k depth es → t ≡ first + waiting → HasTemps k first reg waiting es →
       Lies k (keep_arguments t reg (map (coded_in k) es)) from middle → On k first reg false s from a 0 spare now u →
-      ((vs : List Value) (last : MeaningState) (w : State) (c : Account) → On k first reg false s middle c 0 (spare + 3 * length es) last w →
+      ((vs : List Value) (last : MeaningState) (w : State) (c : Account) →
+      On k first reg false s middle c 0 (spare + 3 * length es) last w →
       AreKept k t last w es vs → KeepsFrom (units_of (given_in k)) t u w k.here.open_calls → IsLater now last →
       Goes k first reg false result s to leaves c (f vs) last w) →
       Goes k first reg false result s to leaves a (and_then (all_of (map (run_of k depth) es)) f) now u
@@ -155,8 +156,8 @@ module _ {C : Type 0} {k : Scene} {first : ℕ} {reg : Reg} {result : Result C} 
       (λ v then w n came gave ran.
       Goes-keeps-at t (spare + 3) (omega (arith, is)) temp temps.high (Lies-plain (keep t reg) two.front) came (omega arith)
       (λ x q has kept moved_on.
-      Goes-arguments es (waiting + 1) (suc t) {f = λ vs. f (v ∷ vs)} all.1 (omega (arith, is)) (HasTemps-next waiting e es temps) three.front
-      moved_on
+      Goes-arguments es (waiting + 1) (suc t) {f = λ vs. f (v ∷ vs)} all.1 (omega (arith, is)) (HasTemps-next waiting e es temps)
+      three.front moved_on
       (λ vs last y c done rest keeps is_later.
       more (v ∷ vs) last y c (On-at (Lies-none three.back) (On-spare _ (omega arith) done))
       (w.register reg.0, HasTemp-kept keeps has, ValueIs-later came.came.comes.relates.injects.stands is_later gave.result_is, rest)

@@ -41,8 +41,8 @@ covering-is e =
     ∙ ap (λ (n : NodeCovering). expr_covering (record { span = e.span; ty = e.ty; node = n }))
     (fold_out-TNode NodeCovering Covering node_covering expr_covering e.node)
 
-pub covered-is : (e : TExpr) → covered e ≡ layer_covered (out-TNode e.node) e.ty
-covered-is e = ap (λ c. c.is) (covering-is e)
+pub covered-is : (structs : List StructInfo) (e : TExpr) → covered structs e ≡ layer_covered structs (out-TNode e.node) e.ty
+covered-is structs e = ap (λ c. c.is structs) (covering-is e)
 
 pub covering-ty : (e : TExpr) → (covering e).ty ≡ e.ty
 covering-ty e = ap (λ c. c.ty) (covering-is e)

@@ -1,22 +1,25 @@
 -- The code of each expression that is covered does what it means, where that of each node does (this project's own). By the number of
 -- levels, and the derivation that the expression is in order.
-use Rattle.std.specs.Prelude.{◌≡◌, ℕ, zero, suc, Bool, true, false, nat_le, nat_lt, ◌<◌, ◌≤◌, ◌&&◌, not, if◌then◌else◌, List, [], ◌∷◌, length, map, refl}
+use Rattle.std.specs.Prelude.{◌≡◌, ℕ, zero, suc, Bool, true, false, nat_le, nat_lt, ◌<◌, ◌≤◌, ◌&&◌, not, if◌then◌else◌}
+use Rattle.std.specs.Prelude.{List, [], ◌∷◌, length, map, refl}
 use Rattle.std.proofs.Common.{arith, ap, sym, subst, ◌∙◌}
 use Rattle.std.proofs.lemmas.Bool.{eqb-true}
 use Rattle.std.proofs.lemmas.Bool.Decides.{nat_tests}
 use Rattle.c_ast.specs.declared.operator.AssignOperator.{AssignOperator}
+use Rattle.c_ast.specs.declared.operator.BinaryOperator.{BinaryOperator}
 use Rattle.c_ast.specs.declared.operator.UnaryOperator.{UnaryOperator}
 use Rattle.c_type_base.specs.Types.{is_struct}
 use Rattle.c_type_base.specs.declared.expr.TExpr.{TExpr}
 use Rattle.c_type_base.specs.declared.expr.TNode.{out-TNode}
 use Rattle.c_type_base.specs.declared.ty.Ty.{Ty}
+use Rattle.c_type_base.specs.declared.typed.StructInfo.{StructInfo}
 use Rattle.frame_layout.specs.Needs.{need}
 use Rattle.block_meaning.specs.Running.{stuck}
 use Rattle.gen_expr.specs.Coded.{Emits}
 use Rattle.block_meaning.specs.Expressions.{NodeLayer, parts_at}
 use Rattle.block_meaning.specs.ExpressionsInOrder as order
 use Rattle.block_meaning.specs.ExpressionsInOrder.{Scope, HasValue, Designates, Arguments, is_sign}
-use Rattle.code_follows.specs.Covered.{computes_in, operates_in, combines_in, all_covered, covering, covered, layer_covered}
+use Rattle.code_follows.specs.Covered.{computes_in, operates_in, divides_by, combines_in, all_covered, covering, covered, layer_covered}
 use Rattle.code_follows.specs.Covered.{layer_leaves, leaves}
 use Rattle.code_follows.specs.Nodes.{AllFollow, Nodes}
 use Rattle.code_follows.specs.Layers.{layer_code, layer_need}
@@ -29,6 +32,11 @@ use Rattle.code_follows.specs.Laws.Layers.{coded-is, need-is, covered-is, coveri
 operated_types : (a b : TExpr) → operates_in (covering a).ty (covering b).ty ≡ true → operates_in a.ty b.ty ≡ true
 operated_types a b is =
     sym (ap (λ s. operates_in s (covering b).ty) (covering-ty a) ∙ ap (λ t. operates_in a.ty t) (covering-ty b)) ∙ is
+
+divided_types : (structs : List StructInfo) (o : BinaryOperator) (a b : TExpr) →
+    divides_by structs o (covering a).ty (covering b).ty ≡ true → divides_by structs o a.ty b.ty ≡ true
+divided_types structs o a b is =
+    sym (ap (λ s. divides_by structs o s (covering b).ty) (covering-ty a) ∙ ap (λ t. divides_by structs o a.ty t) (covering-ty b)) ∙ is
 
 combined_types : (o : AssignOperator) (a b : TExpr) → combines_in o (covering a).ty (covering b).ty ≡ true → combines_in o a.ty b.ty ≡ true
 combined_types o a b is =
@@ -64,81 +72,98 @@ few_arguments es is = let few : length (map covering es) ≤ 8 = le_of is in ome
 
 -- ---- what is left of the bound
 
-least_by : {s : Scope} (t : Ty) (l : NodeLayer) → HasValue s t l → layer_covered l t ≡ true → bare_leaves ≤ layer_leaves l
-least_by t l (order.paren {e} d) cov =
-    subst (λ n. bare_leaves ≤ n) (sym (leaves-is e)) (least_by t (out-TNode e.node) d (sym (covered-is e) ∙ cov))
-least_by t l (order.convert {e} d types) cov =
-    let under : bare_leaves < leaves e = lt_of (first_of (nat_lt bare_leaves (leaves e)) (covered e) cov) in omega (arith, under)
-least_by t l d cov = omega arith
+least_by : {s : Scope} (structs : List StructInfo) (t : Ty) (l : NodeLayer) → HasValue s t l →
+    layer_covered structs l t ≡ true → bare_leaves ≤ layer_leaves l
+least_by structs t l (order.paren {e} d) cov =
+    subst (λ n. bare_leaves ≤ n) (sym (leaves-is e)) (least_by structs t (out-TNode e.node) d (sym (covered-is structs e) ∙ cov))
+least_by structs t l (order.convert {e} d types) cov =
+    let under : bare_leaves < leaves e = lt_of (first_of (nat_lt bare_leaves (leaves e)) (covered structs e) cov) in omega (arith, under)
+least_by structs t l d cov = omega arith
 
-least_of : {s : Scope} (e : TExpr) → HasValue s e.ty (out-TNode e.node) → covered e ≡ true → bare_leaves ≤ leaves e
-least_of e d cov =
-    subst (λ n. bare_leaves ≤ n) (sym (leaves-is e)) (least_by e.ty (out-TNode e.node) d (sym (covered-is e) ∙ cov))
+least_of : {s : Scope} (structs : List StructInfo) (e : TExpr) → HasValue s e.ty (out-TNode e.node) → covered structs e ≡ true →
+    bare_leaves ≤ leaves e
+least_of structs e d cov =
+    subst (λ n. bare_leaves ≤ n) (sym (leaves-is e)) (least_by structs e.ty (out-TNode e.node) d (sym (covered-is structs e) ∙ cov))
+
+-- in the file of the function
+abbrev pub covered_in : Scene → TExpr → Bool
+covered_in k e = covered (structs_in k) e
 
 -- what is shown with so many levels below
 pub record Below (k : Scene) (depth : ℕ) : Type 0 where
-  pub value : (e : TExpr) → HasValue k.scope e.ty (out-TNode e.node) → covered e ≡ true → ValueFollows k depth e
-  pub place : (e : TExpr) → Designates k.scope e.ty (out-TNode e.node) → covered e ≡ true → PlaceFollows k depth e
+  pub value : (e : TExpr) → HasValue k.scope e.ty (out-TNode e.node) → covered_in k e ≡ true → ValueFollows k depth e
+  pub place : (e : TExpr) → Designates k.scope e.ty (out-TNode e.node) → covered_in k e ≡ true → PlaceFollows k depth e
 
 module _ {k : Scene} {depth : ℕ} (nodes : Nodes k) (below : Below k depth) where
-  all_value : (es : List TExpr) (ts : List Ty) → Arguments k.scope es ts → all_covered (map covering es) ≡ true → AllFollow k depth es
+  all_value : (es : List TExpr) (ts : List Ty) → Arguments k.scope es ts → all_covered (structs_in k) (map covering es) ≡ true →
+      AllFollow k depth es
   all_value es ts order.no_argument cov = tt
   all_value es ts (order.argument {e} {es = more} {ts = types} d ds) cov = (
-    below.value e d (first_of (covered e) (all_covered (map covering more)) cov),
-    all_value more types ds (second_of (covered e) (all_covered (map covering more)) cov),
+    below.value e d (first_of (covered_in k e) (all_covered (structs_in k) (map covering more)) cov),
+    all_value more types ds (second_of (covered_in k e) (all_covered (structs_in k) (map covering more)) cov),
   )
 
-  value_by : (t : Ty) (l : NodeLayer) → HasValue k.scope t l → layer_covered l t ≡ true → ValueNode k depth t l
+  value_by : (t : Ty) (l : NodeLayer) → HasValue k.scope t l → layer_covered (structs_in k) l t ≡ true → ValueNode k depth t l
   value_by t l (order.constant {n} {i}) cov = (nodes.values depth).constant n i (eqb-true _ _ cov)
   value_by t l (order.paren {e} d) cov = (nodes.values depth).paren e (below.value e d cov)
   value_by t l (order.address {e} d) cov = (nodes.values depth).address e (below.place e d cov)
   value_by t l (order.denied {e} d is) cov = (nodes.values depth).denied e (below.value e d cov) is
   value_by t l (order.signed {o} {e} sign d is) cov =
-      (nodes.values depth).signed o e sign (below.value e d (second_of _ (covered e) cov)) is
-      (sign_computes o t sign (first_of (if is_sign o then computes_in t else true) (covered e) cov))
+      (nodes.values depth).signed o e sign (below.value e d (second_of _ (covered_in k e) cov)) is
+      (sign_computes o t sign (first_of (if is_sign o then computes_in t else true) (covered_in k e) cov))
   value_by t l (order.logical {o} {a} {b} group d is x its) cov =
-      let both : (covered a && covered b) ≡ true = second_of (operates_in (covering a).ty (covering b).ty) (covered a && covered b) cov in
-      (nodes.values depth).logical o a b group (below.value a d (first_of (covered a) (covered b) both)) is
-      (below.value b x (second_of (covered a) (covered b) both)) its
+      let both : (covered_in k a && covered_in k b) ≡ true =
+      second_of (operates_in (covering a).ty (covering b).ty && divides_by (structs_in k) o (covering a).ty (covering b).ty)
+      (covered_in k a && covered_in k b) cov in
+      (nodes.values depth).logical o a b group (below.value a d (first_of (covered_in k a) (covered_in k b) both)) is
+      (below.value b x (second_of (covered_in k a) (covered_in k b) both)) its
   value_by t l (order.operated {o} {a} {b} d x types) cov =
-      let both : (covered a && covered b) ≡ true = second_of (operates_in (covering a).ty (covering b).ty) (covered a && covered b) cov in
-      (nodes.values depth).operated o a b t (below.value a d (first_of (covered a) (covered b) both))
-      (below.value b x (second_of (covered a) (covered b) both)) types
-      (operated_types a b (first_of (operates_in (covering a).ty (covering b).ty) (covered a && covered b) cov))
+      let operates : Bool = operates_in (covering a).ty (covering b).ty in
+      let divides : Bool = divides_by (structs_in k) o (covering a).ty (covering b).ty in
+      let sorts : (operates && divides) ≡ true = first_of (operates && divides) (covered_in k a && covered_in k b) cov in
+      let both : (covered_in k a && covered_in k b) ≡ true =
+      second_of (operates_in (covering a).ty (covering b).ty && divides_by (structs_in k) o (covering a).ty (covering b).ty)
+      (covered_in k a && covered_in k b) cov in
+      (nodes.values depth).operated o a b t (below.value a d (first_of (covered_in k a) (covered_in k b) both))
+      (below.value b x (second_of (covered_in k a) (covered_in k b) both)) types
+      (operated_types a b (first_of operates divides sorts)) (divided_types (structs_in k) o a b (second_of operates divides sorts))
   value_by t l (order.assigned {a} {b} d x same) cov =
-      let both : (covered a && covered b) ≡ true = second_of (not (is_struct a.ty) && true) (covered a && covered b) cov in
-      (nodes.values depth).assigned a b (below.place a d (first_of (covered a) (covered b) both))
-      (below.value b x (second_of (covered a) (covered b) both)) same
+      let both : (covered_in k a && covered_in k b) ≡ true =
+      second_of (not (is_struct a.ty) && true) (covered_in k a && covered_in k b) cov in
+      (nodes.values depth).assigned a b (below.place a d (first_of (covered_in k a) (covered_in k b) both))
+      (below.value b x (second_of (covered_in k a) (covered_in k b) both)) same
       (is_false (is_struct a.ty) (first_of (not (is_struct a.ty)) true
-      (first_of (not (is_struct a.ty) && true) (covered a && covered b) cov)))
+      (first_of (not (is_struct a.ty) && true) (covered_in k a && covered_in k b) cov)))
   value_by t l (order.compound {o} {a} {b} d x types) cov =
       let combines : Bool = combines_in o (covering a).ty (covering b).ty in
-      let both : (covered a && covered b) ≡ true = second_of (not (is_struct a.ty) && combines) (covered a && covered b) cov in
-      (nodes.values depth).compound o a b (below.place a d (first_of (covered a) (covered b) both))
-      (below.value b x (second_of (covered a) (covered b) both)) types
+      let both : (covered_in k a && covered_in k b) ≡ true =
+      second_of (not (is_struct a.ty) && combines) (covered_in k a && covered_in k b) cov in
+      (nodes.values depth).compound o a b (below.place a d (first_of (covered_in k a) (covered_in k b) both))
+      (below.value b x (second_of (covered_in k a) (covered_in k b) both)) types
       (combined_types o a b (second_of (not (is_struct a.ty)) combines
-      (first_of (not (is_struct a.ty) && combines) (covered a && covered b) cov)))
+      (first_of (not (is_struct a.ty) && combines) (covered_in k a && covered_in k b) cov)))
   value_by t l (order.chosen {c} {a} {b} d is x a_is y b_is) cov =
-      let both : (covered a && covered b) ≡ true = second_of (covered c) (covered a && covered b) cov in
-      (nodes.values depth).chosen c a b t (below.value c d (first_of (covered c) (covered a && covered b) cov)) is
-      (below.value a x (first_of (covered a) (covered b) both)) a_is (below.value b y (second_of (covered a) (covered b) both)) b_is
+      let both : (covered_in k a && covered_in k b) ≡ true = second_of (covered_in k c) (covered_in k a && covered_in k b) cov in
+      (nodes.values depth).chosen c a b t (below.value c d (first_of (covered_in k c) (covered_in k a && covered_in k b) cov)) is
+      (below.value a x (first_of (covered_in k a) (covered_in k b) both)) a_is
+      (below.value b y (second_of (covered_in k a) (covered_in k b) both)) b_is
   value_by t l (order.cast {e = e} d types) cov = (nodes.values depth).cast t e (below.value e d cov) types
   value_by t l (order.cast_to_void {e = e} d is) cov = (nodes.values depth).cast_to_void t e (below.value e d cov) is
   value_by t l (order.size_of {e}) cov = (nodes.values depth).size_of e
   value_by t l (order.size_of_type {t = other}) cov = (nodes.values depth).size_of_type other
   value_by t l (order.call {f} {es} {ts} callable ds) cov =
       (nodes.values depth).call f es ts t callable ds
-      (few_arguments es (first_of (nat_le (length (map covering es)) 8) (all_covered (map covering es)) cov))
-      (all_value es ts ds (second_of (nat_le (length (map covering es)) 8) (all_covered (map covering es)) cov))
+      (few_arguments es (first_of (nat_le (length (map covering es)) 8) (all_covered (structs_in k) (map covering es)) cov))
+      (all_value es ts ds (second_of (nat_le (length (map covering es)) 8) (all_covered (structs_in k) (map covering es)) cov))
   value_by t l (order.step {o} {e} d is) cov = (nodes.values depth).step o e (below.place e d cov) is
   value_by t l (order.read {e} d is) cov = (nodes.values depth).read e (below.place e d cov) is
   value_by t l (order.decay {e} {t = element} d is) cov = (nodes.values depth).decay e element (below.place e d cov) is
   value_by t l (order.convert {e} d types) cov =
-      (nodes.values depth).convert e t (below.value e d (second_of (nat_lt bare_leaves (leaves e)) (covered e) cov)) types
-      (lt_of (first_of (nat_lt bare_leaves (leaves e)) (covered e) cov))
+      (nodes.values depth).convert e t (below.value e d (second_of (nat_lt bare_leaves (leaves e)) (covered_in k e) cov)) types
+      (lt_of (first_of (nat_lt bare_leaves (leaves e)) (covered_in k e) cov))
   value_by t l (order.member_value d has is) cov = absurd (cc)
 
-  place_by : (t : Ty) (l : NodeLayer) → Designates k.scope t l → layer_covered l t ≡ true → PlaceNode k depth t l
+  place_by : (t : Ty) (l : NodeLayer) → Designates k.scope t l → layer_covered (structs_in k) l t ≡ true → PlaceNode k depth t l
   place_by t l (order.text {k = n} {bytes} is) cov = (nodes.places depth).text n bytes is
   place_by t l (order.local {k = n} {l = info} among is) cov = (nodes.places depth).local n info among is
   place_by t l (order.global {k = n} {g} is) cov = (nodes.places depth).global n g is
@@ -146,24 +171,25 @@ module _ {k : Scene} {depth : ℕ} (nodes : Nodes k) (below : Below k depth) whe
   place_by t l (order.paren_place {e} d) cov = (nodes.places depth).paren e (below.place e d cov)
   place_by t l (order.target {e} d is) cov = (nodes.places depth).target e t (below.value e d cov) is
   place_by t l (order.element {a} {i} d is x its) cov =
-      (nodes.places depth).element a i t (below.value a d (first_of (covered a) (covered i) cov)) is
-      (below.value i x (second_of (covered a) (covered i) cov)) its
+      (nodes.places depth).element a i t (below.value a d (first_of (covered_in k a) (covered_in k i) cov)) is
+      (below.value i x (second_of (covered_in k a) (covered_in k i) cov)) its
   place_by t l (order.element_of_second {i} {a} x its d is) cov =
-      (nodes.places depth).element_of_second i a t (below.value i x (first_of (covered i) (covered a) cov)) its
-      (below.value a d (second_of (covered i) (covered a) cov)) is
+      (nodes.places depth).element_of_second i a t (below.value i x (first_of (covered_in k i) (covered_in k a) cov)) its
+      (below.value a d (second_of (covered_in k i) (covered_in k a) cov)) is
   place_by t l (order.member d has) cov = absurd (cc)
   place_by t l (order.arrow d is has) cov = absurd (cc)
   place_by t l (order.struct_assigned {a} {b} d x same is) cov =
       let other : is_struct a.ty ≡ false = is_false (is_struct a.ty) (first_of (not (is_struct a.ty)) true
-      (first_of (not (is_struct a.ty) && true) (covered a && covered b) cov)) in
+      (first_of (not (is_struct a.ty) && true) (covered_in k a && covered_in k b) cov)) in
       absurd (cc)
 
   -- one level more
   one_more : Below k (suc depth)
   unfolding out-TNode
   one_more = record {
-    value = λ e d cov. value_of e (least_of e d cov) (value_by e.ty (out-TNode e.node) d (sym (covered-is e) ∙ cov));
-    place = λ e d cov. place_of e (place_by e.ty (out-TNode e.node) d (sym (covered-is e) ∙ cov));
+    value = λ e d cov. value_of e (least_of (structs_in k) e d cov)
+        (value_by e.ty (out-TNode e.node) d (sym (covered-is (structs_in k) e) ∙ cov));
+    place = λ e d cov. place_of e (place_by e.ty (out-TNode e.node) d (sym (covered-is (structs_in k) e) ∙ cov));
   }
     where
       value_of : (e : TExpr) → bare_leaves ≤ leaves e → ValueNode k depth e.ty (out-TNode e.node) → ValueFollows k (suc depth) e
@@ -194,7 +220,7 @@ Part-stuck = Part-by (λ first reg from to free lies a now s on. Goes-stuck)
 
 none : (k : Scene) → Below k zero
 none k = record {
-  value = λ e d cov. record { least = least_of e d cov; around = λ span. record { part = Part-stuck } };
+  value = λ e d cov. record { least = least_of (structs_in k) e d cov; around = λ span. record { part = Part-stuck } };
   place = λ e d cov. record {
     part = record {
       place = Part-stuck;

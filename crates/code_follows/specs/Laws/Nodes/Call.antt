@@ -130,7 +130,6 @@ module _ {k : Scene} {first : ℕ} {reg : Reg} {result : Result Value} {s : Stat
       Goes k first reg false result s to leaves a (unit_then (call_effect (site_in k depth span around ty) f vs)) now t
   Goes-called {now = now} {t} f ts u vs (order.function {k = n} {f = g} is) can lies on has more =
       let same = on.came.comes.relates.injects.stands.program_is in
-      let names = same_names scene same in
       let count : length vs ≡ length ts = arguments_length (given_in k) now t 0 ts vs has in
       let known : function_named (units_of (given_in k)) (function_of k.function.unit n) ≡ Some g =
       sym (ap (λ p. function_named p.units (function_of k.scope.unit n)) scene.of_scope.program_is
@@ -159,7 +158,9 @@ module _ {k : Scene} {first : ℕ} {reg : Reg} {result : Result Value} {s : Stat
       (call_does scene (callee.Extern n) (site_in k depth span around ty) vs
       (item_calls (item.CallExtern n) (callee.Extern n) (λ acts. acts.acts) lies) refl on
       (subst (λ o. HasArguments (given_in k) now t 0 (types_of_extern o) vs) (sym known) has))
-      (λ v last ran. extern_gives k give same depth span around ty vs n e now last v on.came.comes.relates.outside.bytes here defined_here ran) more
+      (λ v last ran.
+      extern_gives k give same depth span around ty vs n e now last v on.came.comes.relates.outside.bytes here defined_here ran)
+      more
   Goes-called f ts u vs order.putchar can lies on has more = Goes-putchar scene vs lies on has more
   Goes-called f ts u vs order.getchar can lies on has more = Goes-getchar scene lies on more
 

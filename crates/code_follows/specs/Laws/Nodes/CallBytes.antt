@@ -164,7 +164,8 @@ put_number g now s (NoValue ∷ []) has = absurd (has.0)
 
 -- ---- what the meaning takes
 
-taken_byte : (now : MeaningState) (b : ℕ) (bs : List ℕ) → now.input ≡ b ∷ bs → take_byte now ≡ Goes' (Number b) (exchanged bs now.output now)
+taken_byte : (now : MeaningState) (b : ℕ) (bs : List ℕ) → now.input ≡ b ∷ bs →
+    take_byte now ≡ Goes' (Number b) (exchanged bs now.output now)
 taken_byte now b bs is = rw is refl
 
 taken_end : (now : MeaningState) → now.input ≡ [] → take_byte now ≡ Goes' (Number (2 ^ 64 - 1)) (exchanged [] now.output now)
@@ -215,7 +216,8 @@ module _ {k : Scene} {first : ℕ} {reg : Reg} {result : Result Value} {s : Stat
       by_input [] is owing =
           let outside = on.came.comes.relates.outside in
           let answers : t.outside.answers ≡ [] = outside.input ∙ ap (map Some) is in
-          Goes-serves {n = gives (Number (2 ^ 64 - 1))} (Svc 2) (next_number t.outside.answers) (after_next t.outside) [] now.output 8 one.has
+          Goes-serves {n = gives (Number (2 ^ 64 - 1))} (Svc 2) (next_number t.outside.answers) (after_next t.outside) [] now.output 8
+          one.has
           (byte_taken t outside.takes)
           (record {
             output = outside.output;

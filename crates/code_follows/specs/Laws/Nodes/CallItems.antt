@@ -67,7 +67,8 @@ module _ {k : Scene} {first : ℕ} {reg : Reg} {result : Result Value} {s : Stat
       looser = record { least = omega (arith, on.least); most = omega (arith, on.most) }
 
       by_outcome : (r : Outcome MeaningState Stop Value) → outcome_of (m now) ≡ r →
-          Case (setting k.code) (later 0 (opened (setting k.code) now.work)) (λ v. call_room vs) t (Returns (given_in k) middle k.here t) r →
+          Case (setting k.code) (later 0 (opened (setting k.code) now.work)) (λ v. call_room vs) t
+          (Returns (given_in k) middle k.here t) r →
           Bounded (setting k.code) a (λ v. sparing leaves) t (Gave k first reg false result s to) r
       by_outcome (Completes v then) is does =
           let back = does.there in

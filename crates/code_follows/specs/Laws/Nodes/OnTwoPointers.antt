@@ -217,8 +217,8 @@ module _ {k : Scene} (scene : IsScene k) where
               ∙ ap (λ n. difference_known k.here span (if nat_eq one.pointer.block two.pointer.block
               then Some (apart one.pointer two.pointer n) else None) now)
               (target_here scene s u of both.relates)
-              ∙ ap (λ b. difference_known k.here span (if b then Some (apart one.pointer two.pointer (size (structs_in k) u)) else None) now)
-              is
+              ∙ ap (λ b. difference_known k.here span (if b
+              then Some (apart one.pointer two.pointer (size (structs_in k) u)) else None) now) is
 
           by_block : (same : Bool) → nat_eq one.pointer.block two.pointer.block ≡ same →
               DoesBeside (ValueIs (given_in k) (ty.Int int.Long)) (on_two_pointers binary.Subtract (wrapped_size (structs_in k) u) reg) reg

@@ -1,5 +1,5 @@
 -- The code of an operator with a pointer among its operands does what it means (ISO C11 6.5.6, 6.5.8, 6.5.9).
-use Rattle.std.specs.Prelude.{◌≡◌, ◌≢◌, ℕ, ◌^◌, ◌<◌, Bool, true, false, ◌||◌, List, [], ◌∷◌, Some, None, refl}
+use Rattle.std.specs.Prelude.{◌≡◌, ◌≢◌, ℕ, nat_lt, not, ◌^◌, ◌<◌, Bool, true, false, ◌||◌, List, [], ◌∷◌, Some, None, refl}
 use Rattle.std.proofs.Common.{arith, ap, sym, subst, ◌∙◌}
 use Rattle.c_ast.specs.declared.int_type.IntType.TheVariants as int
 use Rattle.c_ast.specs.declared.operator.BinaryOperator.{BinaryOperator}
@@ -11,6 +11,9 @@ use Rattle.c_type_base.specs.declared.expr.TExpr.{TExpr}
 use Rattle.c_type_base.specs.declared.expr.TNode.TheOpen.{TNode-F}
 use Rattle.c_type_base.specs.declared.ty.Ty.{Ty}
 use Rattle.c_type_base.specs.declared.ty.Ty.TheVariants as ty
+use Rattle.c_type_base.specs.declared.typed.StructInfo.{StructInfo}
+use Rattle.std.proofs.lemmas.Bool.Decides.{nat_tests}
+use Rattle.code_follows.specs.Covered.{fits_register, divides_by}
 use Rattle.a64_code.specs.declared.instr.Instr.{Instr}
 use Rattle.a64_code.specs.declared.instr.Reg.{Reg}
 use Rattle.frame_layout.specs.Needs.{need}
@@ -151,17 +154,22 @@ pointers_follow k scene waits depth o a b t first second on =
 
 -- ---- from what is known of trees in order
 
--- what two pointers that are subtracted point to has a number of bytes that a register holds
-abbrev pub DistanceFits : Scene → BinaryOperator → Ty → Type 0
-DistanceFits k binary.Subtract s = (u : Ty) → target_of s ≡ Some u → size (structs_in k) u < 2 ^ 64
-DistanceFits k o s = Unit {0}
+fits_of : (structs : List StructInfo) (s t u : Ty) → is_pointer t ≡ true → target_of s ≡ Some u →
+    divides_by structs binary.Subtract s t ≡ true → size structs u < 2 ^ 64
+fits_of structs s t u pointer of divides =
+    less (size structs u)
+    (sym (ap (λ b. not b || fits_register structs (target_of s)) pointer ∙ ap (λ o. fits_register structs o) of) ∙ divides)
+  where
+    less : (n : ℕ) → nat_lt n (2 ^ 64) ≡ true → n < 2 ^ 64
+    less n is = grind (arith, nat_tests)
 
 -- the types of the operands are integers, or one is a pointer
 pub data OperandTypes (k : Scene) (o : BinaryOperator) (s t u : Ty) : Type 0 where
   both_integers : is_integer s ≡ true → is_integer t ≡ true → OperandTypes k o s t u
   some_pointer : OnPointers k o s t u → OperandTypes k o s t u
 
-operand_types : {k : Scene} {o : BinaryOperator} {s t u : Ty} → BinaryTypes o s t u → DistanceFits k o s → OperandTypes k o s t u
+operand_types : {k : Scene} {o : BinaryOperator} {s t u : Ty} → BinaryTypes o s t u →
+    divides_by (structs_in k) o s t ≡ true → OperandTypes k o s t u
 operand_types (order.arithmetic group is) fits = both_integers is is
 operand_types (order.shift group is its) fits = both_integers is its
 operand_types {k} (order.comparison {o} {t} group is) fits = by_kind (is_integer t) refl (is_pointer t) refl is
@@ -174,11 +182,12 @@ operand_types {k} (order.comparison {o} {t} group is) fits = by_kind (is_integer
 operand_types (order.added {s} {t} is its) fits = let to = points_to s is in some_pointer (added to.is its)
 operand_types (order.added_to {s} {t} is its) fits = let to = points_to t its in some_pointer (added_to is to.is)
 operand_types (order.taken {s} {t} is its) fits = let to = points_to s is in some_pointer (taken to.is its)
-operand_types (order.distance {t} is) fits = let to = points_to t is in some_pointer (distance to.is (fits to.target to.is))
+operand_types {k} (order.distance {t} is) fits =
+    let to = points_to t is in some_pointer (distance to.is (fits_of (structs_in k) t t to.target is to.is fits))
 
--- An operator in order follows where it does on two integers, and where what pointers point to that are subtracted is not too large.
+-- An operator in order follows where it does on two integers.
 pub operated_on : (k : Scene) → IsScene k → WaitingLaws k → (depth : ℕ) (o : BinaryOperator) (a b : TExpr) (t : Ty) →
-    ValueFollows k depth a → ValueFollows k depth b → BinaryTypes o a.ty b.ty t → DistanceFits k o a.ty →
+    ValueFollows k depth a → ValueFollows k depth b → BinaryTypes o a.ty b.ty t → divides_by (structs_in k) o a.ty b.ty ≡ true →
     (is_integer a.ty ≡ true → is_integer b.ty ≡ true → ValueNode k depth t (TNode-F.Binary o a b)) →
     ValueNode k depth t (TNode-F.Binary o a b)
 operated_on k scene waits depth o a b t first second types fits integers = by_kind (operand_types types fits)
