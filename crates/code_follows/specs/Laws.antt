@@ -3,6 +3,7 @@ pub mod Lying
 pub mod Walking
 pub mod Lasting
 pub mod Keeping
+pub mod Giving
 pub mod Coming
 pub mod Going
 pub mod Here
