@@ -29,7 +29,7 @@ use Rattle.code_follows.specs.Scene.{Scene, calls_in, structs_in, frame_in}
 use Rattle.code_follows.specs.Laws.Going.{Goes-stuck, Part-by}
 use Rattle.code_follows.specs.Laws.Layers.{coded-is, need-is, covered-is, covering-ty, leaves-is}
 
-operated_types : (a b : TExpr) → operates_in (covering a).ty (covering b).ty ≡ true → operates_in a.ty b.ty ≡ true
+pub operated_types : (a b : TExpr) → operates_in (covering a).ty (covering b).ty ≡ true → operates_in a.ty b.ty ≡ true
 operated_types a b is =
     sym (ap (λ s. operates_in s (covering b).ty) (covering-ty a) ∙ ap (λ t. operates_in a.ty t) (covering-ty b)) ∙ is
 
@@ -42,15 +42,15 @@ combined_types : (o : AssignOperator) (a b : TExpr) → combines_in o (covering 
 combined_types o a b is =
     sym (ap (λ s. combines_in o s (covering b).ty) (covering-ty a) ∙ ap (λ t. combines_in o a.ty t) (covering-ty b)) ∙ is
 
-first_of : (a b : Bool) → (a && b) ≡ true → a ≡ true
+pub first_of : (a b : Bool) → (a && b) ≡ true → a ≡ true
 first_of true b both = refl
 first_of false b both = absurd (cc)
 
-second_of : (a b : Bool) → (a && b) ≡ true → b ≡ true
+pub second_of : (a b : Bool) → (a && b) ≡ true → b ≡ true
 second_of true b both = both
 second_of false b both = absurd (cc)
 
-is_false : (b : Bool) → not b ≡ true → b ≡ false
+pub is_false : (b : Bool) → not b ≡ true → b ≡ false
 is_false true is = absurd (cc)
 is_false false is = refl
 

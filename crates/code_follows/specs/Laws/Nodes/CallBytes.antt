@@ -137,14 +137,14 @@ module _ {k : Scene} {first : ℕ} {reg : Reg} {result : Result Value} {s : Stat
 
 -- ---- numbers
 
-byte_of : (b : ℕ) → b < 256 → IsOf int.Int b
+pub byte_of : (b : ℕ) → b < 256 → IsOf int.Int b
 byte_of b below = grind (arith, nat_tests)
 
 byte_is : {g : Given} {now : MeaningState} (b n : ℕ) → b < 256 → n ≡ b → ValueIs g int_type (Number b) now n
 unfolding given_types
 byte_is b n below is = record { of = byte_of b below; holds = is }
 
-end_of : IsOf int.Int (2 ^ 64 - 1)
+pub end_of : IsOf int.Int (2 ^ 64 - 1)
 end_of = grind (arith, nat_tests)
 
 end_is : {g : Given} {now : MeaningState} (n : ℕ) → n ≡ 2 ^ 64 - 1 → ValueIs g int_type (Number (2 ^ 64 - 1)) now n
@@ -164,11 +164,11 @@ put_number g now s (NoValue ∷ []) has = absurd (has.0)
 
 -- ---- what the meaning takes
 
-taken_byte : (now : MeaningState) (b : ℕ) (bs : List ℕ) → now.input ≡ b ∷ bs →
+pub taken_byte : (now : MeaningState) (b : ℕ) (bs : List ℕ) → now.input ≡ b ∷ bs →
     take_byte now ≡ Goes' (Number b) (exchanged bs now.output now)
 taken_byte now b bs is = rw is refl
 
-taken_end : (now : MeaningState) → now.input ≡ [] → take_byte now ≡ Goes' (Number (2 ^ 64 - 1)) (exchanged [] now.output now)
+pub taken_end : (now : MeaningState) → now.input ≡ [] → take_byte now ≡ Goes' (Number (2 ^ 64 - 1)) (exchanged [] now.output now)
 taken_end now is = rw is refl
 
 -- ---- the calls
