@@ -1,7 +1,7 @@
 -- The expressions of which it is shown that their code does what they mean (this project's own): all but those with members of structs, or
 -- structs that are assigned, which have no code yet. Each constant is a value of its type, as the text has it, and operators compute in
--- promoted types (ISO C11 6.3.1.8); conversions do not stand deep in one another. No law says yet that typed trees are so.
-use Rattle.std.specs.Prelude.{ℕ, ◌-◌, nat_le, nat_lt, Bool, true, false, ◌&&◌, ◌||◌, nat_eq, List, [], ◌∷◌, Option, Some, None}
+-- promoted types (ISO C11 6.3.1.8); conversions do not stand deep in one another; a call has eight arguments at most.
+use Rattle.std.specs.Prelude.{ℕ, ◌-◌, nat_le, nat_lt, Bool, true, false, ◌&&◌, ◌||◌, nat_eq, List, [], ◌∷◌, length, Option, Some, None}
 use Rattle.std.specs.Prelude.{if◌then◌else◌}
 use Rattle.c_ast.specs.declared.int_type.IntType.{IntType}
 use Rattle.c_ast.specs.declared.operator.AssignOperator.{AssignOperator}
@@ -74,7 +74,7 @@ node_covered (TNode-F.Cond c a b) ty = c.is && (a.is && b.is)
 node_covered (TNode-F.Cast t e) ty = e.is
 node_covered (TNode-F.SizeofExpr e) ty = true
 node_covered (TNode-F.SizeofName t) ty = true
-node_covered (TNode-F.Call f es) ty = all_covered es
+node_covered (TNode-F.Call f es) ty = nat_le (length es) 8 && all_covered es
 node_covered (TNode-F.Index a i) ty = a.is && i.is
 node_covered (TNode-F.Member e n) ty = false
 node_covered (TNode-F.Arrow e n) ty = false

@@ -3,6 +3,7 @@ pub mod Lying
 pub mod Walking
 pub mod Lasting
 pub mod Keeping
+pub mod Giving
 pub mod Coming
 pub mod Going
 pub mod Here
@@ -40,6 +41,8 @@ pub mod Operands
 pub mod Moving
 pub mod PointerValues
 pub mod Nodes
+pub mod ArgumentsKept
+pub mod ArgumentsFetched
 pub mod Whole
 pub mod Expressions
 pub mod PartsOfCode

@@ -8,5 +8,7 @@ pub mod Steps
 pub mod Waits
 pub mod Later
 pub mod Aligned
+pub mod CallsGive
+pub mod Giving
 pub mod Nodes
 pub mod Laws

@@ -1,5 +1,5 @@
 -- What has to be shown of each node: that its code does what it means, where that of its parts does (this project's own).
-use Rattle.std.specs.Prelude.{◌≡◌, ℕ, ◌<◌, true, ◌||◌, List, [], ◌∷◌, length, slice_get, Some, None}
+use Rattle.std.specs.Prelude.{◌≡◌, ℕ, ◌<◌, ◌≤◌, true, ◌||◌, List, [], ◌∷◌, length, slice_get, Some, None}
 use Rattle.std.specs.List.{Contains}
 use Rattle.c_ast.specs.declared.int_type.IntType.{IntType}
 use Rattle.c_ast.specs.declared.int_type.IntType.TheVariants as int
@@ -55,7 +55,7 @@ pub record ValueNodes (k : Scene) (depth : ℕ) : Type 0 where
   pub size_of : (e : TExpr) → ValueNode k depth (ty.Int int.ULong) (TNode-F.SizeofExpr e)
   pub size_of_type : (t : Ty) → ValueNode k depth (ty.Int int.ULong) (TNode-F.SizeofName t)
   pub call : (f : Callee) (es : List TExpr) (ts : List Ty) (t : Ty) → Callable k.scope f ts t → Arguments k.scope es ts →
-      AllFollow k depth es → ValueNode k depth t (TNode-F.Call f es)
+      length es ≤ 8 → AllFollow k depth es → ValueNode k depth t (TNode-F.Call f es)
   pub step : (o : Step) (e : TExpr) → PlaceFollows k depth e → is_scalar e.ty ≡ true → ValueNode k depth e.ty (TNode-F.Step o e)
   pub read : (e : TExpr) → PlaceFollows k depth e → (is_scalar e.ty || is_struct e.ty) ≡ true → ValueNode k depth e.ty (TNode-F.Read e)
   pub decay : (e : TExpr) (t : Ty) → PlaceFollows k depth e → element_of e.ty ≡ Some t → ValueNode k depth (ty.Pointer t) (TNode-F.Decay e)

@@ -71,6 +71,7 @@ break_follows file f first broke continued st span is = record {
               outside = record {
                 output = relates.outside.output;
                 input = relates.outside.input;
+                bytes = relates.outside.bytes;
                 takes = relates.outside.takes;
                 puts = relates.outside.puts;
               };

@@ -159,6 +159,7 @@ words_follow c f function at idle has pays = record {
             outside = record {
               output = ap (λ o. o.output) (same_outside s) ∙ relates.outside.output;
               input = ap (λ o. o.answers) (same_outside s) ∙ relates.outside.input;
+              bytes = relates.outside.bytes;
               takes = ap (λ o. o.next_failure) (same_outside s) ∙ relates.outside.takes;
               puts = ap (λ o. o.put_failure) (same_outside s) ∙ relates.outside.puts;
             };

@@ -30,6 +30,7 @@ Relates-spent {now = now} relates = record {
   outside = record {
     output = relates.outside.output;
     input = relates.outside.input;
+    bytes = relates.outside.bytes;
     takes = relates.outside.takes;
     puts = relates.outside.puts;
   };
@@ -39,6 +40,7 @@ outside_same : {now : MeaningState} {s t : State} → t.outside ≡ s.outside �
 outside_same same outside = record {
   output = ap (λ o. o.output) same ∙ outside.output;
   input = ap (λ o. o.answers) same ∙ outside.input;
+  bytes = outside.bytes;
   takes = ap (λ o. o.next_failure) same ∙ outside.takes;
   puts = ap (λ o. o.put_failure) same ∙ outside.puts;
 }

@@ -46,7 +46,7 @@ On-at {k} {first} {reg} {alone} {s} {a} {owes} {spare} {now = now} {t} same on =
     subst (λ (at : ℕ). On k first reg alone s at a owes spare now t) same on
 
 -- what completes gave a value
-completes-goes : {A : Type 0} {a : A} {now : MeaningState} (r : Result' A) → outcome_of r ≡ Completes a now → r ≡ Goes' a now
+pub completes-goes : {A : Type 0} {a : A} {now : MeaningState} (r : Result' A) → outcome_of r ≡ Completes a now → r ≡ Goes' a now
 completes-goes (Goes' a now) is = cc
 completes-goes (Stops Divide now) is = absurd (cc)
 completes-goes (Stops Deep now) is = absurd (cc)

@@ -19,6 +19,10 @@ pub mod Logical
 pub mod Address
 pub mod Target
 pub mod AssignedSlot
+pub mod CallBytes
+pub mod CallItems
+pub mod CallAcross
+pub mod Call
 pub mod Element
 pub mod OnPointers
 pub mod OnTwoPointers

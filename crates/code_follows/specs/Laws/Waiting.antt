@@ -56,13 +56,13 @@ pub move_computes : (from into : Reg) (s : State) → from.0 < 31 → into.0 < 3
 move_computes from into s first small near =
     Computes-put (move from into) into (s.register from.0) s (moved from into s first small) (omega (arith, near))
 
-never : {X : Type 0} → false ≡ true → X
+pub never : {X : Type 0} → false ≡ true → X
 never is = absurd (cc)
 
 -- ---- the words of a run
 
-pub On-spare : {k : Scene} {first : ℕ} {reg : Reg} {alone : Bool} {s : State} {a : Account} {owes spare at : ℕ} {now : MeaningState} {t : State}
-    (less : ℕ) → less ≤ spare → On k first reg alone s at a owes spare now t → On k first reg alone s at a owes less now t
+pub On-spare : {k : Scene} {first : ℕ} {reg : Reg} {alone : Bool} {s : State} {a : Account} {owes spare at : ℕ} {now : MeaningState}
+    {t : State} (less : ℕ) → less ≤ spare → On k first reg alone s at a owes spare now t → On k first reg alone s at a owes less now t
 On-spare less fits on = record { came = on.came; least = on.least; most = omega (arith, on.most, fits); within = on.within }
 
 -- what a run gives is the same in later states

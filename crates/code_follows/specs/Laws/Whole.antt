@@ -1,6 +1,7 @@
 -- The code of each expression that is covered does what it means, where that of each node does (this project's own). By the number of
 -- levels, and the derivation that the expression is in order.
-use Rattle.std.specs.Prelude.{◌≡◌, ℕ, zero, suc, Bool, true, false, nat_lt, ◌<◌, ◌≤◌, ◌&&◌, ◌||◌, if◌then◌else◌, List, map, refl}
+use Rattle.std.specs.Prelude.{◌≡◌, ℕ, zero, suc, Bool, true, false, not, nat_le, nat_lt, ◌<◌, ◌≤◌, ◌&&◌, ◌||◌, if◌then◌else◌}
+use Rattle.std.specs.Prelude.{List, [], ◌∷◌, length, map, refl}
 use Rattle.std.proofs.Common.{arith, ap, sym, subst, ◌∙◌}
 use Rattle.std.proofs.lemmas.Bool.{eqb-true}
 use Rattle.std.proofs.lemmas.Bool.Decides.{nat_tests}
@@ -27,7 +28,7 @@ use Rattle.code_follows.specs.Scene.{Scene, calls_in, structs_in, frame_in}
 use Rattle.code_follows.specs.Laws.Going.{Goes-stuck, Part-by}
 use Rattle.code_follows.specs.Laws.Layers.{coded-is, need-is, covered-is, covering-ty, leaves-is}
 
-operated_types : (a b : TExpr) → operates_in (covering a).ty (covering b).ty ≡ true → operates_in a.ty b.ty ≡ true
+pub operated_types : (a b : TExpr) → operates_in (covering a).ty (covering b).ty ≡ true → operates_in a.ty b.ty ≡ true
 operated_types a b is =
     sym (ap (λ s. operates_in s (covering b).ty) (covering-ty a) ∙ ap (λ t. operates_in a.ty t) (covering-ty b)) ∙ is
 
@@ -35,11 +36,11 @@ combined_types : (o : AssignOperator) (a b : TExpr) → combines_in o (covering 
 combined_types o a b is =
     sym (ap (λ s. combines_in o s (covering b).ty) (covering-ty a) ∙ ap (λ t. combines_in o a.ty t) (covering-ty b)) ∙ is
 
-first_of : (a b : Bool) → (a && b) ≡ true → a ≡ true
+pub first_of : (a b : Bool) → (a && b) ≡ true → a ≡ true
 first_of true b both = refl
 first_of false b both = absurd (cc)
 
-second_of : (a b : Bool) → (a && b) ≡ true → b ≡ true
+pub second_of : (a b : Bool) → (a && b) ≡ true → b ≡ true
 second_of true b both = both
 second_of false b both = absurd (cc)
 
@@ -49,11 +50,25 @@ no_struct : {X : Type 0} (l : TyLayer) → is_there (struct_of_level l) ≡ true
 no_struct (Ty-F.Struct n) is scalar = absurd (cc)
 no_struct _ is scalar = absurd (cc)
 
+pub is_false : (b : Bool) → not b ≡ true → b ≡ false
+is_false true is = absurd (cc)
+is_false false is = refl
+
 sign_computes : (o : UnaryOperator) (t : Ty) → is_sign o ≡ true → (if is_sign o then computes_in t else true) ≡ true → computes_in t ≡ true
 sign_computes o t sign is = sym (ap (λ b. (if b then computes_in t else true)) sign) ∙ is
 
 lt_of : {n m : ℕ} → nat_lt n m ≡ true → n < m
 lt_of {n} {m} is = grind (arith, nat_tests)
+
+le_of : {n m : ℕ} → nat_le n m ≡ true → n ≤ m
+le_of {n} {m} is = grind (arith, nat_tests)
+
+covering_length : (es : List TExpr) → length (map covering es) ≡ length es
+covering_length [] = refl
+covering_length (e ∷ es) = ap suc (covering_length es)
+
+few_arguments : (es : List TExpr) → nat_le (length (map covering es)) 8 ≡ true → length es ≤ 8
+few_arguments es is = let few : length (map covering es) ≤ 8 = le_of is in omega (arith, few, covering_length es)
 
 -- ---- what is left of the bound
 
@@ -118,7 +133,10 @@ module _ {k : Scene} {depth : ℕ} (nodes : Nodes k) (below : Below k depth) whe
   value_by t l (order.cast_to_void {e = e} d is) cov = (nodes.values depth).cast_to_void t e (below.value e d cov) is
   value_by t l (order.size_of {e}) cov = (nodes.values depth).size_of e
   value_by t l (order.size_of_type {t = other}) cov = (nodes.values depth).size_of_type other
-  value_by t l (order.call {f} {es} {ts} callable ds) cov = (nodes.values depth).call f es ts t callable ds (all_value es ts ds cov)
+  value_by t l (order.call {f} {es} {ts} callable ds) cov =
+      (nodes.values depth).call f es ts t callable ds
+      (few_arguments es (first_of (nat_le (length (map covering es)) 8) (all_covered (structs_in k) (map covering es)) cov))
+      (all_value es ts ds (second_of (nat_le (length (map covering es)) 8) (all_covered (structs_in k) (map covering es)) cov))
   value_by t l (order.step {o} {e} d is) cov = (nodes.values depth).step o e (below.place e d cov) is
   value_by t l (order.read {e} d is) cov = (nodes.values depth).read e (below.place e d cov) is
   value_by t l (order.decay {e} {t = element} d is) cov = (nodes.values depth).decay e element (below.place e d cov) is

@@ -79,6 +79,7 @@ linked_relates {s = s} a steps relates = record {
   outside = record {
     output = ap (λ o. o.output) (linked_outside a s) ∙ relates.outside.output;
     input = ap (λ o. o.answers) (linked_outside a s) ∙ relates.outside.input;
+    bytes = relates.outside.bytes;
     takes = ap (λ o. o.next_failure) (linked_outside a s) ∙ relates.outside.takes;
     puts = ap (λ o. o.put_failure) (linked_outside a s) ∙ relates.outside.puts;
   };

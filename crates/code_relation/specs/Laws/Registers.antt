@@ -37,6 +37,7 @@ Relates-register {s = s} r value other range relates = record {
   outside = record {
     output = relates.outside.output;
     input = relates.outside.input;
+    bytes = relates.outside.bytes;
     takes = relates.outside.takes;
     puts = relates.outside.puts;
   };

@@ -1,5 +1,6 @@
 -- Runs lead to later states: expressions (this project's own).
-use Rattle.std.proofs.Common.{◌≡◌, refl, sym, subst, ◌∙◌, ℕ, zero, suc, Bool, true, false, List, []}
+use Rattle.std.proofs.lemmas.List.Elements.{All-tail}
+use Rattle.std.proofs.Common.{◌≡◌, refl, sym, subst, ◌∙◌, ◌<◌, ℕ, zero, suc, Bool, true, false, List, []}
 use Rattle.std.proofs.Common.{◌∷◌, Option, Some, None}
 use Rattle.c_ast.specs.declared.token.Span.{Span}
 use Rattle.c_ast.specs.declared.operator.UnaryOperator.{UnaryOperator}
@@ -21,7 +22,7 @@ use Rattle.block_meaning.specs.Expressions.{NodeLayer, ExprParts, Calls, Site, s
 use Rattle.block_meaning.specs.Expressions.{same_truth, binary_node, cond_node, written, assigned, assign_effect, assign_node, step_node}
 use Rattle.block_meaning.specs.Expressions.{take_byte, put_byte, if_agrees, call_effect, call_node, starts, member_in, member_of}
 use Rattle.block_meaning.specs.Expressions.{member_place, place_node, value_node, parts_at}
-use Rattle.code_follows.specs.Later.{AllStay, IsLater, Lasts}
+use Rattle.code_follows.specs.Later.{AllStay, AreBytes, IsLater, Lasts}
 use Rattle.code_follows.specs.Laws.Lasting.Words.{later-same, lasts-gives}
 use Rattle.code_follows.specs.Laws.Lasting.Words.{lasts-stuck, lasts-undefined, lasts-then, lasts-unit}
 use Rattle.code_follows.specs.Laws.Lasting.Words.{lasts-choice, lasts-some, lasts-all}
@@ -44,11 +45,13 @@ abbrev pub LastingCalls : Calls → Type 0
 LastingCalls c = (here : Context) (f : Function) (vs : List Value) → Lasts (c here f vs)
 
 -- only blocks and calls count
-later-as : {now later other : State} → IsLater now later → other.blocks ≡ later.blocks → other.calls ≡ later.calls → IsLater now other
-later-as {now} is blocks_are calls_are = record {
+later-as : {now later other : State} → IsLater now later → other.blocks ≡ later.blocks → other.calls ≡ later.calls →
+    (AreBytes later.input → AreBytes other.input) → IsLater now other
+later-as {now} is blocks_are calls_are input = record {
   blocks = subst (λ blocks. AllStay now.blocks blocks) (sym blocks_are) is.blocks;
   new_calls = is.new_calls;
   calls_are = calls_are ∙ is.calls_are;
+  input = λ bytes. input (is.input bytes);
 }
 
 record LastingSite (at : Site) : Type 0 where
@@ -106,15 +109,16 @@ step_lasts {at = at} of s e = lasts-then (of.parts.place e) (λ p. lasts-unit (
     lasts-then (scalar_lasts at.here e.span (object e.ty p)) (λ v.
     lasts-then (write_lasts at.here e.span (object e.ty p) (stepped at.here s e.ty v)) (λ _. lasts-gives _))))
 
-take_later : (input : List ℕ) (now : State) → IsLater now (state_after (take_byte (record now { input = input })))
-take_later [] now = later-as (later-same now) refl refl
-take_later (b ∷ bs) now = later-as (later-same now) refl refl
+take_later : (input : List ℕ) (now : State) →
+    IsLater (record now { input = input }) (state_after (take_byte (record now { input = input })))
+take_later [] now = later-same (record now { input = [] })
+take_later (b ∷ bs) now = later-as (later-same (record now { input = b ∷ bs })) refl refl (All-tail (λ byte. byte < 256) b bs)
 
 pub take_lasts : Lasts take_byte
 take_lasts = record { leads = λ now. take_later now.input now }
 
 pub put_lasts : (n : ℕ) → Lasts (put_byte n)
-put_lasts n = record { leads = λ now. later-as (later-same now) refl refl }
+put_lasts n = record { leads = λ now. later-as (later-same now) refl refl (λ bytes. bytes) }
 
 agrees_lasts : {at : Site} → LastingSite at → (vs : List Value) (f : Option Function) → Lasts (if_agrees at vs f)
 agrees_lasts {at = at} of vs None = lasts-undefined at.here at.span None _

@@ -44,6 +44,7 @@ new_block_lasts here k b = record {
     };
     new_calls = [];
     calls_are = sym (append-nil now.calls);
+    input = λ bytes. bytes;
   };
 }
 

@@ -52,7 +52,7 @@ body_lasts of f vs here = lasts-then (arguments_lasts here 0 (take f.params f.lo
 
 new_call_lasts : (here : Context) (f : Function) (place : ℕ) → Lasts (new_call here f place)
 new_call_lasts here f place = record {
-  leads = λ now. record { blocks = stays-same now.blocks; new_calls = _; calls_are = refl };
+  leads = λ now. record { blocks = stays-same now.blocks; new_calls = _; calls_are = refl; input = λ bytes. bytes };
 }
 
 call_of_lasts : {s : StmtParts} → LastingStmts s → (here : Context) (f : Function) (vs : List Value) (g : TFunction) (bytes : ℕ) →

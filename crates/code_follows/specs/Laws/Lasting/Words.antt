@@ -96,7 +96,7 @@ stays-map f keeps (c ∷ cs) =
 -- ---- states
 
 pub later-same : (now : MeaningState) → IsLater now now
-later-same now = record { blocks = stays-same now.blocks; new_calls = []; calls_are = sym (append-nil now.calls) }
+later-same now = record { blocks = stays-same now.blocks; new_calls = []; calls_are = sym (append-nil now.calls); input = λ bytes. bytes }
 
 pub later-then : {now between later : MeaningState} → IsLater now between → IsLater between later → IsLater now later
 later-then {now} first second = record {
@@ -105,6 +105,7 @@ later-then {now} first second = record {
   calls_are = second.calls_are
       ∙ ap (λ cs. cs ++ second.new_calls) first.calls_are
       ∙ append_assoc now.calls first.new_calls second.new_calls;
+  input = λ bytes. second.input (first.input bytes);
 }
 
 -- ---- runs
@@ -124,7 +125,7 @@ lasts-undefined here span access why = record { leads = λ now. later-same now }
 
 pub lasts-with_blocks : (f : List Block → List Block) → ((blocks : List Block) → AllStay blocks (f blocks)) → Lasts (with_blocks f)
 lasts-with_blocks f each = record {
-  leads = λ now. record { blocks = each now.blocks; new_calls = []; calls_are = sym (append-nil now.calls) };
+  leads = λ now. record { blocks = each now.blocks; new_calls = []; calls_are = sym (append-nil now.calls); input = λ bytes. bytes };
 }
 
 goes_later : {A B : Type 0} {f : A → Run B} → ((a : A) → Lasts (f a)) → (now : MeaningState) (r : Result A) →
@@ -139,7 +140,7 @@ one_later : {A : Type 0} {m : Run A} → Lasts m → (work : ℕ) (now : Meaning
 one_later lasts zero now = later-same now
 one_later lasts (suc rest) now =
     let later = lasts.leads (record now { work = rest }) in
-    record { blocks = later.blocks; new_calls = later.new_calls; calls_are = later.calls_are }
+    record { blocks = later.blocks; new_calls = later.new_calls; calls_are = later.calls_are; input = later.input }
 
 pub lasts-unit : {A : Type 0} {m : Run A} → Lasts m → Lasts (unit_then m)
 lasts-unit lasts = record { leads = λ now. one_later lasts now.work now }

@@ -1,0 +1,5 @@
+pub mod Words
+pub mod Values
+pub mod Operators
+pub mod Calls
+pub mod Expressions
