@@ -21,31 +21,31 @@ pub record Gives {A : Type 0} (m : Run A) (P : A → Type 0) : Type 0 where
 -- ---- what a function returns
 
 mutual
-  -- the expressions that a statement returns are covered, in a file with these structs
-  pub data Returns (structs : List StructInfo) : StmtLayer → Type 0 where
-    block : {is : List TItem} → ItemsReturn structs is → Returns structs (TStmt-F.Block is)
-    expression : {e : TExpr} → Returns structs (TStmt-F.Expr e)
-    empty : Returns structs TStmt-F.Empty
-    if_alone : {e : TExpr} {st : TStmt} → Returns structs (out-TStmt st) → Returns structs (TStmt-F.If e st None)
-    if_else : {e : TExpr} {st other : TStmt} → Returns structs (out-TStmt st) → Returns structs (out-TStmt other) →
-        Returns structs (TStmt-F.If e st (Some other))
-    while : {e : TExpr} {st : TStmt} → Returns structs (out-TStmt st) → Returns structs (TStmt-F.While e st)
-    do_while : {e : TExpr} {st : TStmt} → Returns structs (out-TStmt st) → Returns structs (TStmt-F.DoWhile st e)
-    for : {ds : List TDecl} {first condition next : Option TExpr} {st : TStmt} → Returns structs (out-TStmt st) →
-        Returns structs (TStmt-F.For ds first condition next st)
-    return : {span : Span} → Returns structs (TStmt-F.Return None span)
-    return_value : {e : TExpr} {span : Span} → covered structs e ≡ true → Returns structs (TStmt-F.Return (Some e) span)
-    break : {span : Span} → Returns structs (TStmt-F.Break span)
-    continue : {span : Span} → Returns structs (TStmt-F.Continue span)
+  -- the expressions that a statement returns are covered
+  pub data Returns : StmtLayer → Type 0 where
+    block : {is : List TItem} → ItemsReturn is → Returns (TStmt-F.Block is)
+    expression : {e : TExpr} → Returns (TStmt-F.Expr e)
+    empty : Returns TStmt-F.Empty
+    if_alone : {e : TExpr} {st : TStmt} → Returns (out-TStmt st) → Returns (TStmt-F.If e st None)
+    if_else : {e : TExpr} {st other : TStmt} → Returns (out-TStmt st) → Returns (out-TStmt other) →
+        Returns (TStmt-F.If e st (Some other))
+    while : {e : TExpr} {st : TStmt} → Returns (out-TStmt st) → Returns (TStmt-F.While e st)
+    do_while : {e : TExpr} {st : TStmt} → Returns (out-TStmt st) → Returns (TStmt-F.DoWhile st e)
+    for : {ds : List TDecl} {first condition next : Option TExpr} {st : TStmt} → Returns (out-TStmt st) →
+        Returns (TStmt-F.For ds first condition next st)
+    return : {span : Span} → Returns (TStmt-F.Return None span)
+    return_value : {e : TExpr} {span : Span} → covered e ≡ true → Returns (TStmt-F.Return (Some e) span)
+    break : {span : Span} → Returns (TStmt-F.Break span)
+    continue : {span : Span} → Returns (TStmt-F.Continue span)
 
-  pub data ItemReturns (structs : List StructInfo) : ItemLayer → Type 0 where
-    declarations : {ds : List TDecl} → ItemReturns structs (TItem-F.Local ds)
-    statement : {st : TStmt} → Returns structs (out-TStmt st) → ItemReturns structs (TItem-F.Stmt st)
+  pub data ItemReturns : ItemLayer → Type 0 where
+    declarations : {ds : List TDecl} → ItemReturns (TItem-F.Local ds)
+    statement : {st : TStmt} → Returns (out-TStmt st) → ItemReturns (TItem-F.Stmt st)
 
-  pub data ItemsReturn (structs : List StructInfo) : List TItem → Type 0 where
-    no_item : ItemsReturn structs []
-    item : {i : TItem} {is : List TItem} → ItemReturns structs (out-TItem i) → ItemsReturn structs is → ItemsReturn structs (i ∷ is)
+  pub data ItemsReturn : List TItem → Type 0 where
+    no_item : ItemsReturn []
+    item : {i : TItem} {is : List TItem} → ItemReturns (out-TItem i) → ItemsReturn is → ItemsReturn (i ∷ is)
 
 -- so it is in each function of a program
 pub record ReturnsCovered (p : Program) : Type 0 where
-  pub returns : (f : Function) (g : TFunction) → function_named p.units f ≡ Some g → Returns (structs_of p.units f.unit) (out-TStmt g.body)
+  pub returns : (f : Function) (g : TFunction) → function_named p.units f ≡ Some g → Returns (out-TStmt g.body)

@@ -110,6 +110,7 @@ relates_on byte relates injects = record {
   outside = record {
     output = relates.outside.output;
     input = relates.outside.input;
+    bytes = relates.outside.bytes;
     takes = relates.outside.takes;
     puts = relates.outside.puts;
   };

@@ -135,8 +135,8 @@ module _ {k : Scene} {depth : ℕ} (nodes : Nodes k) (below : Below k depth) whe
   value_by t l (order.size_of_type {t = other}) cov = (nodes.values depth).size_of_type other
   value_by t l (order.call {f} {es} {ts} callable ds) cov =
       (nodes.values depth).call f es ts t callable ds
-      (few_arguments es (first_of (nat_le (length (map covering es)) 8) (all_covered (structs_in k) (map covering es)) cov))
-      (all_value es ts ds (second_of (nat_le (length (map covering es)) 8) (all_covered (structs_in k) (map covering es)) cov))
+      (few_arguments es (first_of (nat_le (length (map covering es)) 8) (all_covered (map covering es)) cov))
+      (all_value es ts ds (second_of (nat_le (length (map covering es)) 8) (all_covered (map covering es)) cov))
   value_by t l (order.step {o} {e} d is) cov = (nodes.values depth).step o e (below.place e d cov) is
   value_by t l (order.read {e} d is) cov = (nodes.values depth).read e (below.place e d cov) is
   value_by t l (order.decay {e} {t = element} d is) cov = (nodes.values depth).decay e element (below.place e d cov) is

@@ -54,6 +54,7 @@ Relates-put {s = s} lives byte stored range relates = record {
   outside = record {
     output = relates.outside.output;
     input = relates.outside.input;
+    bytes = relates.outside.bytes;
     takes = relates.outside.takes;
     puts = relates.outside.puts;
   };

@@ -1,5 +1,5 @@
 -- What a covered expression in order gives is of its type (this project's own).
-use Rattle.std.specs.Prelude.{◌≡◌, ◌≢◌, ℕ, zero, suc, ◌%◌, ◌^◌, Bool, true, false, ◌&&◌, not, List, [], ◌∷◌, map, Option, Some, None, refl}
+use Rattle.std.specs.Prelude.{◌≡◌, ◌≢◌, ℕ, zero, suc, ◌%◌, ◌^◌, Bool, true, false, ◌&&◌, ◌||◌, not, List, [], ◌∷◌, map, Option, Some, None, refl}
 use Rattle.std.specs.Prelude.{if◌then◌else◌, nat_lt, nat_le, nat_eq, length}
 use Rattle.std.proofs.Common.{arith, ap, sym, subst, ◌∙◌}
 use Rattle.std.proofs.lemmas.Bool.{eqb-true}
@@ -14,7 +14,7 @@ use Rattle.c_ast.specs.declared.operator.UnaryOperator.TheVariants as unary
 use Rattle.c_ast.specs.declared.token.Span.{Span}
 use Rattle.c_type_base.specs.Conversions.{wrap}
 use Rattle.c_type_base.specs.Laws.Opened.{given_types}
-use Rattle.c_type_base.specs.Types.{TyLayer, is_integer, is_struct, struct_of_level, is_there}
+use Rattle.c_type_base.specs.Types.{TyLayer, is_integer, is_scalar, is_struct, struct_of_level, int_of_level, target_of_level, is_there}
 use Rattle.c_type_base.specs.declared.expr.TExpr.{TExpr}
 use Rattle.c_type_base.specs.declared.expr.TNode.{out-TNode}
 use Rattle.c_type_base.specs.declared.expr.TNode.TheOpen.{TNode-F}
@@ -35,7 +35,7 @@ use Rattle.block_meaning.specs.declared.value.Pointer.{Pointer}
 use Rattle.block_meaning.specs.declared.value.Value.{Value}
 use Rattle.block_meaning.specs.declared.value.Value.TheVariants.{Number, Address, Struct, NoValue}
 use Rattle.gen_laws.specs.Computes.{IsOf}
-use Rattle.code_follows.specs.Covered.{covering, covered, layer_covered, operates_in, divides_by, combines_by, all_covered, computes_in}
+use Rattle.code_follows.specs.Covered.{covering, covered, layer_covered, operates_in, combines_by, all_covered, computes_in}
 use Rattle.code_follows.specs.Giving.{Gives}
 use Rattle.code_follows.specs.Later.{Ran}
 use Rattle.code_follows.specs.Leaves.{bare_leaves}
@@ -51,12 +51,17 @@ use Rattle.code_follows.specs.Laws.Layers.{covered-is}
 use Rattle.code_follows.specs.Laws.Nodes.Operated.{plain_run}
 use Rattle.code_follows.specs.Laws.Whole.{first_of, second_of, is_false, operated_types}
 
+scalar_no_struct : (l : TyLayer) → (is_there (int_of_level l) || is_there (target_of_level l)) ≡ true →
+    is_there (struct_of_level l) ≡ false
+scalar_no_struct (Ty-F.Struct n) scalar = absurd (cc)
+scalar_no_struct _ scalar = refl
+
 abbrev structs_in : Scope → List StructInfo
 structs_in s = structs_of s.program.units s.unit
 
 -- so it is of the parts of an expression
 pub record PartsGive (s : Scope) (p : ExprParts) : Type 0 where
-  pub value : (around : Span) (e : TExpr) → HasValue s e.ty (out-TNode e.node) → covered (structs_in s) e ≡ true →
+  pub value : (around : Span) (e : TExpr) → HasValue s e.ty (out-TNode e.node) → covered e ≡ true →
       Gives (p.value_in around e) (IsOfType e.ty)
 
 gives-same : {A : Type 0} {m n : Run A} {P : A → Type 0} → ((now : _) → m now ≡ n now) → Gives n P → Gives m P
@@ -100,7 +105,7 @@ module _ (s : Scope) (at : Site) (is_here : IsHere s at.here) (calls : CallsGivi
   any_truth span v = gives-any (truth_lasts at.here span v)
 
   signs : (o : UnaryOperator) (e : TExpr) → is_sign o ≡ true → HasValue s e.ty (out-TNode e.node) → is_integer e.ty ≡ true →
-      covered (structs_in s) e ≡ true → Gives (unary_node at o e) (IsOfType e.ty)
+      covered e ≡ true → Gives (unary_node at o e) (IsOfType e.ty)
   signs unary.Plus e sign d is cov =
       gives-then (parts.value e.span e d cov) (λ v of. gives-unit (signed_gives unary.Plus e.ty v refl is of))
   signs unary.Minus e sign d is cov =
@@ -135,7 +140,7 @@ module _ (s : Scope) (at : Site) (is_here : IsHere s at.here) (calls : CallsGivi
   old_or_new true t v w one other = one
   old_or_new false t v w one other = other
 
-  node_gives : (t : Ty) (l : NodeLayer) → HasValue s t l → layer_covered (structs_in s) l t ≡ true → at.ty ≡ t →
+  node_gives : (t : Ty) (l : NodeLayer) → HasValue s t l → layer_covered l t ≡ true → at.ty ≡ t →
       Gives (value_node at l) (IsOfType t)
   node_gives t l (order.constant {n} {i}) cov is = gives-unit (gives-gives (Number n) (constant_of i n (eqb-true _ _ cov)))
   node_gives t l (order.paren {e} d) cov is = parts.value at.around e d cov
@@ -144,44 +149,38 @@ module _ (s : Scope) (at : Site) (is_here : IsHere s at.here) (calls : CallsGivi
   node_gives t l (order.denied {e} d scalar) cov is =
       gives-then (any_value e) (λ v any. gives-unit (gives-then (any_truth e.span v) (λ b any. gives-gives _ (of_truth (not b)))))
   node_gives t l (order.signed {o} {e} sign d integer) cov is =
-      signs o e sign d integer (second_of (if is_sign o then computes_in t else true) (covered (structs_in s) e) cov)
+      signs o e sign d integer (second_of (if is_sign o then computes_in t else true) (covered e) cov)
   node_gives t l (order.logical {o} {a} {b} group d scalar x other) cov is = logicals o a b group
   node_gives t l (order.operated {o} {a} {b} d x types) cov is =
-      let structs = structs_in s in
-      let test : Bool = operates_in (covering a).ty (covering b).ty && divides_by structs o (covering a).ty (covering b).ty in
-      let both : (covered structs a && covered structs b) ≡ true = second_of test (covered structs a && covered structs b) cov in
-      let operates : operates_in a.ty b.ty ≡ true = operated_types a b
-      (first_of (operates_in (covering a).ty (covering b).ty) (divides_by structs o (covering a).ty (covering b).ty)
-      (first_of test (covered structs a && covered structs b) cov)) in
+      let test : Bool = operates_in (covering a).ty (covering b).ty in
+      let both : (covered a && covered b) ≡ true = second_of test (covered a && covered b) cov in
+      let operates : operates_in a.ty b.ty ≡ true = operated_types a b (first_of test (covered a && covered b) cov) in
       gives-same (λ now. plain_run at o a b (not_logical types) now)
-      (gives-then (parts.value a.span a d (first_of (covered structs a) (covered structs b) both)) (λ v of.
-      gives-then (parts.value b.span b x (second_of (covered structs a) (covered structs b) both)) (λ w its.
+      (gives-then (parts.value a.span a d (first_of (covered a) (covered b) both)) (λ v of.
+      gives-then (parts.value b.span b x (second_of (covered a) (covered b) both)) (λ w its.
       gives-unit (operated_gives at.here at.span o a.ty b.ty t v w types operates of its))))
   node_gives t l (order.assigned {a} {b} d x same) cov is =
-      let structs = structs_in s in
-      let both = second_of (not (is_struct a.ty) && true) (covered structs a && covered structs b) cov in
-      let other : is_struct a.ty ≡ false = is_false (is_struct a.ty) (first_of (not (is_struct a.ty)) true
-      (first_of (not (is_struct a.ty) && true) (covered structs a && covered structs b) cov)) in
+      let both = second_of (is_scalar a.ty && true) (covered a && covered b) cov in
+      let other : is_struct a.ty ≡ false = scalar_no_struct (out-Ty a.ty) (first_of (is_scalar a.ty) true
+      (first_of (is_scalar a.ty && true) (covered a && covered b) cov)) in
       gives-then (gives-any (lasting.place a)) (λ p any.
-      gives-then (parts.value b.span b x (second_of (covered structs a) (covered structs b) both)) (λ v of.
+      gives-then (parts.value b.span b x (second_of (covered a) (covered b) both)) (λ v of.
       gives-unit (assigns a b p v other (subst (λ u. IsOfType u v) same of))))
   node_gives t l (order.compound {o} {a} {b} d x types) cov is =
-      let structs = structs_in s in
-      let test : Bool = not (is_struct a.ty) && combines_by (Some o) (covering a).ty (covering b).ty in
-      let both = second_of test (covered structs a && covered structs b) cov in
+      let test : Bool = is_scalar a.ty && combines_by (Some o) (covering a).ty (covering b).ty in
+      let both = second_of test (covered a && covered b) cov in
       gives-then (gives-any (lasting.place a)) (λ p any.
-      gives-then (parts.value b.span b x (second_of (covered structs a) (covered structs b) both)) (λ w its.
+      gives-then (parts.value b.span b x (second_of (covered a) (covered b) both)) (λ w its.
       gives-unit (gives-then (scalar_gives at.here a.span (object a.ty p)) (λ v of.
       gives-then (combined_gives at.here at.span o a.ty b.ty v w types of its) (λ r result. written_gives a.ty a.span p r result)))))
   node_gives t l (order.chosen {c} {a} {b} d scalar x a_is y b_is) cov is =
-      let structs = structs_in s in
-      let both = second_of (covered structs c) (covered structs a && covered structs b) cov in
+      let both = second_of (covered c) (covered a && covered b) cov in
       gives-then (any_value c) (λ v any. gives-unit (gives-then (any_truth c.span v) (λ holds any.
       gives-choice holds
       (subst (λ u. Gives (value_of at.parts a) (IsOfType u)) a_is
-      (parts.value a.span a x (first_of (covered structs a) (covered structs b) both)))
+      (parts.value a.span a x (first_of (covered a) (covered b) both)))
       (subst (λ u. Gives (value_of at.parts b) (IsOfType u)) b_is
-      (parts.value b.span b y (second_of (covered structs a) (covered structs b) both))))))
+      (parts.value b.span b y (second_of (covered a) (covered b) both))))))
   node_gives t l (order.cast {e = e} d types) cov is =
       gives-then (parts.value e.span e d cov) (λ v of. gives-unit (gives-gives _ (of_converted v types of)))
   node_gives t l (order.cast_to_void {e = e} d void) cov is =
@@ -201,7 +200,7 @@ module _ (s : Scope) (at : Site) (is_here : IsHere s at.here) (calls : CallsGivi
   node_gives t l (order.decay {e} {t = element} d of_array) cov is =
       gives-then (gives-any (lasting.place e)) (λ p any. gives-gives (Address p) (address_of element p))
   node_gives t l (order.convert {e} d types) cov is =
-      gives-then (parts.value e.span e d (second_of (nat_lt bare_leaves _) (covered (structs_in s) e) cov)) (λ v of.
+      gives-then (parts.value e.span e d (second_of (nat_lt bare_leaves _) (covered e) cov)) (λ v of.
       gives-gives _ (subst (λ u. IsOfType t (converted_to u v)) (sym is) (of_converted v types of)))
   node_gives t l (order.member_value d has scalar) cov is = absurd (cc)
 
@@ -214,5 +213,5 @@ parts_give {s} {c} calls lasts here is_here (suc depth) =
     let below = parts_give {s = s} {c = c} calls lasts here is_here depth in
     record {
       value = λ around e d cov. node_gives s (site c here (parts_at c here depth) around e) is_here calls below
-          (parts_lasts {c = c} lasts here depth) e.ty (out-TNode e.node) d (sym (covered-is (structs_in s) e) ∙ cov) refl;
+          (parts_lasts {c = c} lasts here depth) e.ty (out-TNode e.node) d (sym (covered-is e) ∙ cov) refl;
     }
