@@ -38,6 +38,7 @@ pub mod Paying
 pub mod Dividing
 pub mod Operands
 pub mod Moving
+pub mod PointerValues
 pub mod Nodes
 pub mod Whole
 pub mod ScalarBytes

@@ -1,5 +1,5 @@
 -- Operators by the types of their operands (ISO C11 6.5.2.1, 6.5.2.4, 6.5.3, 6.5.5 to 6.5.16).
-use Rattle.std.specs.Prelude.{ℕ, ◌%◌, ◌^◌, true, List, [], ◌∷◌, ◌++◌, Option, Some, None, if◌then◌else◌}
+use Rattle.std.specs.Prelude.{ℕ, ◌%◌, ◌^◌, nat_lt, true, List, [], ◌∷◌, ◌++◌, Option, Some, None, if◌then◌else◌}
 use Rattle.c_ast.specs.declared.operator.AssignOperator.{AssignOperator}
 use Rattle.c_ast.specs.declared.operator.BinaryOperator.{BinaryOperator}
 use Rattle.c_ast.specs.declared.operator.Step.{Step}
@@ -23,13 +23,18 @@ use Rattle.gen_base.specs.Registers.{left}
 abbrev pub wrapped_size : List StructInfo → Ty → ℕ
 wrapped_size structs t = size structs t % 2 ^ 64
 
+-- The bytes of what two pointers point to, by which their difference is divided: 0 where they are no number of 64 bits, since then there is
+-- no object between two pointers into one block.
+abbrev pub divisor_size : List StructInfo → Ty → ℕ
+divisor_size structs t = if nat_lt (size structs t) (2 ^ 64) then size structs t else 0
+
 -- ---- two operands: the first in X16, the second and the result in a register
 
 abbrev pub operated_by : List StructInfo → BinaryOperator → Ty → Ty → Option Ty → Option Ty → Reg → Code
 operated_by structs o s t None None r = on_integers o (int_in s) r
 operated_by structs o s t (Some target) None r = plain (pointer_and_number o (wrapped_size structs target) r)
 operated_by structs o s t None (Some target) r = plain (number_and_pointer (wrapped_size structs target) r)
-operated_by structs o s t (Some target) (Some other) r = plain (on_two_pointers o (wrapped_size structs target) r)
+operated_by structs o s t (Some target) (Some other) r = plain (on_two_pointers o (divisor_size structs target) r)
 
 abbrev pub operated : List StructInfo → BinaryOperator → Ty → Ty → Reg → Code
 operated structs o s t r = operated_by structs o s t (target_of s) (target_of t) r

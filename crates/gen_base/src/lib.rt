@@ -9,6 +9,7 @@ mod items;
 mod operators;
 mod pointers;
 mod registers;
+mod sizes;
 mod waiting;
 
 pub use accesses::{push_load, push_load_local, push_store, push_store_local, reached};

@@ -15,6 +15,7 @@ use crate::integers::push_on_integers;
 use crate::items::{push_instr, push_moves};
 use crate::pointers::{push_advance, push_on_two_pointers, push_pointer_and_number};
 use crate::registers::LEFT;
+use crate::sizes::divisor_of;
 use a64_code::{Instr, Reg};
 use c_ast::{AssignOperator, BinaryOperator, IntType, Step};
 use c_type_base::{Ty, Typed, int_of, promoted, target_of, wrapped_size};
@@ -54,13 +55,10 @@ pub fn push_operated(
             None => push_on_integers(code, operator, int_in(left), reg),
             Some(target) => push_advance(code, bytes_of(unit, target), reg, LEFT, reg),
         },
-        Some(target) => {
-            let bytes = bytes_of(unit, target);
-            match target_of(right) {
-                None => push_pointer_and_number(code, operator, bytes, reg),
-                Some(_) => push_on_two_pointers(code, operator, bytes, reg),
-            }
-        }
+        Some(target) => match target_of(right) {
+            None => push_pointer_and_number(code, operator, bytes_of(unit, target), reg),
+            Some(_) => push_on_two_pointers(code, operator, divisor_of(unit, target), reg),
+        },
     }
 }
 

@@ -18,3 +18,4 @@ pub mod Combining
 pub mod Accesses
 pub mod Operators
 pub mod PointerLengths
+pub mod Divisors

@@ -111,7 +111,8 @@ module _ {k : Scene} (locals : LocalsLie k) {now : MeaningState} {s : State} (re
   one_null p q m n different p_is q_is null_first at_end same =
       let both = both_hold (nat_eq p.block 0) (nat_eq p.offset 0) null_first in
       let first_false : pointer_truth now.blocks p ≡ Some false =
-      ap (λ b. (if b then within_block binary.NotEqual p null else of_different binary.NotEqual (known_to_differ now.blocks p null))) both.one
+      ap (λ b. (if b then within_block binary.NotEqual p null else of_different binary.NotEqual (known_to_differ now.blocks p null)))
+      both.one
       ∙ ap (λ b. Some (not b)) both.other in
       let other : nat_eq q.block 0 ≡ false = not_null_block q.block (λ is. different (eqb-true p.block 0 both.one ∙ sym is)) in
       let second_true : pointer_truth now.blocks q ≡ Some true =

@@ -26,17 +26,17 @@ use Rattle.code_relation.specs.Sites.{Given, units_of, site, choice_of, site_of_
 use Rattle.code_relation.specs.Stands.{IsLocal, Stands}
 use Rattle.code_follows.specs.Later.{StaysAt, IsLater, Lasts, Ran}
 use Rattle.code_follows.specs.Values.{ValueIs, PlaceIs}
-use Rattle.code_follows.specs.Laws.Lasting.Expressions.{parts_last}
-use Rattle.code_follows.specs.Laws.Lasting.Meaning.{calls_last}
+use Rattle.code_follows.specs.Laws.Lasting.Expressions.{parts_lasts}
+use Rattle.code_follows.specs.Laws.Lasting.Meaning.{calls_lasts}
 
 -- ---- runs of expressions
 
 pub value_lasts : (bound : ℕ) (here : Context) (depth : ℕ) (around : Span) (e : TExpr) →
     Lasts ((parts_at (calls_at bound) here depth).value_in around e)
-value_lasts bound here depth around e = (parts_last (calls_last bound) here depth).value around e
+value_lasts bound here depth around e = (parts_lasts (calls_lasts bound) here depth).value around e
 
 pub place_lasts : (bound : ℕ) (here : Context) (depth : ℕ) (e : TExpr) → Lasts ((parts_at (calls_at bound) here depth).place e)
-place_lasts bound here depth e = (parts_last (calls_last bound) here depth).place e
+place_lasts bound here depth e = (parts_lasts (calls_lasts bound) here depth).place e
 
 -- where it completes
 pub leads_to : {A : Type 0} {m : Run A} {a : A} {now later : MeaningState} → Lasts m → Ran m now a later → IsLater now later

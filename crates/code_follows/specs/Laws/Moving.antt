@@ -1,6 +1,6 @@
 -- A pointer some bytes on, and its number (this project's own).
 use Rattle.std.specs.Prelude.{◌≡◌, ℕ, ◌+◌, ◌*◌, ◌/◌, ◌%◌, ◌^◌}
-use Rattle.std.proofs.Common.{arith, ap, ◌∙◌}
+use Rattle.std.proofs.Common.{arith, sym, subst, ap, ◌∙◌}
 use Rattle.std.proofs.Math.Nat.{mul-add}
 use Rattle.block_meaning.specs.Blocks.{moved}
 use Rattle.block_meaning.specs.Running.{State as MeaningState}
@@ -28,3 +28,9 @@ by_objects n count bytes =
     ap (λ b. count * b) (let e : bytes ≡ bytes % 2 ^ 64 + 2 ^ 64 * (bytes / 2 ^ 64) = omega arith in e)
     ∙ mul-add count (bytes % 2 ^ 64) (2 ^ 64 * (bytes / 2 ^ 64)) in
     omega (arith, whole)
+
+-- so many objects of a size on
+pub moves_on : {g : Given} {now : MeaningState} {p : Pointer} {n : ℕ} (count bytes : ℕ) → IsNumber g now p n →
+    IsNumber g now (moved p (count * bytes)) ((n + count * (bytes % 2 ^ 64)) % 2 ^ 64)
+moves_on {g} {now} {p} {n} count bytes is =
+    subst (λ (m : ℕ). IsNumber g now (moved p (count * bytes)) m) (sym (by_objects n count bytes)) (IsNumber-moved (count * bytes) is)

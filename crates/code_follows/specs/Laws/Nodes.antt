@@ -20,11 +20,13 @@ pub mod Address
 pub mod Target
 pub mod AssignedSlot
 pub mod Element
-pub mod Both
-pub mod PointerSteps
 pub mod Steps
 pub mod SteppedSlot
 pub mod CompoundSlot
 pub mod Assigned
 pub mod Stepped
 pub mod Compound
+pub mod OnPointers
+pub mod OnTwoPointers
+pub mod PointersOperated
+pub mod AnyOperator

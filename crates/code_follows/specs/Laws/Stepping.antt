@@ -33,9 +33,8 @@ use Rattle.code_follows.specs.Values.{IsOfLevel, ValueIs}
 use Rattle.code_follows.specs.Laws.Computing.{Few, are_quiet-append, constant_quiet, constant_few}
 use Rattle.code_follows.specs.Laws.Converting.{wrap_short}
 use Rattle.code_follows.specs.Laws.Moving.{IsNumber-moved}
-use Rattle.code_follows.specs.Laws.Nodes.Element.{ValueIs-address}
 use Rattle.code_follows.specs.Laws.Nodes.Integers.{ValueIs-integer}
-use Rattle.code_follows.specs.Laws.Nodes.PointerSteps.{pointer_of, target_here}
+use Rattle.code_follows.specs.Laws.PointerValues.{ValueIs-address, address-ValueIs, target_here}
 use Rattle.code_follows.specs.Laws.ScalarSizes.{ScalarIs, integer, pointer, scalar_is}
 use Rattle.code_follows.specs.Laws.Walking.{is_quiet, are_quiet, Short}
 
@@ -117,10 +116,10 @@ step_is {k} scene step t scalar r v now s relates given near value = by_type (sc
         let bytes : ℕ = by_one step * size (structs_in k) target in
         let after : stepped k.here step t v ≡ Address (moved one.pointer bytes) =
         ap (λ x. stepped k.here step t x) one.is
-        ∙ ap (λ (m : ℕ). Address (moved one.pointer (by_one step * m))) (target_here scene target t of relates) in
+        ∙ ap (λ (m : ℕ). Address (moved one.pointer (by_one step * m))) (target_here scene t target of relates) in
         record {
           number = (n + bytes) % 2 ^ 64;
           computes = pointer_stepped-computes r n s given refl (structs_in k) step t target of (omega (arith, near));
           is = subst (λ (x : Value). ValueIs (given_in k) t x now ((n + bytes) % 2 ^ 64)) (sym after)
-              (record { of = pointer_of t target (moved one.pointer bytes) of; holds = IsNumber-moved bytes one.number });
+              (address-ValueIs {s = t} of (IsNumber-moved bytes one.number));
         }

@@ -16,7 +16,7 @@ use Rattle.a64_code.specs.declared.instr.Reg.{Reg}
 use Rattle.a64_code.specs.State.{State}
 use Rattle.sym_code.specs.declared.item.SymItem.TheVariants as item
 use Rattle.gen_base.specs.Integers.{on_integers}
-use Rattle.gen_base.specs.Operators.{wrapped_size, operated, combined, element}
+use Rattle.gen_base.specs.Operators.{wrapped_size, divisor_size, operated, combined, element}
 use Rattle.gen_base.specs.Pointers.{pointer_and_number, number_and_pointer, on_two_pointers}
 use Rattle.gen_base.specs.Registers.{scratch}
 use Rattle.gen_laws.specs.Computes.{Computes, Operands, all_but}
@@ -38,7 +38,7 @@ module _ (structs : List StructInfo) (o : BinaryOperator) (s t : Ty) (r : Reg) (
   operated-number_first target first second = rw (first, second) refl
 
   pub operated-two_pointers : (target other : Ty) → target_of s ≡ Some target → target_of t ≡ Some other →
-      operated structs o s t r at ≡ map item.Plain (on_two_pointers o (wrapped_size structs target) r)
+      operated structs o s t r at ≡ map item.Plain (on_two_pointers o (divisor_size structs target) r)
   operated-two_pointers target other first second = rw (first, second) refl
 
 pub combined-pointer : (structs : List StructInfo) (o : AssignOperator) (s t target : Ty) (r : Reg) (at : ℕ) → target_of s ≡ Some target →

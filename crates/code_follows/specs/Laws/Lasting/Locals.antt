@@ -28,11 +28,11 @@ use Rattle.block_meaning.specs.Locals.{is_list, after_zero, declared_with, decla
 use Rattle.block_meaning.specs.Memory.{Object, object, structs_at}
 use Rattle.block_meaning.specs.Opening.{zero_cells}
 use Rattle.block_meaning.specs.Running.{Run, Context}
-use Rattle.code_follows.specs.Laws.Lasting.Values.{write_last, copy_last}
-use Rattle.code_follows.specs.Laws.Lasting.Expressions.{LastParts}
+use Rattle.code_follows.specs.Laws.Lasting.Values.{write_lasts, copy_lasts}
+use Rattle.code_follows.specs.Laws.Lasting.Expressions.{LastingParts}
 
-pub new_block_last : (here : Context) (k : ℕ) (b : Block) → Lasts (new_block here k b)
-new_block_last here k b = record {
+pub new_block_lasts : (here : Context) (k : ℕ) (b : Block) → Lasts (new_block here k b)
+new_block_lasts here k b = record {
   leads = λ now. record {
     blocks = record {
       stays = λ number c is. record {
@@ -47,87 +47,87 @@ new_block_last here k b = record {
   };
 }
 
-pub new_locals_last : (here : Context) (ks : List ℕ) → Lasts (new_locals here ks)
-new_locals_last here [] = lasts-gives here
-new_locals_last here (k ∷ ks) = lasts-then (lasts-some (latest here.open_calls) (λ c.
-    lasts-some (local_info here c k) (λ l. new_block_last here k _))) (λ inner. new_locals_last inner ks)
+pub new_locals_lasts : (here : Context) (ks : List ℕ) → Lasts (new_locals here ks)
+new_locals_lasts here [] = lasts-gives here
+new_locals_lasts here (k ∷ ks) = lasts-then (lasts-some (latest here.open_calls) (λ c.
+    lasts-some (local_info here c k) (λ l. new_block_lasts here k _))) (λ inner. new_locals_lasts inner ks)
 
-end_locals_last : (here : Context) (ks : List ℕ) → Lasts (end_locals here ks)
-end_locals_last here [] = lasts-gives tt
-end_locals_last here (k ∷ ks) =
-    lasts-then (lasts-some (here.local k) (λ b. lasts-with_blocks (with_block b ended) (stays-ended b))) (λ _. end_locals_last here ks)
+end_locals_lasts : (here : Context) (ks : List ℕ) → Lasts (end_locals here ks)
+end_locals_lasts here [] = lasts-gives tt
+end_locals_lasts here (k ∷ ks) =
+    lasts-then (lasts-some (here.local k) (λ b. lasts-with_blocks (with_block b ended) (stays-ended b))) (λ _. end_locals_lasts here ks)
 
-pub scope_last : {A : Type 0} (here : Context) (ks : List ℕ) {f : Context → Run A} → ((inner : Context) → Lasts (f inner)) →
+pub scope_lasts : {A : Type 0} (here : Context) (ks : List ℕ) {f : Context → Run A} → ((inner : Context) → Lasts (f inner)) →
     Lasts (scoped here ks f)
-scope_last here [] each = each here
-scope_last here (k ∷ ks) each = lasts-unit (lasts-then (new_locals_last here (k ∷ ks)) (λ inner.
-    lasts-then (each inner) (λ a. lasts-then (end_locals_last inner (k ∷ ks)) (λ _. lasts-gives a))))
+scope_lasts here [] each = each here
+scope_lasts here (k ∷ ks) each = lasts-unit (lasts-then (new_locals_lasts here (k ∷ ks)) (λ inner.
+    lasts-then (each inner) (λ a. lasts-then (end_locals_lasts inner (k ∷ ks)) (λ _. lasts-gives a))))
 
-record LastInit (init : InitParts) : Type 0 where
-  parts : LastParts init.parts
+record LastingInit (init : InitParts) : Type 0 where
+  parts : LastingParts init.parts
   fill : (o : Object) (i : TInit) → Lasts (init.fill o i)
 
-pub run_last : {p : ExprParts} → LastParts p → (e : TExpr) → Lasts (only_run p e)
-run_last of e = lasts-then (of.value e.span e) (λ v. lasts-gives tt)
+pub run_lasts : {p : ExprParts} → LastingParts p → (e : TExpr) → Lasts (only_run p e)
+run_lasts of e = lasts-then (of.value e.span e) (λ v. lasts-gives tt)
 
-array_last : {init : InitParts} → LastInit init → (n : ℕ) (p : Pointer) (e : TExpr) (level : NodeLayer) →
+array_lasts : {init : InitParts} → LastingInit init → (n : ℕ) (p : Pointer) (e : TExpr) (level : NodeLayer) →
     Lasts (fill_array init n p e level)
-array_last {init = init} of n p e (TNode-F.Text text) =
+array_lasts {init = init} of n p e (TNode-F.Text text) =
     lasts-unit (lasts-some (text_at init.here text) (λ bytes.
     lasts-with_blocks (stored p (map Byte (take n bytes))) (stays-stored p (map Byte (take n bytes)))))
-array_last of n p e _ = run_last of.parts e
+array_lasts of n p e _ = run_lasts of.parts e
 
-struct_last : {init : InitParts} → LastInit init → (o : Object) (e : TExpr) (is : Bool) → Lasts (fill_struct init o e is)
-struct_last of o e false = run_last of.parts e
-struct_last {init = init} of o e true = lasts-then (of.parts.value e.span e) (λ v. copy_last init.here _)
+struct_lasts : {init : InitParts} → LastingInit init → (o : Object) (e : TExpr) (is : Bool) → Lasts (fill_struct init o e is)
+struct_lasts of o e false = run_lasts of.parts e
+struct_lasts {init = init} of o e true = lasts-then (of.parts.value e.span e) (λ v. copy_lasts init.here _)
 
-one_last : {init : InitParts} → LastInit init → (o : Object) (e : TExpr) (level : TyLayer) → Lasts (fill_one init o e level)
-one_last of o e (Ty-F.Array t n) = array_last of n o.at e (out-TNode e.node)
-one_last of o e (Ty-F.Struct number) = struct_last of o e (is_struct e.ty)
-one_last {init = init} of o e _ = lasts-then (of.parts.value e.span e) (λ v. write_last init.here e.span o v)
+one_lasts : {init : InitParts} → LastingInit init → (o : Object) (e : TExpr) (level : TyLayer) → Lasts (fill_one init o e level)
+one_lasts of o e (Ty-F.Array t n) = array_lasts of n o.at e (out-TNode e.node)
+one_lasts of o e (Ty-F.Struct number) = struct_lasts of o e (is_struct e.ty)
+one_lasts {init = init} of o e _ = lasts-then (of.parts.value e.span e) (λ v. write_lasts init.here e.span o v)
 
-elements_last : {init : InitParts} → LastInit init → (first : Object) (k : ℕ) (is : List TInit) → Lasts (fill_elements init first k is)
-elements_last of first k [] = lasts-gives tt
-elements_last of first k (i ∷ is) = lasts-then (of.fill _ i) (λ _. elements_last of first (k + 1) is)
+elements_lasts : {init : InitParts} → LastingInit init → (first : Object) (k : ℕ) (is : List TInit) → Lasts (fill_elements init first k is)
+elements_lasts of first k [] = lasts-gives tt
+elements_lasts of first k (i ∷ is) = lasts-then (of.fill _ i) (λ _. elements_lasts of first (k + 1) is)
 
-members_last : {init : InitParts} → LastInit init → (p : Pointer) (ms : List MemberInfo) (is : List TInit) →
+members_lasts : {init : InitParts} → LastingInit init → (p : Pointer) (ms : List MemberInfo) (is : List TInit) →
     Lasts (fill_members init p ms is)
-members_last of p ms [] = lasts-gives tt
-members_last of p [] (i ∷ is) = lasts-stuck
-members_last of p (m ∷ ms) (i ∷ is) = lasts-then (of.fill _ i) (λ _. members_last of p ms is)
+members_lasts of p ms [] = lasts-gives tt
+members_lasts of p [] (i ∷ is) = lasts-stuck
+members_lasts of p (m ∷ ms) (i ∷ is) = lasts-then (of.fill _ i) (λ _. members_lasts of p ms is)
 
-list_last : {init : InitParts} → LastInit init → (o : Object) (is : List TInit) (level : TyLayer) → Lasts (fill_list init o is level)
-list_last of o is (Ty-F.Array t n) = elements_last of (object t o.at) 0 is
-list_last {init = init} of o is (Ty-F.Struct number) =
-    members_last of o.at (members_of (slice_get (structs_at init.here) number)) is
-list_last of o is _ = lasts-stuck
+list_lasts : {init : InitParts} → LastingInit init → (o : Object) (is : List TInit) (level : TyLayer) → Lasts (fill_list init o is level)
+list_lasts of o is (Ty-F.Array t n) = elements_lasts of (object t o.at) 0 is
+list_lasts {init = init} of o is (Ty-F.Struct number) =
+    members_lasts of o.at (members_of (slice_get (structs_at init.here) number)) is
+list_lasts of o is _ = lasts-stuck
 
-init_last : {init : InitParts} → LastInit init → (o : Object) (i : TInit-F TInit) → Lasts (fill_node init o i)
-init_last of o (TInit-F.One e) = one_last of o e (out-Ty o.ty)
-init_last of o (TInit-F.List is span) = list_last of o is (out-Ty o.ty)
+init_lasts : {init : InitParts} → LastingInit init → (o : Object) (i : TInit-F TInit) → Lasts (fill_node init o i)
+init_lasts of o (TInit-F.One e) = one_lasts of o e (out-Ty o.ty)
+init_lasts of o (TInit-F.List is span) = list_lasts of o is (out-Ty o.ty)
 
-fill_last : (here : Context) {p : ExprParts} → LastParts p → (depth : ℕ) (o : Object) (i : TInit) → Lasts (fill_at here p depth o i)
-fill_last here of zero o i = lasts-stuck
-fill_last here {p = p} of (suc depth) o i =
-    init_last {init = record { here = here; parts = p; fill = fill_at here p depth }}
-    (record { parts = of; fill = fill_last here of depth }) o (out-TInit i)
+fill_lasts : (here : Context) {p : ExprParts} → LastingParts p → (depth : ℕ) (o : Object) (i : TInit) → Lasts (fill_at here p depth o i)
+fill_lasts here of zero o i = lasts-stuck
+fill_lasts here {p = p} of (suc depth) o i =
+    init_lasts {init = record { here = here; parts = p; fill = fill_at here p depth }}
+    (record { parts = of; fill = fill_lasts here of depth }) o (out-TInit i)
 
-zero_last : (here : Context) (o : Object) (b : Bool) {m : Run (Unit {0})} → Lasts m → Lasts (after_zero here o b m)
-zero_last here o false lasts = lasts
-zero_last here o true lasts = lasts-then
+zero_lasts : (here : Context) (o : Object) (b : Bool) {m : Run (Unit {0})} → Lasts m → Lasts (after_zero here o b m)
+zero_lasts here o false lasts = lasts
+zero_lasts here o true lasts = lasts-then
     (lasts-with_blocks (stored o.at (zero_cells (structs_at here) o.ty)) (stays-stored o.at (zero_cells (structs_at here) o.ty)))
     (λ _. lasts)
 
-declared_last : (here : Context) {p : ExprParts} → LastParts p → (depth : ℕ) (d : TDecl) (i : Option TInit) →
+declared_lasts : (here : Context) {p : ExprParts} → LastingParts p → (depth : ℕ) (d : TDecl) (i : Option TInit) →
     Lasts (declared_with here p depth d i)
-declared_last here of depth d None = lasts-gives tt
-declared_last here of depth d (Some i) = lasts-unit (lasts-some (latest here.open_calls) (λ c.
+declared_lasts here of depth d None = lasts-gives tt
+declared_lasts here of depth d (Some i) = lasts-unit (lasts-some (latest here.open_calls) (λ c.
     lasts-some (local_info here c d.local) (λ l. lasts-some (here.local d.local) (λ block.
     let o = object l.ty (pointer block 0) in
-    zero_last here o (is_list (out-TInit i) || is_array l.ty) (fill_last here of depth o i)))))
+    zero_lasts here o (is_list (out-TInit i) || is_array l.ty) (fill_lasts here of depth o i)))))
 
-pub declarations_last : (here : Context) {p : ExprParts} → LastParts p → (depth : ℕ) (ds : List TDecl) →
+pub declarations_lasts : (here : Context) {p : ExprParts} → LastingParts p → (depth : ℕ) (ds : List TDecl) →
     Lasts (declarations here p depth ds)
-declarations_last here of depth [] = lasts-gives tt
-declarations_last here of depth (d ∷ ds) =
-    lasts-then (declared_last here of depth d d.init) (λ _. declarations_last here of depth ds)
+declarations_lasts here of depth [] = lasts-gives tt
+declarations_lasts here of depth (d ∷ ds) =
+    lasts-then (declared_lasts here of depth d d.init) (λ _. declarations_lasts here of depth ds)

@@ -16,19 +16,19 @@ use Rattle.block_meaning.specs.declared.value.Value.{Value}
 use Rattle.code_follows.specs.Later.{Lasts}
 use Rattle.code_follows.specs.Laws.Lasting.Words.{KeepsBlocks, stays-same, stays-map, lasts-gives, lasts-stops, lasts-stuck}
 use Rattle.code_follows.specs.Laws.Lasting.Words.{lasts-with_blocks, lasts-then, lasts-choice, lasts-some}
-use Rattle.code_follows.specs.Laws.Lasting.Expressions.{LastCalls}
-use Rattle.code_follows.specs.Laws.Lasting.Locals.{new_block_last, new_locals_last}
-use Rattle.code_follows.specs.Laws.Lasting.Statements.{LastStmts, items_last, statements_last}
+use Rattle.code_follows.specs.Laws.Lasting.Expressions.{LastingCalls}
+use Rattle.code_follows.specs.Laws.Lasting.Locals.{new_block_lasts, new_locals_lasts}
+use Rattle.code_follows.specs.Laws.Lasting.Statements.{LastingStmts, items_lasts, statements_lasts}
 
-arguments_last : (here : Context) (k : ℕ) (ls : List LocalInfo) (vs : List Value) → Lasts (with_arguments here k ls vs)
-arguments_last here k [] [] = lasts-gives here
-arguments_last here k (l ∷ ls) (v ∷ vs) = lasts-then (lasts-some (latest here.open_calls) (λ c. new_block_last here k _))
-    (λ inner. arguments_last inner (k + 1) ls vs)
-arguments_last here k _ _ = lasts-stuck
+arguments_lasts : (here : Context) (k : ℕ) (ls : List LocalInfo) (vs : List Value) → Lasts (with_arguments here k ls vs)
+arguments_lasts here k [] [] = lasts-gives here
+arguments_lasts here k (l ∷ ls) (v ∷ vs) = lasts-then (lasts-some (latest here.open_calls) (λ c. new_block_lasts here k _))
+    (λ inner. arguments_lasts inner (k + 1) ls vs)
+arguments_lasts here k _ _ = lasts-stuck
 
-body_node_last : {s : StmtParts} → LastStmts s → (here : Context) (body : StmtLayer) → Lasts (body_node s here body)
-body_node_last of here (TStmt-F.Block is) = lasts-then (new_locals_last here (declared is)) (λ inner. items_last of inner is)
-body_node_last of here _ = lasts-stuck
+body_node_lasts : {s : StmtParts} → LastingStmts s → (here : Context) (body : StmtLayer) → Lasts (body_node s here body)
+body_node_lasts of here (TStmt-F.Block is) = lasts-then (new_locals_lasts here (declared is)) (λ inner. items_lasts of inner is)
+body_node_lasts of here _ = lasts-stuck
 
 abbrev end_of : ℕ → Block → Block
 end_of call b = (if is_of_call call b.kind then ended b else b)
@@ -44,24 +44,24 @@ end_keeps call = record { kind = λ b. kind_by b (is_of_call call b.kind); size 
     size_by b true = refl
     size_by b false = refl
 
-body_last : {s : StmtParts} → LastStmts s → (f : TFunction) (vs : List Value) (here : Context) → Lasts (body_of s f vs here)
-body_last of f vs here = lasts-then (arguments_last here 0 (take f.params f.locals) vs) (λ ready.
-    lasts-then (body_node_last of ready (out-TStmt f.body)) (λ flow.
+body_lasts : {s : StmtParts} → LastingStmts s → (f : TFunction) (vs : List Value) (here : Context) → Lasts (body_of s f vs here)
+body_lasts of f vs here = lasts-then (arguments_lasts here 0 (take f.params f.locals) vs) (λ ready.
+    lasts-then (body_node_lasts of ready (out-TStmt f.body)) (λ flow.
     lasts-then (lasts-some (latest here.open_calls) (λ c.
     lasts-with_blocks (end_call c.number) (stays-map (end_of c.number) (end_keeps c.number)))) (λ _. lasts-gives _)))
 
-new_call_last : (here : Context) (f : Function) (place : ℕ) → Lasts (new_call here f place)
-new_call_last here f place = record {
+new_call_lasts : (here : Context) (f : Function) (place : ℕ) → Lasts (new_call here f place)
+new_call_lasts here f place = record {
   leads = λ now. record { blocks = stays-same now.blocks; new_calls = _; calls_are = refl };
 }
 
-call_of_last : {s : StmtParts} → LastStmts s → (here : Context) (f : Function) (vs : List Value) (g : TFunction) (bytes : ℕ) →
+call_of_lasts : {s : StmtParts} → LastingStmts s → (here : Context) (f : Function) (vs : List Value) (g : TFunction) (bytes : ℕ) →
     Lasts (call_of s here f vs g bytes)
-call_of_last of here f vs g bytes = lasts-choice (leb (open_bytes here.open_calls + bytes) here.program.stack)
-    (lasts-then (new_call_last here f (open_bytes here.open_calls + bytes)) (λ inner. body_last of g vs inner)) (lasts-stops Deep)
+call_of_lasts of here f vs g bytes = lasts-choice (leb (open_bytes here.open_calls + bytes) here.program.stack)
+    (lasts-then (new_call_lasts here f (open_bytes here.open_calls + bytes)) (λ inner. body_lasts of g vs inner)) (lasts-stops Deep)
 
-pub calls_last : (bound : ℕ) → LastCalls (calls_at bound)
-calls_last zero here f vs = lasts-stuck
-calls_last (suc bound) here f vs = lasts-some (function_named here.program.units f) (λ g.
+pub calls_lasts : (bound : ℕ) → LastingCalls (calls_at bound)
+calls_lasts zero here f vs = lasts-stuck
+calls_lasts (suc bound) here f vs = lasts-some (function_named here.program.units f) (λ g.
     lasts-some (frame_bytes here.program f) (λ bytes.
-    call_of_last (statements_last (calls_last bound) bound) here f vs g bytes))
+    call_of_lasts (statements_lasts (calls_lasts bound) bound) here f vs g bytes))

@@ -28,85 +28,85 @@ use Rattle.block_meaning.specs.declared.value.Value.{Value}
 use Rattle.block_meaning.specs.declared.value.Value.TheVariants.{Number, Address, Struct}
 use Rattle.block_meaning.specs.Values.{cells_of}
 
-unless_last : (here : Context) (span : Span) (a : Access) (why : Option Reason) → Lasts (unless_undefined here span a why)
-unless_last here span a None = lasts-gives tt
-unless_last here span a (Some why) = lasts-undefined here span (Some a) why
+unless_lasts : (here : Context) (span : Span) (a : Access) (why : Option Reason) → Lasts (unless_undefined here span a why)
+unless_lasts here span a None = lasts-gives tt
+unless_lasts here span a (Some why) = lasts-undefined here span (Some a) why
 
-in_block_last : {A : Type 0} (a : Access) {f : Block → Run A} → ((b : Block) → Lasts (f b)) → Lasts (in_block a f)
-in_block_last a each = lasts-blocks (λ blocks. lasts-some (slice_get blocks a.at.block) each)
+in_block_lasts : {A : Type 0} (a : Access) {f : Block → Run A} → ((b : Block) → Lasts (f b)) → Lasts (in_block a f)
+in_block_lasts a each = lasts-blocks (λ blocks. lasts-some (slice_get blocks a.at.block) each)
 
-judged_last : (here : Context) (span : Span) (a : Access) → Lasts (judged here span a)
-judged_last here span a = in_block_last a (λ b. unless_last here span a (reason_against b a))
+judged_lasts : (here : Context) (span : Span) (a : Access) → Lasts (judged here span a)
+judged_lasts here span a = in_block_lasts a (λ b. unless_lasts here span a (reason_against b a))
 
-what_last : (here : Context) (span : Span) (a : Access) (r : ReadResult) → Lasts (what_is_read here span a r)
-what_last here span a (ReadsAs v) = lasts-gives v
-what_last here span a (UndefinedBy why) = lasts-undefined here span (Some a) why
+what_lasts : (here : Context) (span : Span) (a : Access) (r : ReadResult) → Lasts (what_is_read here span a r)
+what_lasts here span a (ReadsAs v) = lasts-gives v
+what_lasts here span a (UndefinedBy why) = lasts-undefined here span (Some a) why
 
-pub scalar_last : (here : Context) (span : Span) (o : Object) → Lasts (read_scalar here span o)
-scalar_last here span o =
-    let a = access here false o in in_block_last a (λ b. what_last here span a (read_in b o.ty a))
+pub scalar_lasts : (here : Context) (span : Span) (o : Object) → Lasts (read_scalar here span o)
+scalar_lasts here span o =
+    let a = access here false o in in_block_lasts a (λ b. what_lasts here span a (read_in b o.ty a))
 
 read_by : (here : Context) (span : Span) (o : Object) (is : Bool) →
     Lasts (if is then gives (Struct o.at) else read_scalar here span o)
 read_by here span o true = lasts-gives (Struct o.at)
-read_by here span o false = scalar_last here span o
+read_by here span o false = scalar_lasts here span o
 
-pub read_last : (here : Context) (span : Span) (o : Object) → Lasts (read here span o)
-read_last here span o = read_by here span o (is_struct o.ty)
+pub read_lasts : (here : Context) (span : Span) (o : Object) → Lasts (read here span o)
+read_lasts here span o = read_by here span o (is_struct o.ty)
 
-pub write_last : (here : Context) (span : Span) (o : Object) (v : Value) → Lasts (write here span o v)
-write_last here span o v = lasts-then (judged_last here span (access here true o)) (λ _.
+pub write_lasts : (here : Context) (span : Span) (o : Object) (v : Value) → Lasts (write here span o v)
+write_lasts here span o v = lasts-then (judged_lasts here span (access here true o)) (λ _.
     lasts-with_blocks (stored o.at (cells_of o.ty v)) (stays-stored o.at (cells_of o.ty v)))
 
-overlap_last : (here : Context) (span : Span) (a : Access) (b : Bool) → Lasts (unless_overlap here span a b)
-overlap_last here span a false = lasts-gives tt
-overlap_last here span a true = lasts-undefined here span (Some a) _
+overlap_lasts : (here : Context) (span : Span) (a : Access) (b : Bool) → Lasts (unless_overlap here span a b)
+overlap_lasts here span a false = lasts-gives tt
+overlap_lasts here span a true = lasts-undefined here span (Some a) _
 
-pub copy_last : (here : Context) (c : Copy) → Lasts (copy_struct here c)
-copy_last here c = lasts-then (judged_last here c.source_span (access here false c.source)) (λ _.
-    lasts-then (judged_last here c.target_span (access here true c.target)) (λ _.
-    lasts-then (overlap_last here c.span (access here true c.target) _) (λ _.
+pub copy_lasts : (here : Context) (c : Copy) → Lasts (copy_struct here c)
+copy_lasts here c = lasts-then (judged_lasts here c.source_span (access here false c.source)) (λ _.
+    lasts-then (judged_lasts here c.target_span (access here true c.target)) (λ _.
+    lasts-then (overlap_lasts here c.span (access here true c.target) _) (λ _.
     lasts-with_blocks (copied c.source.at c.target.at (access here true c.target).size) (λ blocks.
     stays-stored c.target.at (cells_at blocks c.source.at (access here true c.target).size) blocks))))
 
 -- ---- operators
 
-comparison_last : (here : Context) (span : Span) (b : Option Bool) → Lasts (comparison here span b)
-comparison_last here span None = lasts-undefined here span None _
-comparison_last here span (Some b) = lasts-gives b
+comparison_lasts : (here : Context) (span : Span) (b : Option Bool) → Lasts (comparison here span b)
+comparison_lasts here span None = lasts-undefined here span None _
+comparison_lasts here span (Some b) = lasts-gives b
 
-pub truth_last : (here : Context) (span : Span) (v : Value) → Lasts (is_true here span v)
-truth_last here span (Address p) = lasts-blocks (λ blocks. comparison_last here span (pointer_truth blocks p))
-truth_last here span _ = lasts-gives _
+pub truth_lasts : (here : Context) (span : Span) (v : Value) → Lasts (is_true here span v)
+truth_lasts here span (Address p) = lasts-blocks (λ blocks. comparison_lasts here span (pointer_truth blocks p))
+truth_lasts here span _ = lasts-gives _
 
-divide_last : (n : Option ℕ) → Lasts (or_divide n)
-divide_last None = lasts-stops Divide
-divide_last (Some n) = lasts-gives _
+divide_lasts : (n : Option ℕ) → Lasts (or_divide n)
+divide_lasts None = lasts-stops Divide
+divide_lasts (Some n) = lasts-gives _
 
-difference_last : (here : Context) (span : Span) (n : Option ℕ) → Lasts (difference_known here span n)
-difference_last here span None = lasts-undefined here span None _
-difference_last here span (Some n) = lasts-gives _
+difference_lasts : (here : Context) (span : Span) (n : Option ℕ) → Lasts (difference_known here span n)
+difference_lasts here span None = lasts-undefined here span None _
+difference_lasts here span (Some n) = lasts-gives _
 
-pointers_last : (here : Context) (span : Span) (o : BinaryOperator) (size : ℕ) (p q : Pointer) → Lasts (on_pointers here span o size p q)
-pointers_last here span binary.Subtract size p q = difference_last here span (objects_between p q size)
-pointers_last here span o size p q =
-    lasts-blocks (λ blocks. lasts-then (comparison_last here span (compared blocks o p q)) (λ b. lasts-gives _))
+pointers_lasts : (here : Context) (span : Span) (o : BinaryOperator) (size : ℕ) (p q : Pointer) → Lasts (on_pointers here span o size p q)
+pointers_lasts here span binary.Subtract size p q = difference_lasts here span (objects_between p q size)
+pointers_lasts here span o size p q =
+    lasts-blocks (λ blocks. lasts-then (comparison_lasts here span (compared blocks o p q)) (λ b. lasts-gives _))
 
-pointer_last : (o : BinaryOperator) (size : ℕ) (p : Pointer) (n : ℕ) → Lasts (on_pointer o size p n)
-pointer_last binary.Add size p n = lasts-gives _
-pointer_last binary.Subtract size p n = lasts-gives _
-pointer_last _ size p n = lasts-stuck
+pointer_lasts : (o : BinaryOperator) (size : ℕ) (p : Pointer) (n : ℕ) → Lasts (on_pointer o size p n)
+pointer_lasts binary.Add size p n = lasts-gives _
+pointer_lasts binary.Subtract size p n = lasts-gives _
+pointer_lasts _ size p n = lasts-stuck
 
-pub values_last : (here : Context) (span : Span) (o : BinaryOperator) (s t : Ty) (v w : Value) → Lasts (on_values here span o s t v w)
-values_last here span o s t (Number n) (Number m) = divide_last (binary_value o (int_in s) n m)
-values_last here span o s t (Address p) (Number n) = pointer_last o _ p n
-values_last here span o s t (Number n) (Address p) = pointer_last o _ p n
-values_last here span o s t (Address p) (Address q) = pointers_last here span o _ p q
-values_last here span o s t _ _ = lasts-stuck
+pub values_lasts : (here : Context) (span : Span) (o : BinaryOperator) (s t : Ty) (v w : Value) → Lasts (on_values here span o s t v w)
+values_lasts here span o s t (Number n) (Number m) = divide_lasts (binary_value o (int_in s) n m)
+values_lasts here span o s t (Address p) (Number n) = pointer_lasts o _ p n
+values_lasts here span o s t (Number n) (Address p) = pointer_lasts o _ p n
+values_lasts here span o s t (Address p) (Address q) = pointers_lasts here span o _ p q
+values_lasts here span o s t _ _ = lasts-stuck
 
 pub combined_values : (here : Context) (span : Span) (o : BinaryOperator) (s t : Ty) (v w : Value) →
     Lasts (values_combined here span o s t v w)
 combined_values here span o s t (Number n) (Number m) =
     let c = computing_type o (int_in s) (int_in t) in
-    lasts-then (divide_last (binary_value o c (wrap c n) m)) (λ v. lasts-gives _)
-combined_values here span o s t v w = values_last here span o s t v w
+    lasts-then (divide_lasts (binary_value o c (wrap c n) m)) (λ v. lasts-gives _)
+combined_values here span o s t v w = values_lasts here span o s t v w

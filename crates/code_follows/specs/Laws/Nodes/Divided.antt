@@ -154,7 +154,7 @@ divisions_follow k scene waits depth o a b first_part second_part on = record {
         (λ z n holds others done. Goes-done (Number known.number) (On-at (Lies-none rest.back ∙ Lies-none whole.back) done) (omega arith)
         (record {
           of = integer-of a.ty known.number on.first (arithmetic-is_of o i x y known.number (division_group o on.divides) on.promoted one.of
-          second_of known.is);
+              second_of known.is);
           holds = holds;
         }))))))));
   };

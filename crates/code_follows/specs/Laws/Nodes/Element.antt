@@ -2,26 +2,19 @@
 use Rattle.std.specs.Prelude.{◌≡◌, ℕ, false, ◌+◌, ◌*◌, ◌%◌, ◌^◌, true, Option, Some, None, [], ◌∷◌, refl}
 use Rattle.std.proofs.Common.{arith, ap, sym, subst, ◌∙◌}
 use Rattle.c_type_base.specs.Sizes.{size}
-use Rattle.c_type_base.specs.Types.{TyLayer, is_integer, target_of, target_of_level}
+use Rattle.c_type_base.specs.Types.{is_integer, target_of}
 use Rattle.c_type_base.specs.declared.expr.TExpr.{TExpr}
 use Rattle.c_type_base.specs.declared.expr.TNode.TheOpen.{TNode-F}
-use Rattle.c_type_base.specs.declared.ty.Ty.{Ty, out-Ty}
-use Rattle.c_type_base.specs.declared.ty.Ty.TheOpen.{Ty-F}
+use Rattle.c_type_base.specs.declared.ty.Ty.{Ty}
 use Rattle.a64_code.specs.declared.instr.Instr.TheVariants.{Madd}
 use Rattle.a64_code.specs.declared.instr.Reg.{Reg}
-use Rattle.a64_code.specs.State.{State}
 use Rattle.a64_laws.specs.Constants.{constant_moves}
 use Rattle.block_meaning.specs.Blocks.{moved}
 use Rattle.block_meaning.specs.Expressions.{element_at, place_node}
 use Rattle.block_meaning.specs.Memory.{bytes_of}
 use Rattle.block_meaning.specs.Operators.{int_in}
-use Rattle.block_meaning.specs.Running.{gives, State as MeaningState}
-use Rattle.block_meaning.specs.declared.value.Pointer.{Pointer}
-use Rattle.block_meaning.specs.declared.value.Value.{Value}
+use Rattle.block_meaning.specs.Running.{gives}
 use Rattle.block_meaning.specs.declared.value.Value.TheVariants.{Number, Address}
-use Rattle.code_relation.specs.Numbers.{IsNumber, Holds}
-use Rattle.code_relation.specs.Relates.{Relates}
-use Rattle.code_relation.specs.Sites.{Given}
 use Rattle.frame_layout.specs.Needs.{need, waiting}
 use Rattle.gen_base.specs.Code.{plain, in_turn}
 use Rattle.gen_base.specs.Operators.{wrapped_size, element}
@@ -32,43 +25,20 @@ use Rattle.gen_laws.specs.Laws.Pointers.{advance-computes}
 use Rattle.code_follows.specs.Leaves.{place_leaves}
 use Rattle.code_follows.specs.Parts.{Part, ValueFollows, PlaceNode, coded_in, site_in}
 use Rattle.code_follows.specs.Scene.{Scene, IsScene, given_in, structs_in, frame_in}
-use Rattle.code_follows.specs.Values.{IsOfLevel, ValueIs, PlaceIs}
+use Rattle.code_follows.specs.Values.{ValueIs, PlaceIs}
 use Rattle.code_follows.specs.Waits.{WaitingLaws}
 use Rattle.code_follows.specs.Laws.Computing.{are_quiet-append, constant_quiet}
-use Rattle.code_follows.specs.Laws.Here.{structs_here, PlacePart-paid}
+use Rattle.code_follows.specs.Laws.Here.{PlacePart-paid}
 use Rattle.code_follows.specs.Laws.Keeping.{value_lasts}
 use Rattle.code_follows.specs.Laws.Layers.{coded-ty}
-use Rattle.code_follows.specs.Laws.Moving.{IsNumber-moved, by_objects}
+use Rattle.code_follows.specs.Laws.Moving.{moves_on}
 use Rattle.code_follows.specs.Laws.Nodes.Integers.{IntegerIs, ValueIs-integer, target-none}
 use Rattle.code_follows.specs.Laws.Nodes.Operated.{value_part}
 use Rattle.code_follows.specs.Laws.Operand.{Listed, ValueIs-spent}
 use Rattle.code_follows.specs.Laws.Operands.{DoesBoth, computes_it, operands_part}
+use Rattle.code_follows.specs.Laws.PointerValues.{ValueIs-address, size_here}
 use Rattle.code_follows.specs.Laws.Waiting.{values_last}
 use Rattle.code_follows.specs.Laws.Walking.{are_quiet}
-
--- ---- pointers
-
--- a value is a pointer, and this is its number
-pub record AddressIs (g : Given) (v : Value) (now : MeaningState) (n : ℕ) : Type 0 where
-  pub pointer : Pointer
-  pub is : v ≡ Address pointer
-  pub number : IsNumber g now pointer n
-
-level_address : (g : Given) (now : MeaningState) (l : TyLayer) (t : Ty) (v : Value) (n : ℕ) → target_of_level l ≡ Some t →
-    IsOfLevel l v → Holds g now v n → AddressIs g v now n
-level_address g now (Ty-F.Pointer u) t (Address p) n is of holds = record { pointer = p; is = refl; number = holds }
-level_address g now (Ty-F.Pointer u) t _ n is of holds = absurd of
-level_address g now _ t v n is of holds = absurd (cc)
-
-pub ValueIs-address : {g : Given} {now : MeaningState} {s t : Ty} {v : Value} {n : ℕ} → target_of s ≡ Some t → ValueIs g s v now n →
-    AddressIs g v now n
-ValueIs-address {g} {now} {s} {t} {v} {n} is value = level_address g now (out-Ty s) t v n is value.of value.holds
-
--- so many objects of a size on
-pub moves_on : {g : Given} {now : MeaningState} {p : Pointer} {n : ℕ} (count bytes : ℕ) → IsNumber g now p n →
-    IsNumber g now (moved p (count * bytes)) ((n + count * (bytes % 2 ^ 64)) % 2 ^ 64)
-moves_on {g} {now} {p} {n} count bytes is =
-    subst (λ (m : ℕ). IsNumber g now (moved p (count * bytes)) m) (sym (by_objects n count bytes)) (IsNumber-moved (count * bytes) is)
 
 -- ---- the list
 
@@ -85,28 +55,21 @@ element_listed bytes target reg = record {
         are_quiet-append (constant_moves scratch bytes) (Madd true scratch left reg reg ∷ []) (constant_quiet scratch bytes) refl
 
 module _ {k : Scene} (scene : IsScene k) (t : Ty) where
-  sized : ℕ
-  sized = size (structs_in k) t
-
-  size_here : {now : MeaningState} {s : State} → Relates (given_in k) k.here now s → bytes_of k.here t ≡ sized
-  unfolding sized
-  size_here relates = ap (λ structs. size structs t) (structs_here scene relates)
-
   -- the pointer comes first
   element_does : (s u : Ty) → target_of s ≡ Some t → is_integer u ≡ true →
-      DoesBoth k (ValueIs (given_in k) s) (ValueIs (given_in k) u) (PlaceIs (given_in k)) (element (wrapped_size (structs_in k) t) (Some t))
+      DoesBoth k (ValueIs (given_in k) s) (ValueIs (given_in k) u) (PlaceIs (given_in k))
+      (element (wrapped_size (structs_in k) t) (Some t))
       (λ v w. gives (element_at (bytes_of k.here t) v w))
-  unfolding sized
   element_does s u of integer = record {
     list = λ reg. element_listed (wrapped_size (structs_in k) t) (Some t) reg;
     does = λ reg v w now m both.
         let one = ValueIs-address {s = s} of both.first in
         let count : ℕ = m.register reg.0 in
         let two : IntegerIs (int_in u) w count = ValueIs-integer u w count integer both.second in
-        computes_it (moved one.pointer (count * sized)) ((m.register 16 + count * wrapped_size (structs_in k) t) % 2 ^ 64)
+        computes_it (moved one.pointer (count * size (structs_in k) t)) ((m.register 16 + count * wrapped_size (structs_in k) t) % 2 ^ 64)
         (ap (λ x. gives (element_at (bytes_of k.here t) x w) now) one.is
         ∙ ap (λ x. gives (element_at (bytes_of k.here t) (Address one.pointer) x) now) two.is
-        ∙ ap (λ bytes. gives (moved one.pointer (count * bytes)) now) (size_here both.relates))
+        ∙ ap (λ bytes. gives (moved one.pointer (count * bytes)) now) (size_here scene t both.relates))
         (advance-computes (wrapped_size (structs_in k) t) left reg reg (m.register 16) count m (record {
           pointer_low = omega arith;
           count_low = omega (arith, both.high);
@@ -114,24 +77,24 @@ module _ {k : Scene} (scene : IsScene k) (t : Ty) where
           pointer_is = refl;
           count_is = refl;
         }) (omega arith) (omega (arith, both.room)))
-        (record { is = moves_on count sized one.number });
+        (record { is = moves_on count (size (structs_in k) t) one.number });
   }
 
   -- the pointer comes second
   second_does : (s u : Ty) → is_integer s ≡ true → target_of u ≡ Some t →
       DoesBoth k (ValueIs (given_in k) s) (ValueIs (given_in k) u) (PlaceIs (given_in k)) (element (wrapped_size (structs_in k) t) None)
       (λ v w. gives (element_at (bytes_of k.here t) v w))
-  unfolding sized
   second_does s u integer of = record {
     list = λ reg. element_listed (wrapped_size (structs_in k) t) None reg;
     does = λ reg v w now m both.
         let count : ℕ = m.register 16 in
         let one : IntegerIs (int_in s) v count = ValueIs-integer s v count integer both.first in
         let two = ValueIs-address {s = u} of both.second in
-        computes_it (moved two.pointer (count * sized)) ((m.register reg.0 + count * wrapped_size (structs_in k) t) % 2 ^ 64)
+        computes_it (moved two.pointer (count * size (structs_in k) t))
+        ((m.register reg.0 + count * wrapped_size (structs_in k) t) % 2 ^ 64)
         (ap (λ x. gives (element_at (bytes_of k.here t) x w) now) one.is
         ∙ ap (λ x. gives (element_at (bytes_of k.here t) (Number count) x) now) two.is
-        ∙ ap (λ bytes. gives (moved two.pointer (count * bytes)) now) (size_here both.relates))
+        ∙ ap (λ bytes. gives (moved two.pointer (count * bytes)) now) (size_here scene t both.relates))
         (advance-computes (wrapped_size (structs_in k) t) reg left reg (m.register reg.0) count m (record {
           pointer_low = omega (arith, both.high);
           count_low = omega arith;
@@ -139,14 +102,15 @@ module _ {k : Scene} (scene : IsScene k) (t : Ty) where
           pointer_is = refl;
           count_is = refl;
         }) (omega arith) (omega (arith, both.room)))
-        (record { is = moves_on count sized two.number });
+        (record { is = moves_on count (size (structs_in k) t) two.number });
   }
 
   -- an index by what is known of the first operand's type
   index_follows : WaitingLaws k → (depth : ℕ) (a i : TExpr) (target : Option Ty) → ValueFollows k depth a → ValueFollows k depth i →
       target_of a.ty ≡ target →
       DoesBoth k (ValueIs (given_in k) a.ty) (ValueIs (given_in k) i.ty) (PlaceIs (given_in k))
-      (element (wrapped_size (structs_in k) t) target) (λ v w. gives (element_at (bytes_of k.here t) v w)) → PlaceNode k depth t (TNode-F.Index a i)
+      (element (wrapped_size (structs_in k) t) target) (λ v w. gives (element_at (bytes_of k.here t) v w)) →
+      PlaceNode k depth t (TNode-F.Index a i)
   index_follows waits depth a i target first second target_is does =
       let whole = operands_part place_leaves (coded_in k a).value (coded_in k i) (omega arith) scene waits (value_part a first)
       (value_part i second) (value_lasts k.bound k.here depth i.span i) (values_last k a.ty) (λ v now n is. ValueIs-spent is)
