@@ -1,14 +1,13 @@
 -- The code of an operator with `=`, behind both operands: what it leaves in the register is the number of what the operator gives, or a
 -- division by 0 is told (this project's own). Memory stays as it is.
-use Rattle.std.specs.Prelude.{◌≡◌, ℕ, ◌+◌, ◌≤◌, true, false, List, Some, refl}
+use Rattle.std.specs.Prelude.{◌≡◌, ℕ, ◌+◌, ◌≤◌, true, false, List, Some}
 use Rattle.std.proofs.Common.{arith, ap, sym, subst, ◌∙◌}
 use Rattle.std.proofs.Math.Path.{fun_ext}
 use Rattle.c_ast.specs.declared.operator.AssignOperator.{AssignOperator}
 use Rattle.c_ast.specs.declared.operator.AssignOperator.TheVariants as assign
 use Rattle.c_ast.specs.declared.token.Span.{Span}
-use Rattle.c_type_base.specs.Types.{TyLayer, target_of_level, is_there, is_integer, is_pointer, target_of}
-use Rattle.c_type_base.specs.declared.ty.Ty.{Ty, out-Ty}
-use Rattle.c_type_base.specs.declared.ty.Ty.TheOpen.{Ty-F}
+use Rattle.c_type_base.specs.Types.{is_integer, target_of}
+use Rattle.c_type_base.specs.declared.ty.Ty.{Ty}
 use Rattle.a64_code.specs.declared.instr.Instr.{Instr}
 use Rattle.a64_code.specs.declared.instr.Reg.{Reg}
 use Rattle.a64_code.specs.State.{State}
