@@ -21,7 +21,6 @@ pub mod LocalBytes
 pub mod StoredBytes
 pub mod Stores
 pub mod PointerCells
-pub mod SlotSites
 pub mod BytesPut
 pub mod TempBytes
 pub mod WholeFrames

@@ -1,14 +1,13 @@
 -- The code of an operator with `=`, behind both operands: what it leaves in the register is the number of what the operator gives, or a
 -- division by 0 is told (this project's own). Memory stays as it is.
-use Rattle.std.specs.Prelude.{◌≡◌, ℕ, ◌+◌, ◌≤◌, true, false, List, Some, refl}
+use Rattle.std.specs.Prelude.{◌≡◌, ℕ, ◌+◌, ◌≤◌, true, false, List, Some}
 use Rattle.std.proofs.Common.{arith, ap, sym, subst, ◌∙◌}
 use Rattle.std.proofs.Math.Path.{fun_ext}
 use Rattle.c_ast.specs.declared.operator.AssignOperator.{AssignOperator}
 use Rattle.c_ast.specs.declared.operator.AssignOperator.TheVariants as assign
 use Rattle.c_ast.specs.declared.token.Span.{Span}
-use Rattle.c_type_base.specs.Types.{TyLayer, target_of_level, is_there, is_integer, is_pointer, target_of}
-use Rattle.c_type_base.specs.declared.ty.Ty.{Ty, out-Ty}
-use Rattle.c_type_base.specs.declared.ty.Ty.TheOpen.{Ty-F}
+use Rattle.c_type_base.specs.Types.{is_integer, target_of}
+use Rattle.c_type_base.specs.declared.ty.Ty.{Ty}
 use Rattle.a64_code.specs.declared.instr.Instr.{Instr}
 use Rattle.a64_code.specs.declared.instr.Reg.{Reg}
 use Rattle.a64_code.specs.State.{State}
@@ -31,22 +30,10 @@ use Rattle.code_follows.specs.Laws.Computing.{Suits-other}
 use Rattle.code_follows.specs.Laws.Going.{Goes-same, Goes-computes}
 use Rattle.code_follows.specs.Laws.Lying.{HasInstrs, Lies-plain}
 use Rattle.code_follows.specs.Laws.Nodes.OnPointers.{added_does, taken_does}
-use Rattle.code_follows.specs.Laws.PointerValues.{ValueIs-address}
+use Rattle.code_follows.specs.Laws.PointerValues.{ValueIs-address, points_to}
 use Rattle.code_follows.specs.Laws.Operand.{begins, IsAt-on, Goes-undefined, Listed}
 use Rattle.code_follows.specs.Laws.Operands.{DoesBeside, computes_it, is_undefined, DoesBoth}
 use Rattle.code_follows.specs.Laws.CombiningIntegers.{Next, combines_integers}
-
--- what a pointer type points to
-record HasTarget (s : Ty) : Type 0 where
-  target : Ty
-  is : target_of s ≡ Some target
-
-target_level : (l : TyLayer) → is_there (target_of_level l) ≡ true → (target : Ty) × (target_of_level l ≡ Some target)
-target_level (Ty-F.Pointer target) is = (target, refl)
-target_level _ is = absurd (cc)
-
-has_target : (s : Ty) → is_pointer s ≡ true → HasTarget s
-has_target s is = let both = target_level (out-Ty s) is in record { target = both.0; is = both.1 }
 
 module _ {A : Type 0} {k : Scene} (scene : IsScene k) {first : ℕ} {reg : Reg} {result : Result A} {st : State} {to leaves : ℕ}
     (low : 9 ≤ reg.0) (high : reg.0 ≤ 15) (s t : Ty) (span : Span) (f : Value → Run A) where
@@ -108,12 +95,12 @@ module _ {A : Type 0} {k : Scene} (scene : IsScene k) {first : ℕ} {reg : Reg} 
   Goes-combines left_over o (computes first_int second_int) combines v w lies v_is w_is on fits more =
       combines_integers scene low high s t span f left_over o first_int second_int combines v w lies v_is w_is on (omega (arith, fits)) more
   Goes-combines left_over assign.Add (adds points second_int) combines v w lies v_is w_is on fits more =
-      let there = has_target s points in
+      let there = points_to s points in
       combines_pointer left_over assign.Add there.target there.is second_int
       (added_does scene span s t there.target there.is second_int) v w
       lies v_is w_is on fits more
   Goes-combines left_over assign.Subtract (takes points second_int) combines v w lies v_is w_is on fits more =
-      let there = has_target s points in
+      let there = points_to s points in
       combines_pointer left_over assign.Subtract there.target there.is second_int
       (taken_does scene span s t there.target there.is second_int)
       v w lies v_is w_is on fits more

@@ -33,8 +33,8 @@ use Rattle.code_follows.specs.Values.{IsOfLevel, ValueIs}
 use Rattle.code_follows.specs.Laws.Computing.{Few, are_quiet-append, constant_quiet, constant_few}
 use Rattle.code_follows.specs.Laws.Converting.{wrap_short}
 use Rattle.code_follows.specs.Laws.Moving.{IsNumber-moved}
-use Rattle.code_follows.specs.Laws.PointerValues.{ValueIs-address, address-ValueIs, target_here}
 use Rattle.code_follows.specs.Laws.Nodes.Integers.{ValueIs-integer}
+use Rattle.code_follows.specs.Laws.PointerValues.{ValueIs-address, address-ValueIs, target_here}
 use Rattle.code_follows.specs.Laws.ScalarSizes.{ScalarIs, integer, pointer, scalar_is}
 use Rattle.code_follows.specs.Laws.Walking.{is_quiet, are_quiet, Short}
 
@@ -121,5 +121,5 @@ step_is {k} scene step t scalar r v now s relates given near value = by_type (sc
           number = (n + bytes) % 2 ^ 64;
           computes = pointer_stepped-computes r n s given refl (structs_in k) step t target of (omega (arith, near));
           is = subst (λ (x : Value). ValueIs (given_in k) t x now ((n + bytes) % 2 ^ 64)) (sym after)
-              (address-ValueIs of (IsNumber-moved bytes one.number));
+              (address-ValueIs {s = t} of (IsNumber-moved bytes one.number));
         }

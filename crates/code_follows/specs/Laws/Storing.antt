@@ -30,7 +30,7 @@ use Rattle.code_relation.specs.Trees.{Comes}
 use Rattle.code_relation.specs.Laws.BytesPut.{Writes-put, Relates-put, KeepsFrom-all}
 use Rattle.code_relation.specs.Laws.Changing.{Change, changed, IsNumber-changed}
 use Rattle.code_relation.specs.Laws.Storing.{with_new}
-use Rattle.code_relation.specs.Laws.Stores.{Stores, Stores-local}
+use Rattle.code_relation.specs.Laws.Stores.{Stores}
 use Rattle.code_runs.specs.Bounded.{Account, sparing, later, Bounded}
 use Rattle.code_runs.specs.Laws.Bounded.{after}
 use Rattle.code_runs.specs.Laws.Ranges.{IsInRange-Steps}
@@ -43,7 +43,9 @@ use Rattle.code_follows.specs.Laws.Coming.{Came-part}
 use Rattle.code_follows.specs.Laws.Lying.{HasInstrs}
 use Rattle.code_follows.specs.Laws.Operand.{IsAt-on}
 use Rattle.code_follows.specs.Laws.ScalarBytes.{bytes_in, store_near-scalar, Stored, stored-scalar}
+use Rattle.code_follows.specs.Laws.ScalarSizes.{load_some}
 use Rattle.code_follows.specs.Laws.Slots.{SlotPlace, slot_in_order}
+use Rattle.code_follows.specs.Laws.StoresAny.{stores_any}
 use Rattle.code_follows.specs.Laws.Walking.{step_within}
 
 -- ---- the meaning
@@ -127,7 +129,8 @@ module _ {k : Scene} (scene : IsScene k) (t : Ty) (scalar : is_scalar t ≡ true
       let cells : Stored (given_in k) now t v s.byte (s.sp + start) (general s r) =
       stored-scalar t v (general s r) s.byte (s.sp + start) scalar is_general in
       let stores : Stores (given_in k) k.here now number p.block 0 (cells_of t v) s (puts_bytes byte s) =
-      Stores-local relates.injects scene.file.meant.in_order number p.block p.call p.local 0 (cells_of t v) p.lives p.kind_is
+      stores_any relates.injects scene.file.meant.in_order number p.block 0 (cells_of t v) p.lives p.not_null p.not_text
+      (omega (arith, p.size_is, load_some t))
       (Writes-put number p.block 0 (bytes_in t) (s.sp + start) (general s r) (cells_of t v) (omega (arith, p.start_is))
       (omega (arith, p.size_is)) cells.as_many cells.cells) in
       let range : IsInRange (puts_bytes byte s) = IsInRange-Steps 1 led.steps relates.injects.in_range in
