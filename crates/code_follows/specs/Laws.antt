@@ -46,6 +46,7 @@ pub mod ArgumentsFetched
 pub mod Whole
 pub mod Expressions
 pub mod PartsOfCode
+pub mod AllNodes
 pub mod ScalarBytes
 pub mod Slots
 pub mod Storing

@@ -34,7 +34,3 @@ pub mod CompoundSlot
 pub mod Assigned
 pub mod Stepped
 pub mod Compound
-pub mod OnPointers
-pub mod OnTwoPointers
-pub mod PointersOperated
-pub mod AnyOperator
