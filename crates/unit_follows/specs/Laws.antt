@@ -25,3 +25,5 @@ pub mod Bodies
 pub mod Running
 pub mod Whole
 pub mod Files
+pub mod Ended
+pub mod FrameFacts

@@ -38,7 +38,6 @@ use Rattle.code_relation.specs.Relates.{Relates}
 use Rattle.code_relation.specs.Sites.{Given, units_of}
 use Rattle.code_relation.specs.Trees.{Part, Exits, Comes, ComesBy, ComesToLeave, inner_tagged, is_inner_slot}
 use Rattle.code_relation.specs.Laws.Kept.{SameInjected, Injects-same}
-use Rattle.code_relation.specs.Laws.LocalBytes.{all_framed}
 use Rattle.code_relation.specs.Laws.Placing.{get_front, get_back, from_item}
 use Rattle.code_relation.specs.Laws.Registers.{Relates-register}
 use Rattle.frame_layout.specs.declared.frame.Frame.{Frame}
@@ -51,12 +50,13 @@ use Rattle.sym_code.specs.declared.item.SymItem.{SymItem}
 use Rattle.sym_code.specs.declared.item.SymItem.TheVariants as item
 use Rattle.unit_follows.specs.Functions.{IsPlacedFunction, argument_items, body_items, body_part, all_items, function_place, EndsBody}
 use Rattle.unit_follows.specs.Placing.{Placing}
+use Rattle.unit_follows.specs.Laws.FrameFacts.{frame_some}
 use Rattle.unit_follows.specs.Laws.Entering.{IsNewCall}
 use Rattle.unit_follows.specs.Laws.Finishing.{InCall, call_finishes}
 use Rattle.unit_follows.specs.Laws.InCalls.{InCall-kept, InCall-bytes, Back, Bounded-finished}
 use Rattle.unit_follows.specs.Laws.Items.{StandsAt-words, item_placed, targets}
 use Rattle.unit_follows.specs.Laws.Jumps.{GoesTo-jump, StepsWithin-instr}
-use Rattle.unit_follows.specs.Laws.Leaving.{with_ended}
+use Rattle.unit_follows.specs.Laws.Ended.{with_ended}
 use Rattle.unit_follows.specs.Laws.Lengths.{place-end, place_of, place-within}
 use Rattle.unit_follows.specs.Laws.EntrySteps.{none_tagged}
 use Rattle.unit_follows.specs.Laws.PlacedWords.{PlacedWords}
@@ -64,15 +64,6 @@ use Rattle.unit_follows.specs.Laws.Standing.{Standing, HasInstr-first}
 
 append-three : (xs ys : List SymItem) (i : SymItem) → xs ++ (ys ++ ((i ∷ []) ++ [])) ≡ xs ++ ys ++ i ∷ []
 append-three xs ys i = sym (append_assoc xs ys (i ∷ []))
-
--- a frame has its words
-pub frame_some : {c : Code} {p : Placing} {f : Function} {tf : TFunction} {base : ℕ} → IsPlacedFunction c p f tf base →
-    24 ≤ (frame_of (units_of c.given) f).bytes
-frame_some {c} {p} {f} {tf} fn =
-    let one : Call = record { number = 0; function = f; place = 0 } in
-    let framed = all_framed c.given.program fn.file.meant.in_order (one ∷ []) (one ∷ [])
-    (refl, record { function = tf; is = fn.is }, tt) in
-    omega (arith, framed.0)
 
 module _ {c : Code} {p : Placing} {f : Function} {tf : TFunction} {base : ℕ} (fn : IsPlacedFunction c p f tf base) where
   abbrev g : Given

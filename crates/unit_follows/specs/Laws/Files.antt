@@ -1,11 +1,10 @@
 -- The words of all functions of a file follow them, where those of other files do as far as less work reaches (this project's own).
-use Rattle.std.specs.Prelude.{◌≡◌, ◌≢◌, ℕ, zero, suc, ◌<◌, ◌≤◌, List, length, slice_get, Option, Some, None}
+use Rattle.std.specs.Prelude.{◌≡◌, ◌≢◌, ℕ, zero, suc, ◌<◌, ◌≤◌, List, length, slice_get, Some}
 use Rattle.std.proofs.Common.{arith, ap, sym, subst, ◌∙◌, inl, inr}
 use Rattle.std.proofs.lemmas.Bool.{cases_eq}
 use Rattle.a64_code.specs.State.{State}
 use Rattle.c_type_base.specs.declared.typed.StructInfo.{StructInfo}
 use Rattle.c_type_base.specs.declared.typed.TFunction.{TFunction}
-use Rattle.c_type_base.specs.declared.typed.Typed.{Typed}
 use Rattle.block_meaning.specs.Linkage.{function_of, function_in, function_named, structs_in, structs_of}
 use Rattle.block_meaning.specs.Running.{Function}
 use Rattle.code_relation.specs.Calls.{frame_by, frame_of}

@@ -29,7 +29,8 @@ use Rattle.gen_unit.specs.Functions.{exit}
 use Rattle.stmt_follows.specs.Laws.Locals.Slots.{open_whole}
 use Rattle.unit_follows.specs.Laws.Entering.{IsNewCall}
 use Rattle.unit_follows.specs.Laws.ExitSteps.{IsAtExit, ExitDone, exit_done}
-use Rattle.unit_follows.specs.Laws.Leaving.{with_ended, moment, Holds-ended, Injects-left}
+use Rattle.unit_follows.specs.Laws.Ended.{with_ended, moment, Holds-ended}
+use Rattle.unit_follows.specs.Laws.Leaving.{Injects-left}
 use Rattle.unit_follows.specs.Laws.Spares.Runs.{IsSince, IsKept}
 use Rattle.unit_follows.specs.Laws.Standing.{Standing}
 

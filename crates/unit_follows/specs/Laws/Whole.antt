@@ -1,6 +1,6 @@
 -- The words of a function without tagged slots follow it: its entry, its body and its exit, or the guard that they meet (this project's
 -- own).
-use Rattle.std.specs.Prelude.{◌≡◌, ℕ, zero, suc, ◌+◌, ◌-◌, ◌*◌, ◌%◌, ◌<◌, ◌≤◌, Bool, true, false, leb, List, [], ◌∷◌, length, map}
+use Rattle.std.specs.Prelude.{◌≡◌, ℕ, zero, suc, ◌+◌, ◌-◌, ◌*◌, ◌<◌, ◌≤◌, Bool, true, false, leb, List, [], ◌∷◌, length, map}
 use Rattle.std.specs.Prelude.{Some, refl, if◌then◌else◌}
 use Rattle.std.proofs.Common.{arith, ap, sym, subst, ◌∙◌}
 use Rattle.std.proofs.lemmas.Bool.{leb-true, leb-false}
@@ -12,7 +12,6 @@ use Rattle.a64_laws.specs.Frames.{frame_pointer, link_register, HasPair}
 use Rattle.c_type_base.specs.declared.ty.Ty.{Ty}
 use Rattle.c_type_base.specs.declared.typed.TFunction.{TFunction}
 use Rattle.block_meaning.specs.declared.value.Value.{Value}
-use Rattle.block_meaning.specs.declared.value.Value.TheVariants.{Number, Address, Struct, NoValue}
 use Rattle.block_meaning.specs.Linkage.{function_named, type_of_local}
 use Rattle.block_meaning.specs.Meaning.{calls_at, frame_bytes, open_bytes, inside, call_of, body_of, new_call}
 use Rattle.block_meaning.specs.ProgramsInOrder.{HasFrame}
@@ -23,7 +22,7 @@ use Rattle.code_runs.specs.Bounded.{Account, later, Bounded}
 use Rattle.code_runs.specs.Laws.Bounded.{opened, after, finishes, unsaid, changes, IsWider-same}
 use Rattle.code_runs.specs.Laws.Ranges.{IsInRange-Steps}
 use Rattle.code_follows.specs.Laws.Stack.{stack_open}
-use Rattle.code_relation.specs.Calls.{stack_end, lowest, frame_of}
+use Rattle.code_relation.specs.Calls.{stack_end, lowest}
 use Rattle.code_relation.specs.Follows.{Code, setting, Does, HasArguments, Returns, call_room, function_words, types_of, WordsFollow}
 use Rattle.code_relation.specs.Follows.{call_of as tree_of}
 use Rattle.code_relation.specs.Injects.{Injects}
@@ -31,40 +30,25 @@ use Rattle.code_relation.specs.Items.{IsAt}
 use Rattle.code_relation.specs.Numbers.{Holds}
 use Rattle.code_relation.specs.Outcomes.{outcome_of}
 use Rattle.code_relation.specs.Relates.{Relates}
-use Rattle.code_relation.specs.Sites.{Given, units_of}
-use Rattle.code_relation.specs.Stands.{Stands}
-use Rattle.code_relation.specs.Laws.Called.{with_call, IsNumber-called}
+use Rattle.code_relation.specs.Sites.{units_of}
+use Rattle.code_relation.specs.Laws.Called.{with_call}
 use Rattle.code_relation.specs.Laws.Framed.{StartFrom, StartFrom-frame, keeps_above}
 use Rattle.code_relation.specs.Laws.Kept.{Injects-with, Holds-with}
 use Rattle.code_relation.specs.Laws.Told.{product_split}
 use Rattle.stmt_follows.specs.Laws.Locals.Slots.{open_whole}
 use Rattle.unit_follows.specs.Functions.{IsPlacedFunction, parameters}
 use Rattle.unit_follows.specs.Placing.{Placing}
-use Rattle.unit_follows.specs.Laws.Bodies.{order, fr, frame_some}
+use Rattle.unit_follows.specs.Laws.Bodies.{order, fr}
+use Rattle.unit_follows.specs.Laws.FrameFacts.{frame_some, frame_whole, Holds-called}
 use Rattle.unit_follows.specs.Laws.Entering.{IsNewCall, Injects-entered}
 use Rattle.unit_follows.specs.Laws.EntrySteps.{HasSpace, AtPair, at_pair, EntryDone, entry_done}
 use Rattle.unit_follows.specs.Laws.ExitSteps.{pair_guarded}
 use Rattle.unit_follows.specs.Laws.Finishing.{InCall, Bounded-told, since_made}
 use Rattle.unit_follows.specs.Laws.InCalls.{Back}
-use Rattle.unit_follows.specs.Laws.Leaving.{moment}
+use Rattle.unit_follows.specs.Laws.Ended.{moment}
 use Rattle.unit_follows.specs.Laws.Running.{body_does}
 use Rattle.unit_follows.specs.Laws.Spares.Meaning.{calls_spares}
 use Rattle.unit_follows.specs.Laws.Spares.Runs.{IsKept, OnGoes, any, Spares}
-
--- a frame has whole granules
-frame_whole : {c : Code} {p : Placing} {f : Function} {tf : TFunction} {base : ℕ} → IsPlacedFunction c p f tf base →
-    (frame_of (units_of c.given) f).bytes % 16 ≡ 0
-frame_whole {c} {p} {f} {tf} fn =
-    let one : Call = record { number = 0; function = f; place = (frame_of (units_of c.given) f).bytes } in
-    open_whole (units_of c.given) (one ∷ []) (one ∷ []) (refl, record { function = tf; is = fn.is }, tt) (omega arith, tt)
-
--- a value is as before where a call more was made
-Holds-called : (g : Given) {here : Context} (call : Call) (now : MeaningState) → Stands g here now → (v : Value) (n : ℕ) →
-    Holds g now v n → Holds g (with_call call now) v n
-Holds-called g call now stands (Number m) n holds = holds
-Holds-called g call now stands (Address q) n holds = IsNumber-called call stands holds
-Holds-called g call now stands (Struct q) n holds = IsNumber-called call stands holds
-Holds-called g call now stands NoValue n holds = tt
 
 module _ {c : Code} {p : Placing} {f : Function} {tf : TFunction} {base : ℕ} (fn : IsPlacedFunction c p f tf base) where
   -- ---- what the call means
