@@ -122,7 +122,8 @@ module _ {c : Code} {p : Placing} {f : Function} {tf : TFunction} {base : ℕ} (
       Bounded (setting c) a (λ v. call_room vs) t (Back c here now s) (outcome_of (Goes v (with_ended call done)))
   ended inner here now done call v vs s t a injects new of relates open_is pc in_call holds least most =
       Bounded-finished vs (call_finishes (base + 4 * end_of form first every) call v order injects new relates open_is
-      (pc ∙ exit_at) (subst (λ x. Standing c (base + 4 * end_of form first every) (exit (frame_of (units_of g) x))) (sym of) fn.words.leaves)
+      (pc ∙ exit_at) (subst (λ x. Standing c (base + 4 * end_of form first every) (exit (frame_of (units_of g) x)))
+      (sym of) fn.words.leaves)
       (subst (λ x. (frame_of (units_of g) x).bytes < 2 ^ 24) (sym of) (omega (arith, fn.most)))
       (subst (λ x. 16 ≤ (frame_of (units_of g) x).bytes) (sym of) (omega (arith, frame_some fn)))
       in_call holds) least most

@@ -100,7 +100,8 @@ of_no_call call (Local c k) is = absurd (cc)
 
 -- ---- numbers and cells
 
-pub IsNumber-ended : {g : Given} (c : Call) {done : MeaningState} {p : Pointer} {n : ℕ} → IsNumber g done p n → IsNumber g (with_ended c done) p n
+pub IsNumber-ended : {g : Given} (c : Call) {done : MeaningState} {p : Pointer} {n : ℕ} → IsNumber g done p n →
+    IsNumber g (with_ended c done) p n
 IsNumber-ended {g} c {done} {p} is = record {
   block = after c.number is.block;
   is = becomes c.number done.blocks p.block is.block is.is;

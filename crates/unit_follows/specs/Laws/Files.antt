@@ -30,7 +30,8 @@ pub FunctionWords-named : {c : Code} {p : Placing} {unit : ℕ} (placed : IsPlac
     FunctionWords c p unit (p.function (function_of unit n)) (frame_of (units_of c.given) (function_of unit n))
     (all_items (structs_of (units_of c.given) unit) tf (frame_of (units_of c.given) (function_of unit n)))
 FunctionWords-named {c} {p} {unit} placed inside n tf is =
-    subst (λ (fr : Frame). FunctionWords c p unit (p.function (function_of unit n)) fr (all_items (structs_of (units_of c.given) unit) tf fr))
+    subst (λ (fr : Frame). FunctionWords c p unit (p.function (function_of unit n)) fr (all_items (structs_of
+        (units_of c.given) unit) tf fr))
     (sym frame_is)
     (subst (λ (structs : List StructInfo). FunctionWords c p unit (p.function (function_of unit n)) (frame structs tf)
     (function_items structs tf)) (sym structs_is) (FunctionWords-file placed inside n tf there))

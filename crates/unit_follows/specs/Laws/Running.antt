@@ -67,7 +67,8 @@ few_over t extra Continued ends = absurd ends
 -- what follows the body
 abbrev behind_body : TFunction → Context → Call → Flow → Run Value
 behind_body tf here call flow =
-    and_then (with_some (latest (inside here call).open_calls) (λ d. with_blocks (end_call d.number))) (λ _. gives (result_of tf.result flow))
+    and_then (with_some (latest (inside here call).open_calls) (λ d. with_blocks (end_call d.number))) (λ _. gives
+        (result_of tf.result flow))
 
 module _ {c : Code} {p : Placing} {f : Function} {tf : TFunction} {base : ℕ} (fn : IsPlacedFunction c p f tf base) (bound : ℕ)
     (here : Context) (now : MeaningState) (call : Call) (vs : List Value) (s : State) (injects : Injects c.given here now s)
@@ -130,7 +131,8 @@ module _ {c : Code} {p : Placing} {f : Function} {tf : TFunction} {base : ℕ} (
           by_inner (inl has) = contains_front ks taken k has
           by_inner (inr there) = by_ready (is_ready.only k number there)
 
-      does : Does c (statement_tree c.given (λ here. items parts here fn.order.items) (part fn) (body_place fn) scope.locals exits) inner then' t
+      does : Does c (statement_tree c.given (λ here. items parts here fn.order.items) (part fn)
+          (body_place fn) scope.locals exits) inner then' t
       does = (fn.follows.follows c (body_place fn) scope body_placed (record { program_is = refl; unit_is = refl; function_is = fn.is })
           fn.order.body (body_fresh fn.fresh).1 bound bound).does inner then' t within relates ((is_in, pc), only)
 
@@ -148,7 +150,8 @@ module _ {c : Code} {p : Placing} {f : Function} {tf : TFunction} {base : ℕ} (
       (subst (λ (layer : StmtLayer). Bounded (setting c) (later stored.steps a) (λ v. call_room vs) stored.to (Back c here now s)
       (outcome_of (and_then (body_node parts stored.ready layer) (behind_body tf here call) stored.later))) (sym fn.order.body_is)
       (subst (λ r. Bounded (setting c) (later stored.steps a) (λ v. call_room vs) stored.to (Back c here now s) (outcome_of r))
-      (sym (and_then-apart (new_locals stored.ready ks) (λ inner. items parts inner fn.order.items) (behind_body tf here call) stored.later))
+      (sym (and_then-apart (new_locals stored.ready ks) (λ inner. items parts inner fn.order.items)
+      (behind_body tf here call) stored.later))
       entered.bounded)))
     where
       stored : ArgumentsStored c (fr fn).temps (inside here call) (parameters tf) vs then' t ((spot fn).at (length (args fn)))

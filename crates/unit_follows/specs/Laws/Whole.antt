@@ -56,7 +56,8 @@ module _ {c : Code} {p : Placing} {f : Function} {tf : TFunction} {base : ℕ} (
   abbrev called : ℕ → Context → List Value → Run Value
   called bound here vs = call_of (statements_at (calls_at bound) bound) here f vs tf (fr fn).bytes
 
-  call_is : (bound : ℕ) (here : Context) (vs : List Value) → here.program ≡ c.given.program → calls_at (suc bound) here f vs ≡ called bound here vs
+  call_is : (bound : ℕ) (here : Context) (vs : List Value) → here.program ≡ c.given.program →
+      calls_at (suc bound) here f vs ≡ called bound here vs
   call_is bound here vs program =
       ap (λ o. with_some o (λ t. with_some (frame_bytes here.program f) (λ bytes.
       call_of (statements_at (calls_at bound) bound) here f vs t bytes))) (ap (λ (q : Program). function_named q.units f) program ∙ fn.is)
