@@ -27,3 +27,4 @@ pub mod Whole
 pub mod Files
 pub mod Ended
 pub mod FrameFacts
+pub mod FunctionStands

@@ -21,8 +21,8 @@ pub frame_some : {c : Code} {p : Placing} {f : Function} {tf : TFunction} {base 
     24 ≤ (frame_of (units_of c.given) f).bytes
 frame_some {c} {p} {f} {tf} fn =
     let one : Call = record { number = 0; function = f; place = 0 } in
-    let framed = all_framed c.given.program fn.file.meant.in_order (one ∷ []) (one ∷ [])
-    (refl, record { function = tf; is = fn.is }, tt) in
+    let framed = all_framed c.given.program fn.here.file.meant.in_order (one ∷ []) (one ∷ [])
+    (refl, record { function = tf; is = fn.here.is }, tt) in
     omega (arith, framed.0)
 
 -- a frame has whole granules
@@ -30,7 +30,7 @@ pub frame_whole : {c : Code} {p : Placing} {f : Function} {tf : TFunction} {base
     (frame_of (units_of c.given) f).bytes % 16 ≡ 0
 frame_whole {c} {p} {f} {tf} fn =
     let one : Call = record { number = 0; function = f; place = (frame_of (units_of c.given) f).bytes } in
-    open_whole (units_of c.given) (one ∷ []) (one ∷ []) (refl, record { function = tf; is = fn.is }, tt) (omega arith, tt)
+    open_whole (units_of c.given) (one ∷ []) (one ∷ []) (refl, record { function = tf; is = fn.here.is }, tt) (omega arith, tt)
 
 -- a value is as before where a call more was made
 pub Holds-called : (g : Given) {here : Context} (call : Call) (now : MeaningState) → Stands g here now → (v : Value) (n : ℕ) →

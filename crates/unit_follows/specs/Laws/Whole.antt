@@ -60,12 +60,13 @@ module _ {c : Code} {p : Placing} {f : Function} {tf : TFunction} {base : ℕ} (
       calls_at (suc bound) here f vs ≡ called bound here vs
   call_is bound here vs program =
       ap (λ o. with_some o (λ t. with_some (frame_bytes here.program f) (λ bytes.
-      call_of (statements_at (calls_at bound) bound) here f vs t bytes))) (ap (λ (q : Program). function_named q.units f) program ∙ fn.is)
+      call_of (statements_at (calls_at bound) bound) here f vs t bytes))) (ap (λ (q : Program). function_named q.units f) program
+          ∙ fn.here.is)
       ∙ ap (λ o. with_some o (λ bytes. call_of (statements_at (calls_at bound) bound) here f vs tf bytes))
-      (ap (λ q. frame_bytes q f) program ∙ has.is ∙ ap Some (fn.file.meant.frames f has.bytes has.is))
+      (ap (λ q. frame_bytes q f) program ∙ has.is ∙ ap Some (fn.here.file.meant.frames f has.bytes has.is))
     where
       has : HasFrame c.given.program f
-      has = (order fn).frames f tf fn.is
+      has = (order fn).frames f tf fn.here.is
 
   module _ (bound : ℕ) (here : Context) (now : MeaningState) (vs : List Value) (s : State) (relates : Relates c.given here now s)
       (pc : s.pc ≡ base) where
@@ -80,9 +81,9 @@ module _ {c : Code} {p : Placing} {f : Function} {tf : TFunction} {base : ℕ} (
 
     space : HasSpace (fr fn) s
     space = record {
-      safe = fn.safe;
-      within = omega (arith, injects.frames.sp, injects.frames.fit, injects.loaded.stack_size.most, fn.most);
-      small = omega (arith, fn.most);
+      safe = fn.here.safe;
+      within = omega (arith, injects.frames.sp, injects.frames.fit, injects.loaded.stack_size.most, fn.here.most);
+      small = omega (arith, fn.here.most);
       some = omega (arith, frame_some fn);
       below = omega (arith, injects.frames.sp);
       sp_whole = omega (arith, injects.frames.sp, open_whole (units_of c.given) now.calls here.open_calls injects.stands.calls
@@ -108,7 +109,7 @@ module _ {c : Code} {p : Placing} {f : Function} {tf : TFunction} {base : ℕ} (
         }))
       where
         at : AtPair c base (fr fn) s
-        at = at_pair (fr fn) fn.words.enters is_at space
+        at = at_pair (fr fn) fn.here.words.enters is_at space
 
         in_guard : (guard : Span) (sp : ℕ) → guard.start ≤ sp → sp < guard.start + guard.bytes → is_in_span guard sp ≡ true
         in_guard guard sp from below = grind (arith, nat_tests)
@@ -116,7 +117,7 @@ module _ {c : Code} {p : Placing} {f : Function} {tf : TFunction} {base : ℕ} (
         guarded : is_in_span at.low.to.guard at.low.to.sp ≡ true
         guarded = ap (λ guard. is_in_span guard at.low.to.sp) (at.low.same.guard ∙ injects.as_loaded.guard)
             ∙ in_guard c.given.loaded.guard at.low.to.sp
-            (omega (arith, injects.loaded.guard_end, at.low.sp, injects.frames.sp, injects.frames.fit, fn.most))
+            (omega (arith, injects.loaded.guard_end, at.low.sp, injects.frames.sp, injects.frames.fit, fn.here.most))
             (omega (arith, injects.loaded.guard_end, injects.loaded.guard_bytes_is, at.low.sp, injects.frames.sp, passes))
 
     -- ---- it is large enough
@@ -126,8 +127,8 @@ module _ {c : Code} {p : Placing} {f : Function} {tf : TFunction} {base : ℕ} (
       number_is = refl;
       place_is = refl;
       fits = fits;
-      there = record { function = tf; is = fn.is };
-      safe = fn.safe;
+      there = record { function = tf; is = fn.here.is };
+      safe = fn.here.safe;
     }
 
     shallow : (a : Account) → call.place ≤ c.given.program.stack → HasArguments c.given now s 0 (map type_of_local (parameters tf)) vs →
@@ -152,7 +153,7 @@ module _ {c : Code} {p : Placing} {f : Function} {tf : TFunction} {base : ℕ} (
         sp_is = injects.frames.sp
 
         e : EntryDone c base (fr fn) s
-        e = entry_done (fr fn) fn.words.enters is_at space
+        e = entry_done (fr fn) fn.here.words.enters is_at space
             (stack_open injects (s.sp - (fr fn).bytes) 16 (omega (arith, sp_is, fits, space.within))
             (omega (arith, sp_is, space.within, space.some)))
 
@@ -236,7 +237,7 @@ WordsFollow-function {c} {p} {f} {tf} {base} fn = record {
 }
   where
     types : types_of (function_named (units_of c.given) f) ≡ map type_of_local (parameters tf)
-    types = ap types_of fn.is
+    types = ap types_of fn.here.is
 
     by_bound : (bound left : ℕ) (vs : List Value) (here : Context) (now : MeaningState) (s : State) → left ≤ c.reach →
         Relates c.given here now s → s.pc ≡ base → HasArguments c.given now s 0 (types_of (function_named (units_of c.given) f)) vs →
@@ -251,7 +252,7 @@ WordsFollow-function {c} {p} {f} {tf} {base} fn = record {
         (by_depth fn bound here spent vs s spent_relates pc (later 1 (opened (setting c) now.work)) (leb place here.program.stack) refl
         program (arguments_spent 0 (map type_of_local (parameters tf)) vs
         (subst (λ ts. HasArguments c.given now s 0 ts vs) types arguments)) within (omega (arith, some))
-        (omega (arith, fn.file.pays, ap (λ w. c.per * w) some, product_split c.per left 1)))))
+        (omega (arith, fn.here.file.pays, ap (λ w. c.per * w) some, product_split c.per left 1)))))
       where
         spent : MeaningState
         spent = record now { work = left }
