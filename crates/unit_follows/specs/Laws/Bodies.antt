@@ -114,8 +114,6 @@ module _ {c : Code} {p : Placing} {f : Function} {tf : TFunction} {base : ℕ} (
   pub exit_at : spot.at (length every) ≡ base + 4 * end_of form first every
   exit_at = ap (λ n. base + 4 * n) (place-end form first every)
 
-  -- ---- how it ends
-
   ended : (inner here : Context) (now done : MeaningState) (call : Call) (v : Value) (vs : List Value) (s t : State) (a : Account) →
       Injects g here now s → IsNewCall g here now call → call.function ≡ f → Relates g inner done t →
       inner.open_calls ≡ call ∷ here.open_calls → t.pc ≡ spot.at (length every) → InCall g here call s t → Holds g done v (t.register 0) →
@@ -128,8 +126,6 @@ module _ {c : Code} {p : Placing} {f : Function} {tf : TFunction} {base : ℕ} (
       (subst (λ x. (frame_of (units_of g) x).bytes < 2 ^ 24) (sym of) (omega (arith, fn.here.most)))
       (subst (λ x. 16 ≤ (frame_of (units_of g) x).bytes) (sym of) (omega (arith, frame_some fn)))
       in_call holds) least most
-
-  -- ---- at the end of its items
 
   -- the value of a function that ends without one
   missing_holds : {here : Context} {now : MeaningState} {s : State} → Injects g here now s → (t : Ty) → Holds g now (missing_result t) 0

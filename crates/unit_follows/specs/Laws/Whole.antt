@@ -185,8 +185,6 @@ module _ {c : Code} {p : Placing} {f : Function} {tf : TFunction} {base : ℕ} (
           kept = keeps_above (units_of c.given) s e.to here.open_calls e.entered.byte starts;
         }
 
-    -- ---- both
-
     by_depth : (a : Account) (b : Bool) → leb call.place here.program.stack ≡ b → here.program ≡ c.given.program →
         HasArguments c.given now s 0 (map type_of_local (parameters tf)) vs → now.work ≤ c.reach →
         a.least ≤ now.work + a.so_far → a.so_far + 95 + c.per * now.work ≤ a.most →
@@ -220,8 +218,6 @@ module _ {c : Code} {p : Placing} {f : Function} {tf : TFunction} {base : ℕ} (
         kept (Goes w other) is holds =
             let same : other ≡ last = cc in subst (λ x. IsKept (moment now) (record now { work = left }) x) same holds.0
         kept (Stops why other) is holds = absurd (cc)
-
--- ---- the words
 
 -- what they have to do with a unit less, where the first step was made
 abbrev Goal : Code → ℕ → List Value → Context → MeaningState → State → Run Value → Type 0
