@@ -69,7 +69,8 @@ function_place structs tf fr at =
 
 -- ---- the whole
 
-pub record IsPlacedFunction (c : Code) (p : Placing) (f : Function) (tf : TFunction) (at : ℕ) : Type 1 where
+-- its words stand there, and it is in order
+pub record IsFunctionAt (c : Code) (p : Placing) (f : Function) (tf : TFunction) (at : ℕ) : Type 1 where
   pub file : HasFile c f
   pub is : function_named (units_of c.given) f ≡ Some tf
   pub safe : has_tagged (units_of c.given) f ≡ false
@@ -83,15 +84,21 @@ pub record IsPlacedFunction (c : Code) (p : Placing) (f : Function) (tf : TFunct
   -- the body
   pub order : FunctionInOrder c.given.program f.unit tf
   pub fresh : Fresh (numbered 0 (parameters tf)) (TStmt-F.Block order.items)
+
+-- So its words follow it.
+pub record IsPlacedFunction (c : Code) (p : Placing) (f : Function) (tf : TFunction) (at : ℕ) : Type 1 where
+  pub here : IsFunctionAt c p f tf at
+  -- the body
   pub follows : let fr = frame_of (units_of c.given) f in
-      FollowsItems (body_part (structs_of (units_of c.given) f.unit) f tf fr) 0 0 order.items
-  pub ends : (bound : ℕ) (here : Context) (now : MeaningState) (s : State) (flow : Flow) (later : MeaningState) →
-      Relates c.given here now s → IsIn f here → items (statements_at (calls_at bound) bound) here order.items now ≡ Goes flow later →
+      FollowsItems (body_part (structs_of (units_of c.given) f.unit) f tf fr) 0 0 here.order.items
+  pub ends : (bound : ℕ) (around : Context) (now : MeaningState) (s : State) (flow : Flow) (later : MeaningState) →
+      Relates c.given around now s → IsIn f around →
+      items (statements_at (calls_at bound) bound) around here.order.items now ≡ Goes flow later →
       EndsBody tf.result flow
   -- the parameters
-  pub arguments : (here : Context) (call : Call) (vs : List Value) (now : MeaningState) (t : State) →
-      Relates c.given (inside here call) now t → call.function ≡ f →
+  pub arguments : (around : Context) (call : Call) (vs : List Value) (now : MeaningState) (t : State) →
+      Relates c.given (inside around call) now t → call.function ≡ f →
       HasArguments c.given now t 0 (map type_of_local (parameters tf)) vs →
       let fr = frame_of (units_of c.given) f in let place = function_place (structs_of (units_of c.given) f.unit) tf fr at in
       t.pc ≡ place.at 0 →
-      ArgumentsStored c fr.temps (inside here call) (parameters tf) vs now t (place.at (length (argument_items tf fr)))
+      ArgumentsStored c fr.temps (inside around call) (parameters tf) vs now t (place.at (length (argument_items tf fr)))

@@ -25,3 +25,6 @@ pub mod Bodies
 pub mod Running
 pub mod Whole
 pub mod Files
+pub mod Ended
+pub mod FrameFacts
+pub mod FunctionStands

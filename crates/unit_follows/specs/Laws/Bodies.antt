@@ -38,7 +38,6 @@ use Rattle.code_relation.specs.Relates.{Relates}
 use Rattle.code_relation.specs.Sites.{Given, units_of}
 use Rattle.code_relation.specs.Trees.{Part, Exits, Comes, ComesBy, ComesToLeave, inner_tagged, is_inner_slot}
 use Rattle.code_relation.specs.Laws.Kept.{SameInjected, Injects-same}
-use Rattle.code_relation.specs.Laws.LocalBytes.{all_framed}
 use Rattle.code_relation.specs.Laws.Placing.{get_front, get_back, from_item}
 use Rattle.code_relation.specs.Laws.Registers.{Relates-register}
 use Rattle.frame_layout.specs.declared.frame.Frame.{Frame}
@@ -51,12 +50,14 @@ use Rattle.sym_code.specs.declared.item.SymItem.{SymItem}
 use Rattle.sym_code.specs.declared.item.SymItem.TheVariants as item
 use Rattle.unit_follows.specs.Functions.{IsPlacedFunction, argument_items, body_items, body_part, all_items, function_place, EndsBody}
 use Rattle.unit_follows.specs.Placing.{Placing}
+use Rattle.unit_follows.specs.Laws.FunctionStands.{function_stands}
+use Rattle.unit_follows.specs.Laws.FrameFacts.{frame_some}
 use Rattle.unit_follows.specs.Laws.Entering.{IsNewCall}
 use Rattle.unit_follows.specs.Laws.Finishing.{InCall, call_finishes}
 use Rattle.unit_follows.specs.Laws.InCalls.{InCall-kept, InCall-bytes, Back, Bounded-finished}
-use Rattle.unit_follows.specs.Laws.Items.{StandsAt-words, item_placed, targets}
+use Rattle.unit_follows.specs.Laws.Items.{item_placed, targets}
 use Rattle.unit_follows.specs.Laws.Jumps.{GoesTo-jump, StepsWithin-instr}
-use Rattle.unit_follows.specs.Laws.Leaving.{with_ended}
+use Rattle.unit_follows.specs.Laws.Ended.{with_ended}
 use Rattle.unit_follows.specs.Laws.Lengths.{place-end, place_of, place-within}
 use Rattle.unit_follows.specs.Laws.EntrySteps.{none_tagged}
 use Rattle.unit_follows.specs.Laws.PlacedWords.{PlacedWords}
@@ -64,15 +65,6 @@ use Rattle.unit_follows.specs.Laws.Standing.{Standing, HasInstr-first}
 
 append-three : (xs ys : List SymItem) (i : SymItem) → xs ++ (ys ++ ((i ∷ []) ++ [])) ≡ xs ++ ys ++ i ∷ []
 append-three xs ys i = sym (append_assoc xs ys (i ∷ []))
-
--- a frame has its words
-pub frame_some : {c : Code} {p : Placing} {f : Function} {tf : TFunction} {base : ℕ} → IsPlacedFunction c p f tf base →
-    24 ≤ (frame_of (units_of c.given) f).bytes
-frame_some {c} {p} {f} {tf} fn =
-    let one : Call = record { number = 0; function = f; place = 0 } in
-    let framed = all_framed c.given.program fn.file.meant.in_order (one ∷ []) (one ∷ [])
-    (refl, record { function = tf; is = fn.is }, tt) in
-    omega (arith, framed.0)
 
 module _ {c : Code} {p : Placing} {f : Function} {tf : TFunction} {base : ℕ} (fn : IsPlacedFunction c p f tf base) where
   abbrev g : Given
@@ -103,7 +95,7 @@ module _ {c : Code} {p : Placing} {f : Function} {tf : TFunction} {base : ℕ} (
   form = form_of fr first every
 
   pub order : InOrder g.program
-  order = fn.file.meant.in_order
+  order = fn.here.file.meant.in_order
 
   -- ---- where the parts stand
 
@@ -114,15 +106,13 @@ module _ {c : Code} {p : Placing} {f : Function} {tf : TFunction} {base : ℕ} (
   parts_are = append-three args body zero_item
 
   fits : base + 4 * end_of form first every < 2 ^ 56
-  fits = omega (arith, fn.words.leaves.below)
+  fits = omega (arith, fn.here.words.leaves.below)
 
   pub all_stand : StandsAt c f spot every
-  all_stand = StandsAt-words f form base first every refl fn.all (omega (arith, fn.file.pays)) fn.words.reach fits fn.sound fn.words.items
+  all_stand = function_stands fn.here
 
   pub exit_at : spot.at (length every) ≡ base + 4 * end_of form first every
   exit_at = ap (λ n. base + 4 * n) (place-end form first every)
-
-  -- ---- how it ends
 
   ended : (inner here : Context) (now done : MeaningState) (call : Call) (v : Value) (vs : List Value) (s t : State) (a : Account) →
       Injects g here now s → IsNewCall g here now call → call.function ≡ f → Relates g inner done t →
@@ -131,12 +121,11 @@ module _ {c : Code} {p : Placing} {f : Function} {tf : TFunction} {base : ℕ} (
       Bounded (setting c) a (λ v. call_room vs) t (Back c here now s) (outcome_of (Goes v (with_ended call done)))
   ended inner here now done call v vs s t a injects new of relates open_is pc in_call holds least most =
       Bounded-finished vs (call_finishes (base + 4 * end_of form first every) call v order injects new relates open_is
-      (pc ∙ exit_at) (subst (λ x. Standing c (base + 4 * end_of form first every) (exit (frame_of (units_of g) x))) (sym of) fn.words.leaves)
-      (subst (λ x. (frame_of (units_of g) x).bytes < 2 ^ 24) (sym of) (omega (arith, fn.most)))
+      (pc ∙ exit_at) (subst (λ x. Standing c (base + 4 * end_of form first every) (exit (frame_of (units_of g) x)))
+      (sym of) fn.here.words.leaves)
+      (subst (λ x. (frame_of (units_of g) x).bytes < 2 ^ 24) (sym of) (omega (arith, fn.here.most)))
       (subst (λ x. 16 ≤ (frame_of (units_of g) x).bytes) (sym of) (omega (arith, frame_some fn)))
       in_call holds) least most
-
-  -- ---- at the end of its items
 
   -- the value of a function that ends without one
   missing_holds : {here : Context} {now : MeaningState} {s : State} → Injects g here now s → (t : Ty) → Holds g now (missing_result t) 0
@@ -220,7 +209,7 @@ module _ {c : Code} {p : Placing} {f : Function} {tf : TFunction} {base : ℕ} (
 
   -- no slot is tagged, so the tags are as they are
   no_inner : inner_tagged fr.slots ≡ []
-  no_inner = ap (filter is_inner_slot) (none_tagged fr.slots fn.safe)
+  no_inner = ap (filter is_inner_slot) (none_tagged fr.slots fn.here.safe)
 
   came : {inner : Context} {t u : State} {v : Value} {done : MeaningState} → (leaves : ComesToLeave g part body_place inner t v done u) →
       Comes g 0 (body_place.at leaves.position) inner t done u
@@ -279,7 +268,7 @@ module _ {c : Code} {p : Placing} {f : Function} {tf : TFunction} {base : ℕ} (
       q = place_of form first every k
 
       placed : PlacedWords c p f.unit (base + 4 * q) (item_words form (targets form first every) q item.Leave)
-      placed = item_placed form (targets form first every) base first every k item.Leave item_is fn.words.items
+      placed = item_placed form (targets form first every) base first every k item.Leave item_is fn.here.words.items
 
       has : HasInstr c (base + 4 * q) (jump_instr Always (way q (end_of form first every)))
       has = HasInstr-first placed.stands
@@ -289,7 +278,8 @@ module _ {c : Code} {p : Placing} {f : Function} {tf : TFunction} {base : ℕ} (
 
       goes : GoesTo c exit_place u
       goes = GoesTo-jump base q (end_of form first every) has is_at
-          (omega (arith, fn.words.reach.jumps, place-within form first every k)) (omega (arith, fn.words.reach.jumps)) (omega (arith, fits))
+          (omega (arith, fn.here.words.reach.jumps, place-within form first every k)) (omega (arith, fn.here.words.reach.jumps)) (omega
+          (arith, fits))
 
   -- by how the body ends
   pub after_body : (flow : Flow) (inner here : Context) (now done : MeaningState) (call : Call) (vs : List Value) (s t u : State)

@@ -168,7 +168,8 @@ module _ {g : Given} {here : Context} {now : MeaningState} {s t : State} (c : Ca
   above : stack_end ≤ t.sp + g.program.stack
   above = omega (arith, entered.sp, sp_is, new.place_is, new.fits)
 
-  cell_kept : (number : ℕ) (b : Block) (offset : ℕ) (cell : Cell) → Lives (with_call c now) number b → slice_get b.cells offset ≡ Some cell →
+  cell_kept : (number : ℕ) (b : Block) (offset : ℕ) (cell : Cell) → Lives (with_call c now) number b →
+      slice_get b.cells offset ≡ Some cell →
       t.byte ((site_of g (with_call c now) number b).start + offset) ≡ s.byte ((site_of g (with_call c now) number b).start + offset)
   cell_kept number b offset cell lives is =
       block_bytes_kept t.sp order called entered.byte above number b ((site_of g (with_call c now) number b).start + offset) lives
@@ -197,7 +198,8 @@ module _ {g : Given} {here : Context} {now : MeaningState} {s t : State} (c : Ca
       choices = entered.choices ∙ called.frames.choices;
     };
     tags = record {
-      of_blocks = λ number b lives tagged a has. ap (λ tag. tag (granule_of a)) entered.tag ∙ called.tags.of_blocks number b lives tagged a has;
+      of_blocks =
+          λ number b lives tagged a has. ap (λ tag. tag (granule_of a)) entered.tag ∙ called.tags.of_blocks number b lives tagged a has;
       of_others = λ granule on none. ap (λ tag. tag granule) entered.tag ∙ called.tags.of_others granule on none;
       outside = λ granule off. ap (λ tag. tag granule) entered.tag ∙ called.tags.outside granule off;
       without_object = λ granule off none. ap (λ tag. tag granule) entered.tag ∙ called.tags.without_object granule off none;

@@ -29,7 +29,8 @@ use Rattle.gen_unit.specs.Functions.{lower, entry, exit}
 use Rattle.tag_plan.specs.Lists.{offset_from}
 use Rattle.unit_follows.specs.Laws.Entering.{IsEntered}
 use Rattle.unit_follows.specs.Laws.Jumps.{StepsWithin-instr}
-use Rattle.unit_follows.specs.Laws.Standing.{Standing, Standing-as, Standing-front, Standing-back, HasInstr-first, Comes, Comes-Runs, AreQuiet}
+use Rattle.unit_follows.specs.Laws.Standing.{Standing, Standing-as, Standing-front, Standing-back, HasInstr-first, Comes, Comes-Runs}
+use Rattle.unit_follows.specs.Laws.Standing.{AreQuiet}
 
 -- all but PC, SP and flags is the same
 pub record SameButSp (s t : State) : Type 0 where
@@ -61,7 +62,8 @@ lowered bytes s within small below fits = elim (cases_lt bytes 4096) [
     steps = 1;
     few = omega arith;
     some = omega arith;
-    runs = rw (lt-ltb bytes 4096 few) (Runs-one (sp_lowered 0 bytes bytes s (omega arith) within (omega (arith, below)) (omega (arith, small)))
+    runs =
+        rw (lt-ltb bytes 4096 few) (Runs-one (sp_lowered 0 bytes bytes s (omega arith) within (omega (arith, below)) (omega (arith, small)))
         refl (omega (arith, fits)));
     sp = omega (arith, within);
     same = record { register = refl; byte = refl; tag = refl; regions = refl; guard = refl; choices = refl; drawn = refl; outside = refl };
@@ -72,7 +74,8 @@ lowered bytes s within small below fits = elim (cases_lt bytes 4096) [
     few = omega arith;
     some = omega arith;
     runs = rw (le-ltb bytes 4096 many) (Runs-two
-        (sp_lowered 1 (bytes / 4096) (bytes / 4096 * 4096) s (omega arith) (omega (arith, within)) (omega (arith, below)) (omega (arith, small)))
+        (sp_lowered 1 (bytes / 4096) (bytes / 4096 * 4096) s (omega arith) (omega (arith, within)) (omega (arith, below)) (omega
+        (arith, small)))
         refl
         (sp_lowered 0 (bytes % 4096) (bytes % 4096) (puts_sp (s.sp - bytes / 4096 * 4096) s) (omega arith) (omega (arith, within))
         (omega (arith, below)) (omega (arith, small))) refl fits);
@@ -106,7 +109,8 @@ raised bytes s small below fits = elim (cases_lt bytes 4096) [
     steps = 1;
     few = omega arith;
     some = omega arith;
-    runs = rw (lt-ltb bytes 4096 few) (Runs-one (sp_raised 0 bytes bytes s (omega arith) (omega (arith, below))) refl (omega (arith, fits)));
+    runs =
+        rw (lt-ltb bytes 4096 few) (Runs-one (sp_raised 0 bytes bytes s (omega arith) (omega (arith, below))) refl (omega (arith, fits)));
     sp = refl;
     same = record { register = refl; byte = refl; tag = refl; regions = refl; guard = refl; choices = refl; drawn = refl; outside = refl };
   }
@@ -117,7 +121,8 @@ raised bytes s small below fits = elim (cases_lt bytes 4096) [
     some = omega arith;
     runs = rw (le-ltb bytes 4096 many) (Runs-two
         (sp_raised 1 (bytes / 4096) (bytes / 4096 * 4096) s (omega arith) (omega (arith, below))) refl
-        (sp_raised 0 (bytes % 4096) (bytes % 4096) (puts_sp (s.sp + bytes / 4096 * 4096) s) (omega arith) (omega (arith, below))) refl fits);
+        (sp_raised 0 (bytes % 4096) (bytes % 4096) (puts_sp (s.sp + bytes / 4096 * 4096) s) (omega arith) (omega
+        (arith, below))) refl fits);
     sp = omega arith;
     same = record { register = refl; byte = refl; tag = refl; regions = refl; guard = refl; choices = refl; drawn = refl; outside = refl };
   }

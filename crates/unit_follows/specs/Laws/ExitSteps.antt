@@ -34,7 +34,8 @@ use Rattle.tag_plan.specs.Lists.{offset_from}
 use Rattle.unit_follows.specs.Laws.EntrySteps.{Raised, raised, raise_quiet, exit-safe}
 use Rattle.unit_follows.specs.Laws.Jumps.{StepsWithin-instr}
 use Rattle.unit_follows.specs.Laws.Leaving.{IsLeft}
-use Rattle.unit_follows.specs.Laws.Standing.{Standing, Standing-as, Standing-front, Standing-back, HasInstr-first, Comes, Comes-Runs, AreQuiet}
+use Rattle.unit_follows.specs.Laws.Standing.{Standing, Standing-as, Standing-front, Standing-back, HasInstr-first, Comes, Comes-Runs}
+use Rattle.unit_follows.specs.Laws.Standing.{AreQuiet}
 
 -- ---- a pair that meets the guard
 

@@ -63,7 +63,8 @@ module _ (c : Code) (bound from : ℕ) (vs : List Value) (here : Context) (now :
   idle_call : (m : Run Value) → now.work ≡ 0 → Does' m
   idle_call m none = without_work c m now none (record { least = omega arith; most = omega arith }) relates.outside.output
 
-  linked_call : (g : Function) (to : ℕ) → Links c from to → WordsFollow c g to → length (types_of (function_named (units_of c.given) g)) ≤ 30 →
+  linked_call : (g : Function) (to : ℕ) → Links c from to → WordsFollow c g to →
+      length (types_of (function_named (units_of c.given) g)) ≤ 30 →
       HasArguments c.given now s 0 (types_of (function_named (units_of c.given) g)) vs → 0 < now.work → Does' (calls_at bound here g vs)
   linked_call g to links words few arguments some =
       let is_at : IsAt c from s = record { pc = pc; as_loaded = relates.injects.as_loaded; in_range = relates.injects.in_range } in
@@ -123,7 +124,8 @@ module _ (c : Code) (bound from : ℕ) (vs : List Value) (here : Context) (now :
         (linked_call g (p.function g) (links there) (all.follow g there) (all.few g)
         (subst (λ ts. HasArguments c.given now s 0 ts vs) (sym (ap types_of is))
         (arguments-over c.given now s these those 0 e.params (parameter_types tf) vs
-        (second (same_across these those e.result tf.result) (all_same_across these those e.params (parameter_types tf)) agrees) arguments))))
+        (second (same_across these those e.result tf.result) (all_same_across these those e.params
+        (parameter_types tf)) agrees) arguments))))
       where
         second : (a b : Bool) → (a && b) ≡ true → b ≡ true
         second true b is = is

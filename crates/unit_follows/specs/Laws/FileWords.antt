@@ -1,17 +1,15 @@
 -- The words of a placed file: those of each function, its entry, its items and its exit (this project's own).
-use Rattle.std.specs.Prelude.{◌≡◌, ℕ, zero, suc, ◌+◌, ◌*◌, ◌^◌, ◌<◌, ◌≤◌, List, [], ◌∷◌, ◌++◌, length, map, slice_get}
+use Rattle.std.specs.Prelude.{◌≡◌, ℕ, zero, suc, ◌+◌, ◌*◌, ◌^◌, ◌≤◌, List, [], ◌∷◌, ◌++◌, length, map, slice_get}
 use Rattle.std.specs.Prelude.{Some, refl}
 use Rattle.std.proofs.Common.{arith, ap, sym, subst, ◌∙◌, length-append}
 use Rattle.std.proofs.lemmas.List.{length-map}
 use Rattle.a64_code.specs.declared.instr.Instr.TheVariants.{Ldp, Ret}
-use Rattle.a64_code.specs.State.{State}
 use Rattle.a64_laws.specs.Forms.{stack_pointer}
 use Rattle.a64_laws.specs.Frames.{frame_pointer, link_register}
 use Rattle.block_meaning.specs.Linkage.{function_of, function_in}
 use Rattle.c_type_base.specs.declared.typed.StructInfo.{StructInfo}
 use Rattle.c_type_base.specs.declared.typed.TFunction.{TFunction}
 use Rattle.code_relation.specs.Follows.{Code}
-use Rattle.code_relation.specs.Items.{IsAt}
 use Rattle.code_runs.specs.Laws.CodeAt.{HasCode-kept}
 use Rattle.frame_layout.specs.declared.frame.Frame.{Frame}
 use Rattle.frame_layout.specs.Frames.{frame}
@@ -25,6 +23,7 @@ use Rattle.tag_plan.specs.Lists.{exit_list, offset_from}
 use Rattle.unit_follows.specs.Placed.{IsPlacedFile}
 use Rattle.unit_follows.specs.Placing.{Placing, filled}
 use Rattle.unit_follows.specs.Sound.{IsWithinReach}
+use Rattle.unit_follows.specs.Units.{IsInside}
 use Rattle.unit_follows.specs.Laws.Filled.{length-filled, filled-whole}
 use Rattle.unit_follows.specs.Laws.Items.{targets}
 use Rattle.unit_follows.specs.Laws.LabelPlaces.{within-reach}
@@ -33,10 +32,6 @@ use Rattle.unit_follows.specs.Laws.PlacedWords.{PlacedWords, PlacedWords-front, 
 use Rattle.unit_follows.specs.Laws.Standing.{Standing, Standing-as}
 
 -- ---- a file
-
--- states are inside where PC is at one of so many words
-pub record IsInside (c : Code) (at words : ℕ) : Type 0 where
-  pub inside : (k : ℕ) (s : State) → k < words → IsAt c (at + 4 * k) s → c.Inside s
 
 pub PlacedWords-file : {c : Code} {p : Placing} {unit : ℕ} (placed : IsPlacedFile c.given p unit) →
     IsInside c p.words (length (all_words placed.file.structs placed.file.functions)) →

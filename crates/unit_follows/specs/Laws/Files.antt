@@ -1,8 +1,7 @@
 -- The words of all functions of a file follow them, where those of other files do as far as less work reaches (this project's own).
-use Rattle.std.specs.Prelude.{◌≡◌, ◌≢◌, ℕ, zero, suc, ◌<◌, ◌≤◌, List, length, slice_get, Option, Some, None}
+use Rattle.std.specs.Prelude.{◌≡◌, ℕ, zero, suc, ◌<◌, ◌≤◌, List, length, slice_get, Some}
 use Rattle.std.proofs.Common.{arith, ap, sym, subst, ◌∙◌, inl, inr}
 use Rattle.std.proofs.lemmas.Bool.{cases_eq}
-use Rattle.a64_code.specs.State.{State}
 use Rattle.c_type_base.specs.declared.typed.StructInfo.{StructInfo}
 use Rattle.c_type_base.specs.declared.typed.TFunction.{TFunction}
 use Rattle.c_type_base.specs.declared.typed.Typed.{Typed}
@@ -10,7 +9,7 @@ use Rattle.block_meaning.specs.Linkage.{function_of, function_in, function_named
 use Rattle.block_meaning.specs.Running.{Function}
 use Rattle.code_relation.specs.Calls.{frame_by, frame_of}
 use Rattle.code_relation.specs.Follows.{Code, types_of, WordsFollow}
-use Rattle.code_relation.specs.Sites.{Given, units_of}
+use Rattle.code_relation.specs.Sites.{units_of}
 use Rattle.code_relation.specs.Stands.{IsThere}
 use Rattle.frame_layout.specs.declared.frame.Frame.{Frame}
 use Rattle.frame_layout.specs.Frames.{frame}
@@ -19,8 +18,9 @@ use Rattle.gen_unit.specs.Units.{all_words}
 use Rattle.unit_follows.specs.Functions.{IsPlacedFunction, all_items}
 use Rattle.unit_follows.specs.Placed.{IsPlacedFile}
 use Rattle.unit_follows.specs.Placing.{Placing}
+use Rattle.unit_follows.specs.Units.{IsInside, Setup, code, OthersFollow, IsPlacedIn, UnitFollows}
 use Rattle.unit_follows.specs.Laws.CallItems.{AllFollow}
-use Rattle.unit_follows.specs.Laws.FileWords.{IsInside, FunctionWords, FunctionWords-file}
+use Rattle.unit_follows.specs.Laws.FileWords.{FunctionWords, FunctionWords-file}
 use Rattle.unit_follows.specs.Laws.Whole.{WordsFollow-function}
 
 -- ---- the words of a function of a placed file
@@ -31,7 +31,8 @@ pub FunctionWords-named : {c : Code} {p : Placing} {unit : ℕ} (placed : IsPlac
     FunctionWords c p unit (p.function (function_of unit n)) (frame_of (units_of c.given) (function_of unit n))
     (all_items (structs_of (units_of c.given) unit) tf (frame_of (units_of c.given) (function_of unit n)))
 FunctionWords-named {c} {p} {unit} placed inside n tf is =
-    subst (λ (fr : Frame). FunctionWords c p unit (p.function (function_of unit n)) fr (all_items (structs_of (units_of c.given) unit) tf fr))
+    subst (λ (fr : Frame). FunctionWords c p unit (p.function (function_of unit n)) fr (all_items (structs_of
+        (units_of c.given) unit) tf fr))
     (sym frame_is)
     (subst (λ (structs : List StructInfo). FunctionWords c p unit (p.function (function_of unit n)) (frame structs tf)
     (function_items structs tf)) (sym structs_is) (FunctionWords-file placed inside n tf there))
@@ -47,50 +48,50 @@ FunctionWords-named {c} {p} {unit} placed inside n tf is =
 
 -- ---- all functions of a file
 
-module _ (g : Given) (per : ℕ) (Inside : State → Type 0) (p : Placing) (unit : ℕ) where
-  -- as far as so much work reaches
-  abbrev pub code : ℕ → Code
-  code reach = record { given = g; per = per; reach = reach; Inside = Inside }
-
-  -- the functions of other files
-  abbrev pub OthersFollow : ℕ → Type 0
-  OthersFollow reach = (f : Function) → f.unit ≢ unit → IsThere (units_of g) f → WordsFollow (code reach) f (p.function f)
-
+module _ (u : Setup) (p : Placing) (unit : ℕ) where
   -- what is known of the functions of the file, where all follow that they call
   pub record AreReady : Type 1 where
-    pub few : (f : Function) → length (types_of (function_named (units_of g) f)) ≤ 30
-    pub placed : (reach n : ℕ) (tf : TFunction) → function_named (units_of g) (function_of unit n) ≡ Some tf →
-        AllFollow (code reach) p →
-        IsPlacedFunction (code reach) p (function_of unit n) tf (p.function (function_of unit n))
+    pub few : (f : Function) → length (types_of (function_named (units_of u.given) f)) ≤ 30
+    pub placed : (reach n : ℕ) (tf : TFunction) → function_named (units_of u.given) (function_of unit n) ≡ Some tf →
+        AllFollow (code u reach) p →
+        IsPlacedFunction (code u reach) p (function_of unit n) tf (p.function (function_of unit n))
 
   -- with no work nothing is begun
-  no_work : (f : Function) (at : ℕ) → WordsFollow (code 0) f at
+  no_work : (f : Function) (at : ℕ) → WordsFollow (code u 0) f at
   no_work f at = record {
     follows = λ bound vs. record { does = λ here now s within relates begins. absurd (let b = begins.0 in omega (arith, within, b)) };
   }
 
-  all_follow : AreReady → (reach : ℕ) → ((n : ℕ) (tf : TFunction) → function_named (units_of g) (function_of unit n) ≡ Some tf →
-      WordsFollow (code reach) (function_of unit n) (p.function (function_of unit n))) → OthersFollow reach → AllFollow (code reach) p
+  all_follow : AreReady → (reach : ℕ) → ((n : ℕ) (tf : TFunction) → function_named (units_of u.given) (function_of unit n) ≡ Some tf →
+      WordsFollow (code u reach) (function_of unit n) (p.function (function_of unit n))) → OthersFollow u p unit reach →
+          AllFollow (code u reach) p
   all_follow ready reach own others = record {
     follow = λ f there. by_unit f there;
     few = ready.few;
   }
     where
-      named_here : (f : Function) (there : IsThere (units_of g) f) → f.unit ≡ unit → WordsFollow (code reach) f (p.function f)
+      named_here : (f : Function) (there : IsThere (units_of u.given) f) → f.unit ≡ unit → WordsFollow (code u reach) f (p.function f)
       named_here f there same =
-          subst (λ u. WordsFollow (code reach) (function_of u f.number) (p.function (function_of u f.number))) (sym same)
-          (own f.number there.function (ap (λ u. function_named (units_of g) (function_of u f.number)) (sym same) ∙ there.is))
+          subst (λ v. WordsFollow (code u reach) (function_of v f.number) (p.function (function_of v f.number))) (sym same)
+          (own f.number there.function (ap (λ v. function_named (units_of u.given) (function_of v f.number)) (sym same) ∙ there.is))
 
-      by_unit : (f : Function) → IsThere (units_of g) f → WordsFollow (code reach) f (p.function f)
+      by_unit : (f : Function) → IsThere (units_of u.given) f → WordsFollow (code u reach) f (p.function f)
       by_unit f there = elim (cases_eq f.unit unit) [
         | inl same ↦ named_here f there same
         | inr other ↦ others f other there
       ]
 
-  pub WordsFollow-file : AreReady → (reach : ℕ) → ((fewer : ℕ) → fewer < reach → OthersFollow fewer) → (n : ℕ) (tf : TFunction) →
-      function_named (units_of g) (function_of unit n) ≡ Some tf →
-      WordsFollow (code reach) (function_of unit n) (p.function (function_of unit n))
+  pub WordsFollow-file : AreReady → (reach : ℕ) → ((fewer : ℕ) → fewer < reach → OthersFollow u p unit fewer) → (n : ℕ) (tf : TFunction) →
+      function_named (units_of u.given) (function_of unit n) ≡ Some tf →
+      WordsFollow (code u reach) (function_of unit n) (p.function (function_of unit n))
   WordsFollow-file ready zero others n tf is = no_work (function_of unit n) (p.function (function_of unit n))
   WordsFollow-file ready (suc reach) others n tf is = WordsFollow-function (ready.placed reach n tf is (all_follow ready reach
       (λ m t named. WordsFollow-file ready reach (λ fewer less. others fewer (omega (arith, less))) m t named)
       (others reach (omega arith))))
+
+-- So the file is what it is to be, where its functions are ready wherever it is placed.
+pub UnitFollows-ready : (typed : Typed) → ((u : Setup) (p : Placing) (unit : ℕ) → IsPlacedIn typed u p unit → AreReady u p unit) →
+    UnitFollows typed
+UnitFollows-ready typed ready = record {
+  follows = λ u p unit reach placed others n tf is. WordsFollow-file u p unit (ready u p unit placed) reach others n tf is;
+}

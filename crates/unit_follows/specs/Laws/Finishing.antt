@@ -29,7 +29,8 @@ use Rattle.gen_unit.specs.Functions.{exit}
 use Rattle.stmt_follows.specs.Laws.Locals.Slots.{open_whole}
 use Rattle.unit_follows.specs.Laws.Entering.{IsNewCall}
 use Rattle.unit_follows.specs.Laws.ExitSteps.{IsAtExit, ExitDone, exit_done}
-use Rattle.unit_follows.specs.Laws.Leaving.{with_ended, moment, Holds-ended, Injects-left}
+use Rattle.unit_follows.specs.Laws.Ended.{with_ended, moment, Holds-ended}
+use Rattle.unit_follows.specs.Laws.Leaving.{Injects-left}
 use Rattle.unit_follows.specs.Laws.Spares.Runs.{IsSince, IsKept}
 use Rattle.unit_follows.specs.Laws.Standing.{Standing}
 
@@ -82,7 +83,8 @@ pub call_finishes : {c : Code} {here inner : Context} {now done : MeaningState} 
     inner.open_calls ≡ call ∷ here.open_calls → t.pc ≡ at → Standing c at (exit (frame_of (units_of c.given) call.function)) →
     (frame_of (units_of c.given) call.function).bytes < 2 ^ 24 → 16 ≤ (frame_of (units_of c.given) call.function).bytes →
     InCall c.given here call s t → Holds c.given done v (t.register 0) → Finished c here now call v done s t
-call_finishes {c} {here} {inner} {now} {done} {s} {t} at call v order injects new relates open_is pc leaves small some in_call holds = record {
+call_finishes {c} {here} {inner} {now} {done} {s} {t} at call v order injects new relates open_is pc leaves small some in_call holds =
+    record {
   to = e.to;
   steps = e.steps;
   least = e.least;

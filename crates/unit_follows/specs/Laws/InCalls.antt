@@ -16,7 +16,7 @@ use Rattle.code_relation.specs.Outcomes.{outcome_of}
 use Rattle.code_relation.specs.Sites.{Given, units_of}
 use Rattle.code_relation.specs.Laws.Keeps.{KeepsAll-bytes, KeepsAll-then}
 use Rattle.unit_follows.specs.Laws.Finishing.{InCall, Finished}
-use Rattle.unit_follows.specs.Laws.Leaving.{with_ended, moment}
+use Rattle.unit_follows.specs.Laws.Ended.{with_ended, moment}
 use Rattle.unit_follows.specs.Laws.Spares.Runs.{IsKept}
 
 -- ---- bounds and room at once

@@ -9,7 +9,8 @@ use Rattle.a64_laws.specs.Branches.{Branch, OnZero, OnOther}
 use Rattle.block_meaning.specs.Blocks.{pointer}
 use Rattle.block_meaning.specs.Laws.Progress.Linked.{all_blocks, DefinedWithin, defined-within, object-within, text-within}
 use Rattle.block_meaning.specs.Laws.Progress.Linked.{code-within}
-use Rattle.block_meaning.specs.Linkage.{Definition, AnObject, AFunction, defined, definition_of, block_of_definition, extern_at, object_block}
+use Rattle.block_meaning.specs.Linkage.{Definition, AnObject, AFunction, defined, definition_of, block_of_definition, extern_at}
+use Rattle.block_meaning.specs.Linkage.{object_block}
 use Rattle.block_meaning.specs.Linkage.{text_block, code_block}
 use Rattle.block_meaning.specs.Running.{Function, State as MeaningState}
 use Rattle.c_type_base.specs.declared.expr.Callee.TheVariants as callee
@@ -35,7 +36,8 @@ use Rattle.unit_follows.specs.Laws.CallItems.{AllFollow, Calls-function}
 use Rattle.unit_follows.specs.Laws.ExternCalls.{Calls-extern}
 use Rattle.unit_follows.specs.Laws.FileBlocks.{FileBlock, file_block, text_block_untagged}
 use Rattle.unit_follows.specs.Laws.Filled.{filled-whole}
-use Rattle.unit_follows.specs.Laws.Jumps.{GoesTo-jump, Branching, Branching-words, IsBranch, IsBranch-zero, IsBranch-other, length_of, reach_of}
+use Rattle.unit_follows.specs.Laws.Jumps.{GoesTo-jump, Branching, Branching-words, IsBranch, IsBranch-zero, IsBranch-other, length_of}
+use Rattle.unit_follows.specs.Laws.Jumps.{reach_of}
 use Rattle.unit_follows.specs.Laws.LabelPlaces.{label-at, label-within}
 use Rattle.unit_follows.specs.Laws.Lengths.{length-item, place_of, place-behind, place-within}
 use Rattle.unit_follows.specs.Laws.PlacedWords.{PlacedWords, PlacedWords-front, PlacedWords-back, PlacedWords-at}
@@ -149,7 +151,8 @@ module _ {c : Code} {p : Placing} (f : Function) (form : Form) (base at : ℕ) (
   slot_item q n r small has None is' placed =
       absurd (let e : None ≡ Some has.slot = sym is' ∙ ap (λ (x : Frame). slice_get x.slots n) frame ∙ has.is in cc)
   slot_item q n r small has (Some slot) is' placed =
-      let there : slice_get (frame_of (units_of c.given) f).slots n ≡ Some slot = ap (λ (x : Frame). slice_get x.slots n) (sym frame) ∙ is' in
+      let there : slice_get (frame_of (units_of c.given) f).slots n ≡ Some slot = ap (λ (x : Frame). slice_get x.slots n) (sym frame)
+      ∙ is' in
       let same : has.slot ≡ slot = let e : Some has.slot ≡ Some slot = sym has.is ∙ there in cc in
       subst (λ to. PutsAddress c f (base + 4 * q) to r (λ here. here.local n))
       (omega (arith, length-map (slot_address_list slot r) whole))

@@ -161,7 +161,8 @@ Branching-words {c} {taken} {contrary} {P} {Q} false base from to is stands back
       (subst (λ b. IsInReach b (base + 4 * from) (way from to)) (sym is.bits) (way-reaches 19 base from to (omega (arith, back)) on
       (omega (arith, fits))))
       (way-goes base from to) (is.goes s holds));
-  off = λ s is_at holds. subst (λ a. GoesTo c a s) (omega arith) (goes_in_one (passed-led taken (way from to) has is_at (is.passes s holds)));
+  off =
+      λ s is_at holds. subst (λ a. GoesTo c a s) (omega arith) (goes_in_one (passed-led taken (way from to) has is_at (is.passes s holds)));
 }
   where
     has : HasInstr c (base + 4 * from) (jump_instr taken (way from to))

@@ -67,7 +67,8 @@ few_over t extra Continued ends = absurd ends
 -- what follows the body
 abbrev behind_body : TFunction → Context → Call → Flow → Run Value
 behind_body tf here call flow =
-    and_then (with_some (latest (inside here call).open_calls) (λ d. with_blocks (end_call d.number))) (λ _. gives (result_of tf.result flow))
+    and_then (with_some (latest (inside here call).open_calls) (λ d. with_blocks (end_call d.number))) (λ _. gives
+        (result_of tf.result flow))
 
 module _ {c : Code} {p : Placing} {f : Function} {tf : TFunction} {base : ℕ} (fn : IsPlacedFunction c p f tf base) (bound : ℕ)
     (here : Context) (now : MeaningState) (call : Call) (vs : List Value) (s : State) (injects : Injects c.given here now s)
@@ -76,7 +77,7 @@ module _ {c : Code} {p : Placing} {f : Function} {tf : TFunction} {base : ℕ} (
   parts = statements_at (calls_at bound) bound
 
   abbrev ks : List ℕ
-  ks = declared fn.order.items
+  ks = declared fn.here.order.items
 
   abbrev taken : List ℕ
   taken = numbered 0 (parameters tf)
@@ -84,12 +85,12 @@ module _ {c : Code} {p : Placing} {f : Function} {tf : TFunction} {base : ℕ} (
   abbrev scope : Scope
   scope = body_scope c.given.program f.unit tf ks
 
-  body_fresh : Fresh taken (TStmt-F.Block fn.order.items) → AreNew taken ks × FreshItems (ks ++ taken) fn.order.items
+  body_fresh : Fresh taken (TStmt-F.Block fn.here.order.items) → AreNew taken ks × FreshItems (ks ++ taken) fn.here.order.items
   body_fresh (block are items) = (are, items)
 
   body_placed : IsPlaced (part fn) c (body_place fn)
   body_placed = record {
-    file = fn.file;
+    file = fn.here.file;
     stands = StandsAt-back (args fn) (body fn) (StandsAt-front (args fn ++ body fn) (zero_item fn ∷ [])
         (subst (λ is. StandsAt c f (spot fn) is) (parts_are fn) (all_stand fn)));
   }
@@ -102,12 +103,12 @@ module _ {c : Code} {p : Placing} {f : Function} {tf : TFunction} {base : ℕ} (
       IsInner ready ks inner → Relates c.given inner then' t → t.pc ≡ (body_place fn).at 0 → InCall c.given here call s t →
       then'.work ≤ c.reach → a.least ≤ then'.work + a.so_far → a.so_far + 60 + c.per * then'.work ≤ a.most →
       Bounded (setting c) a (λ v. call_room vs) t (Back c here now s)
-      (outcome_of (and_then (items parts inner fn.order.items) (behind_body tf here call) then'))
+      (outcome_of (and_then (items parts inner fn.here.order.items) (behind_body tf here call) then'))
   items_do ready inner then' t a is_ready is_inner relates pc in_call within least most =
-      does_then c {first_room = body_room does.extra} (items parts inner fn.order.items) (behind_body tf here call) then'
-      (Bounded-joint c (items parts inner fn.order.items then') (omega (arith, least)) (omega (arith, most))
+      does_then c {first_room = body_room does.extra} (items parts inner fn.here.order.items) (behind_body tf here call) then'
+      (Bounded-joint c (items parts inner fn.here.order.items then') (omega (arith, least)) (omega (arith, most))
       (λ flow. omega (arith, most)) (λ flow last u holds. holds)
-      (Bounded-told c (items parts inner fn.order.items then') does.bounded))
+      (Bounded-told c (items parts inner fn.here.order.items then') does.bounded))
       (λ flow last u n stands holds.
       let ends : EndsBody tf.result flow = fn.ends bound inner then' t flow last relates is_in holds.1 in
       after_body fn flow inner here now last call vs s t u (later n a) exits does.extra injects new of open_is in_call ends holds.0
@@ -130,9 +131,11 @@ module _ {c : Code} {p : Placing} {f : Function} {tf : TFunction} {base : ℕ} (
           by_inner (inl has) = contains_front ks taken k has
           by_inner (inr there) = by_ready (is_ready.only k number there)
 
-      does : Does c (statement_tree c.given (λ here. items parts here fn.order.items) (part fn) (body_place fn) scope.locals exits) inner then' t
-      does = (fn.follows.follows c (body_place fn) scope body_placed (record { program_is = refl; unit_is = refl; function_is = fn.is })
-          fn.order.body (body_fresh fn.fresh).1 bound bound).does inner then' t within relates ((is_in, pc), only)
+      does : Does c (statement_tree c.given (λ here. items parts here fn.here.order.items) (part fn)
+          (body_place fn) scope.locals exits) inner then' t
+      does =
+          (fn.follows.follows c (body_place fn) scope body_placed (record { program_is = refl; unit_is = refl; function_is = fn.here.is })
+          fn.here.order.body (body_fresh fn.here.fresh).1 bound bound).does inner then' t within relates ((is_in, pc), only)
 
   -- ---- the locals of its outermost block
 
@@ -146,9 +149,10 @@ module _ {c : Code} {p : Placing} {f : Function} {tf : TFunction} {base : ℕ} (
       (sym stored.runs)
       (after stored.led
       (subst (λ (layer : StmtLayer). Bounded (setting c) (later stored.steps a) (λ v. call_room vs) stored.to (Back c here now s)
-      (outcome_of (and_then (body_node parts stored.ready layer) (behind_body tf here call) stored.later))) (sym fn.order.body_is)
+      (outcome_of (and_then (body_node parts stored.ready layer) (behind_body tf here call) stored.later))) (sym fn.here.order.body_is)
       (subst (λ r. Bounded (setting c) (later stored.steps a) (λ v. call_room vs) stored.to (Back c here now s) (outcome_of r))
-      (sym (and_then-apart (new_locals stored.ready ks) (λ inner. items parts inner fn.order.items) (behind_body tf here call) stored.later))
+      (sym (and_then-apart (new_locals stored.ready ks) (λ inner. items parts inner fn.here.order.items)
+      (behind_body tf here call) stored.later))
       entered.bounded)))
     where
       stored : ArgumentsStored c (fr fn).temps (inside here call) (parameters tf) vs then' t ((spot fn).at (length (args fn)))
@@ -161,7 +165,7 @@ module _ {c : Code} {p : Placing} {f : Function} {tf : TFunction} {base : ℕ} (
       none j has = by_local (stored.ready.local j) refl
         where
           by_ready : (number : ℕ) → Contains taken j ⊎ ((inside here call).local j ≡ Some number) → stored.ready.local j ≡ None
-          by_ready number (inl there) = absurd ((body_fresh fn.fresh).0.not_there j has there)
+          by_ready number (inl there) = absurd ((body_fresh fn.here.fresh).0.not_there j has there)
           by_ready number (inr empty) = absurd (cc)
 
           by_local : (o : Option ℕ) → stored.ready.local j ≡ o → stored.ready.local j ≡ None
@@ -169,13 +173,14 @@ module _ {c : Code} {p : Placing} {f : Function} {tf : TFunction} {base : ℕ} (
           by_local (Some number) is = by_ready number (stored.inner.only j number is)
 
       entered : Proceeds c (λ v. call_room vs) (Back c here now s) (later stored.steps a)
-          (and_then (new_locals stored.ready ks) (λ inner. and_then (items parts inner fn.order.items) (behind_body tf here call)))
+          (and_then (new_locals stored.ready ks) (λ inner. and_then (items parts inner fn.here.order.items) (behind_body tf here call)))
           stored.later stored.to
-      entered = Proceeds-enter (λ inner. and_then (items parts inner fn.order.items) (behind_body tf here call)) (order fn) ks stored.ready
-          stored.later stored.relates safe (are_different ks (body_fresh fn.fresh).0.different) none
+      entered =
+          Proceeds-enter (λ inner. and_then (items parts inner fn.here.order.items) (behind_body tf here call)) (order fn) ks stored.ready
+          stored.later stored.relates safe (are_different ks (body_fresh fn.here.fresh).0.different) none
           (λ inner last is_inner related work. record {
             bounded = items_do stored.ready inner last stored.to (later stored.steps a) stored.inner is_inner related
                 (stored.pc ∙ ap (spot fn).at (omega arith)) (InCall-kept (fr fn).temps in_call stored.kept)
                 (omega (arith, within, work, stored.work)) (omega (arith, least, work, stored.work))
-                (omega (arith, most, stored.few, fn.few, ap (λ w. c.per * w) work, ap (λ w. c.per * w) stored.work));
+                (omega (arith, most, stored.few, fn.here.few, ap (λ w. c.per * w) work, ap (λ w. c.per * w) stored.work));
           })

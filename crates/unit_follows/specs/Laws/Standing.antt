@@ -116,7 +116,8 @@ steps_within c at instrs stands quiet (suc n) s t as_loaded range runs =
     ap (instruction_at s) m.next.pc ∙ HasCode-at s at instrs m.next.position m.instr there (stands.code s as_loaded) in
     let one : Steps 1 s u = Steps-at m.instr stands_there m.leads in
     let rest : Comes c t.pc n u t = steps_within c at instrs stands quiet n u t
-    (IsAsLoaded-kept m.instr (quiet_at instrs m.next.position m.instr quiet there) m.leads as_loaded) (IsInRange-Steps 1 one range) runs.2 in
+    (IsAsLoaded-kept m.instr (quiet_at instrs m.next.position m.instr quiet there) m.leads as_loaded)
+    (IsInRange-Steps 1 one range) runs.2 in
     record {
       led = subst (λ k. StepsWithin c.Inside k s t) (let e : 1 + n ≡ suc n = omega arith in e) (StepsWithin-add (StepsWithin-one one
           (stands.inside m.next.position s (at_within instrs m.next.position m.instr there) here)) rest.led);

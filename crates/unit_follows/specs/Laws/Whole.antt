@@ -1,6 +1,6 @@
 -- The words of a function without tagged slots follow it: its entry, its body and its exit, or the guard that they meet (this project's
 -- own).
-use Rattle.std.specs.Prelude.{◌≡◌, ℕ, zero, suc, ◌+◌, ◌-◌, ◌*◌, ◌%◌, ◌<◌, ◌≤◌, Bool, true, false, leb, List, [], ◌∷◌, length, map}
+use Rattle.std.specs.Prelude.{◌≡◌, ℕ, zero, suc, ◌+◌, ◌-◌, ◌*◌, ◌<◌, ◌≤◌, Bool, true, false, leb, List, [], ◌∷◌, length, map}
 use Rattle.std.specs.Prelude.{Some, refl, if◌then◌else◌}
 use Rattle.std.proofs.Common.{arith, ap, sym, subst, ◌∙◌}
 use Rattle.std.proofs.lemmas.Bool.{leb-true, leb-false}
@@ -12,7 +12,6 @@ use Rattle.a64_laws.specs.Frames.{frame_pointer, link_register, HasPair}
 use Rattle.c_type_base.specs.declared.ty.Ty.{Ty}
 use Rattle.c_type_base.specs.declared.typed.TFunction.{TFunction}
 use Rattle.block_meaning.specs.declared.value.Value.{Value}
-use Rattle.block_meaning.specs.declared.value.Value.TheVariants.{Number, Address, Struct, NoValue}
 use Rattle.block_meaning.specs.Linkage.{function_named, type_of_local}
 use Rattle.block_meaning.specs.Meaning.{calls_at, frame_bytes, open_bytes, inside, call_of, body_of, new_call}
 use Rattle.block_meaning.specs.ProgramsInOrder.{HasFrame}
@@ -23,7 +22,7 @@ use Rattle.code_runs.specs.Bounded.{Account, later, Bounded}
 use Rattle.code_runs.specs.Laws.Bounded.{opened, after, finishes, unsaid, changes, IsWider-same}
 use Rattle.code_runs.specs.Laws.Ranges.{IsInRange-Steps}
 use Rattle.code_follows.specs.Laws.Stack.{stack_open}
-use Rattle.code_relation.specs.Calls.{stack_end, lowest, frame_of}
+use Rattle.code_relation.specs.Calls.{stack_end, lowest}
 use Rattle.code_relation.specs.Follows.{Code, setting, Does, HasArguments, Returns, call_room, function_words, types_of, WordsFollow}
 use Rattle.code_relation.specs.Follows.{call_of as tree_of}
 use Rattle.code_relation.specs.Injects.{Injects}
@@ -31,40 +30,25 @@ use Rattle.code_relation.specs.Items.{IsAt}
 use Rattle.code_relation.specs.Numbers.{Holds}
 use Rattle.code_relation.specs.Outcomes.{outcome_of}
 use Rattle.code_relation.specs.Relates.{Relates}
-use Rattle.code_relation.specs.Sites.{Given, units_of}
-use Rattle.code_relation.specs.Stands.{Stands}
-use Rattle.code_relation.specs.Laws.Called.{with_call, IsNumber-called}
+use Rattle.code_relation.specs.Sites.{units_of}
+use Rattle.code_relation.specs.Laws.Called.{with_call}
 use Rattle.code_relation.specs.Laws.Framed.{StartFrom, StartFrom-frame, keeps_above}
 use Rattle.code_relation.specs.Laws.Kept.{Injects-with, Holds-with}
 use Rattle.code_relation.specs.Laws.Told.{product_split}
 use Rattle.stmt_follows.specs.Laws.Locals.Slots.{open_whole}
 use Rattle.unit_follows.specs.Functions.{IsPlacedFunction, parameters}
 use Rattle.unit_follows.specs.Placing.{Placing}
-use Rattle.unit_follows.specs.Laws.Bodies.{order, fr, frame_some}
+use Rattle.unit_follows.specs.Laws.Bodies.{order, fr}
+use Rattle.unit_follows.specs.Laws.FrameFacts.{frame_some, frame_whole, Holds-called}
 use Rattle.unit_follows.specs.Laws.Entering.{IsNewCall, Injects-entered}
 use Rattle.unit_follows.specs.Laws.EntrySteps.{HasSpace, AtPair, at_pair, EntryDone, entry_done}
 use Rattle.unit_follows.specs.Laws.ExitSteps.{pair_guarded}
 use Rattle.unit_follows.specs.Laws.Finishing.{InCall, Bounded-told, since_made}
 use Rattle.unit_follows.specs.Laws.InCalls.{Back}
-use Rattle.unit_follows.specs.Laws.Leaving.{moment}
+use Rattle.unit_follows.specs.Laws.Ended.{moment}
 use Rattle.unit_follows.specs.Laws.Running.{body_does}
 use Rattle.unit_follows.specs.Laws.Spares.Meaning.{calls_spares}
 use Rattle.unit_follows.specs.Laws.Spares.Runs.{IsKept, OnGoes, any, Spares}
-
--- a frame has whole granules
-frame_whole : {c : Code} {p : Placing} {f : Function} {tf : TFunction} {base : ℕ} → IsPlacedFunction c p f tf base →
-    (frame_of (units_of c.given) f).bytes % 16 ≡ 0
-frame_whole {c} {p} {f} {tf} fn =
-    let one : Call = record { number = 0; function = f; place = (frame_of (units_of c.given) f).bytes } in
-    open_whole (units_of c.given) (one ∷ []) (one ∷ []) (refl, record { function = tf; is = fn.is }, tt) (omega arith, tt)
-
--- a value is as before where a call more was made
-Holds-called : (g : Given) {here : Context} (call : Call) (now : MeaningState) → Stands g here now → (v : Value) (n : ℕ) →
-    Holds g now v n → Holds g (with_call call now) v n
-Holds-called g call now stands (Number m) n holds = holds
-Holds-called g call now stands (Address q) n holds = IsNumber-called call stands holds
-Holds-called g call now stands (Struct q) n holds = IsNumber-called call stands holds
-Holds-called g call now stands NoValue n holds = tt
 
 module _ {c : Code} {p : Placing} {f : Function} {tf : TFunction} {base : ℕ} (fn : IsPlacedFunction c p f tf base) where
   -- ---- what the call means
@@ -72,15 +56,17 @@ module _ {c : Code} {p : Placing} {f : Function} {tf : TFunction} {base : ℕ} (
   abbrev called : ℕ → Context → List Value → Run Value
   called bound here vs = call_of (statements_at (calls_at bound) bound) here f vs tf (fr fn).bytes
 
-  call_is : (bound : ℕ) (here : Context) (vs : List Value) → here.program ≡ c.given.program → calls_at (suc bound) here f vs ≡ called bound here vs
+  call_is : (bound : ℕ) (here : Context) (vs : List Value) → here.program ≡ c.given.program →
+      calls_at (suc bound) here f vs ≡ called bound here vs
   call_is bound here vs program =
       ap (λ o. with_some o (λ t. with_some (frame_bytes here.program f) (λ bytes.
-      call_of (statements_at (calls_at bound) bound) here f vs t bytes))) (ap (λ (q : Program). function_named q.units f) program ∙ fn.is)
+      call_of (statements_at (calls_at bound) bound) here f vs t bytes))) (ap (λ (q : Program). function_named q.units f) program
+          ∙ fn.here.is)
       ∙ ap (λ o. with_some o (λ bytes. call_of (statements_at (calls_at bound) bound) here f vs tf bytes))
-      (ap (λ q. frame_bytes q f) program ∙ has.is ∙ ap Some (fn.file.meant.frames f has.bytes has.is))
+      (ap (λ q. frame_bytes q f) program ∙ has.is ∙ ap Some (fn.here.file.meant.frames f has.bytes has.is))
     where
       has : HasFrame c.given.program f
-      has = (order fn).frames f tf fn.is
+      has = (order fn).frames f tf fn.here.is
 
   module _ (bound : ℕ) (here : Context) (now : MeaningState) (vs : List Value) (s : State) (relates : Relates c.given here now s)
       (pc : s.pc ≡ base) where
@@ -95,9 +81,9 @@ module _ {c : Code} {p : Placing} {f : Function} {tf : TFunction} {base : ℕ} (
 
     space : HasSpace (fr fn) s
     space = record {
-      safe = fn.safe;
-      within = omega (arith, injects.frames.sp, injects.frames.fit, injects.loaded.stack_size.most, fn.most);
-      small = omega (arith, fn.most);
+      safe = fn.here.safe;
+      within = omega (arith, injects.frames.sp, injects.frames.fit, injects.loaded.stack_size.most, fn.here.most);
+      small = omega (arith, fn.here.most);
       some = omega (arith, frame_some fn);
       below = omega (arith, injects.frames.sp);
       sp_whole = omega (arith, injects.frames.sp, open_whole (units_of c.given) now.calls here.open_calls injects.stands.calls
@@ -123,7 +109,7 @@ module _ {c : Code} {p : Placing} {f : Function} {tf : TFunction} {base : ℕ} (
         }))
       where
         at : AtPair c base (fr fn) s
-        at = at_pair (fr fn) fn.words.enters is_at space
+        at = at_pair (fr fn) fn.here.words.enters is_at space
 
         in_guard : (guard : Span) (sp : ℕ) → guard.start ≤ sp → sp < guard.start + guard.bytes → is_in_span guard sp ≡ true
         in_guard guard sp from below = grind (arith, nat_tests)
@@ -131,7 +117,7 @@ module _ {c : Code} {p : Placing} {f : Function} {tf : TFunction} {base : ℕ} (
         guarded : is_in_span at.low.to.guard at.low.to.sp ≡ true
         guarded = ap (λ guard. is_in_span guard at.low.to.sp) (at.low.same.guard ∙ injects.as_loaded.guard)
             ∙ in_guard c.given.loaded.guard at.low.to.sp
-            (omega (arith, injects.loaded.guard_end, at.low.sp, injects.frames.sp, injects.frames.fit, fn.most))
+            (omega (arith, injects.loaded.guard_end, at.low.sp, injects.frames.sp, injects.frames.fit, fn.here.most))
             (omega (arith, injects.loaded.guard_end, injects.loaded.guard_bytes_is, at.low.sp, injects.frames.sp, passes))
 
     -- ---- it is large enough
@@ -141,8 +127,8 @@ module _ {c : Code} {p : Placing} {f : Function} {tf : TFunction} {base : ℕ} (
       number_is = refl;
       place_is = refl;
       fits = fits;
-      there = record { function = tf; is = fn.is };
-      safe = fn.safe;
+      there = record { function = tf; is = fn.here.is };
+      safe = fn.here.safe;
     }
 
     shallow : (a : Account) → call.place ≤ c.given.program.stack → HasArguments c.given now s 0 (map type_of_local (parameters tf)) vs →
@@ -167,7 +153,7 @@ module _ {c : Code} {p : Placing} {f : Function} {tf : TFunction} {base : ℕ} (
         sp_is = injects.frames.sp
 
         e : EntryDone c base (fr fn) s
-        e = entry_done (fr fn) fn.words.enters is_at space
+        e = entry_done (fr fn) fn.here.words.enters is_at space
             (stack_open injects (s.sp - (fr fn).bytes) 16 (omega (arith, sp_is, fits, space.within))
             (omega (arith, sp_is, space.within, space.some)))
 
@@ -198,8 +184,6 @@ module _ {c : Code} {p : Placing} {f : Function} {tf : TFunction} {base : ℕ} (
           pair = subst (λ x. HasPair e.to.byte x (s.register 29) (s.register 30)) lowest_is e.pair;
           kept = keeps_above (units_of c.given) s e.to here.open_calls e.entered.byte starts;
         }
-
-    -- ---- both
 
     by_depth : (a : Account) (b : Bool) → leb call.place here.program.stack ≡ b → here.program ≡ c.given.program →
         HasArguments c.given now s 0 (map type_of_local (parameters tf)) vs → now.work ≤ c.reach →
@@ -235,8 +219,6 @@ module _ {c : Code} {p : Placing} {f : Function} {tf : TFunction} {base : ℕ} (
             let same : other ≡ last = cc in subst (λ x. IsKept (moment now) (record now { work = left }) x) same holds.0
         kept (Stops why other) is holds = absurd (cc)
 
--- ---- the words
-
 -- what they have to do with a unit less, where the first step was made
 abbrev Goal : Code → ℕ → List Value → Context → MeaningState → State → Run Value → Type 0
 Goal c left vs here now s m = Bounded (setting c) (later 1 (opened (setting c) now.work)) (λ v. call_room vs) s
@@ -251,7 +233,7 @@ WordsFollow-function {c} {p} {f} {tf} {base} fn = record {
 }
   where
     types : types_of (function_named (units_of c.given) f) ≡ map type_of_local (parameters tf)
-    types = ap types_of fn.is
+    types = ap types_of fn.here.is
 
     by_bound : (bound left : ℕ) (vs : List Value) (here : Context) (now : MeaningState) (s : State) → left ≤ c.reach →
         Relates c.given here now s → s.pc ≡ base → HasArguments c.given now s 0 (types_of (function_named (units_of c.given) f)) vs →
@@ -266,7 +248,7 @@ WordsFollow-function {c} {p} {f} {tf} {base} fn = record {
         (by_depth fn bound here spent vs s spent_relates pc (later 1 (opened (setting c) now.work)) (leb place here.program.stack) refl
         program (arguments_spent 0 (map type_of_local (parameters tf)) vs
         (subst (λ ts. HasArguments c.given now s 0 ts vs) types arguments)) within (omega (arith, some))
-        (omega (arith, fn.file.pays, ap (λ w. c.per * w) some, product_split c.per left 1)))))
+        (omega (arith, fn.here.file.pays, ap (λ w. c.per * w) some, product_split c.per left 1)))))
       where
         spent : MeaningState
         spent = record now { work = left }

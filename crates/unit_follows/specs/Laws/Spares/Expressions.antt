@@ -59,7 +59,8 @@ unary_spares {at = at} of unary.Not e =
     spares-then (of_value of e) (λ v. spares-unit (spares-then (truth_spares at.here e.span v) (λ b. spares-gives _)))
 unary_spares of o e = spares-then (of_value of e) (λ v. spares-unit (number_spares (unary_value o (int_in e.ty) (number_in v))))
 
-logical_spares : {mark : Moment} {at : Site} → SparesSite mark at → (decides : Bool) (a b : TExpr) → Spares mark (logical_node at decides a b)
+logical_spares : {mark : Moment} {at : Site} → SparesSite mark at → (decides : Bool) (a b : TExpr) →
+    Spares mark (logical_node at decides a b)
 logical_spares {at = at} of decides a b =
     spares-then (of_value of a) (λ v. spares-unit (spares-then (truth_spares at.here a.span v) (λ first.
     spares-choice (same_truth first decides) (spares-gives _)
@@ -82,12 +83,14 @@ assigned_spares : {mark : Moment} (at : Site) (a b : TExpr) (p : Pointer) (v : V
 assigned_spares at a b p (Struct q) = spares-then (copy_spares at.here _) (λ _. spares-gives _)
 assigned_spares at a b p v = written_spares at a.span (object a.ty p) v
 
-pub effect_spares : {mark : Moment} (at : Site) (o : Option AssignOperator) (a b : TExpr) (p : Pointer) (v : Value) → Spares mark (assign_effect at o a b p v)
+pub effect_spares : {mark : Moment} (at : Site) (o : Option AssignOperator) (a b : TExpr) (p : Pointer) (v : Value) →
+    Spares mark (assign_effect at o a b p v)
 effect_spares at None a b p v = assigned_spares at a b p v
 effect_spares at (Some o) a b p w = spares-then (scalar_spares at.here a.span (object a.ty p)) (λ v.
     spares-then (combined_values at.here at.span (binary_of o) a.ty b.ty v w) (λ r. written_spares at a.span (object a.ty p) r))
 
-assign_spares : {mark : Moment} {at : Site} → SparesSite mark at → (o : Option AssignOperator) (a b : TExpr) → Spares mark (assign_node at o a b)
+assign_spares : {mark : Moment} {at : Site} → SparesSite mark at → (o : Option AssignOperator) (a b : TExpr) →
+    Spares mark (assign_node at o a b)
 assign_spares {at = at} of o a b = spares-then (of.parts.place a) (λ p. spares-then (of_value of b) (λ v.
     spares-unit (effect_spares at o a b p v)))
 
@@ -167,7 +170,8 @@ value_spares {at = at} of (TNode-F.Member e member) =
     spares-then (member_spares of e member) (λ p. read_spares at.here at.around (object at.ty p))
 value_spares of _ = spares-stuck
 
-pub parts_spares : {mark : Moment} {c : Calls} → SparesCalls mark c → (here : Context) (depth : ℕ) → SparesParts mark (parts_at c here depth)
+pub parts_spares : {mark : Moment} {c : Calls} → SparesCalls mark c → (here : Context) (depth : ℕ) →
+    SparesParts mark (parts_at c here depth)
 unfolding out-TNode
 parts_spares of_calls here zero = record { value = λ around e. spares-stuck; place = λ e. spares-stuck }
 parts_spares {c = c} of_calls here (suc depth) =

@@ -1,5 +1,6 @@
 -- Locals and initialisers keep the blocks that were there, in contexts whose locals came later (this project's own).
-use Rattle.std.proofs.Common.{◌≡◌, ◌≤◌, ◌∙◌, sym, ap, length, arith, length-append, refl, ℕ, zero, suc, ◌+◌, Bool, true, false, ◌||◌, List, []}
+use Rattle.std.proofs.Common.{◌≡◌, ◌≤◌, ◌∙◌, sym, ap, length, arith, length-append, refl, ℕ, zero, suc, ◌+◌, Bool, true, false, ◌||◌}
+use Rattle.std.proofs.Common.{List, []}
 use Rattle.std.proofs.Common.{◌∷◌, Option, Some, None}
 use Rattle.std.specs.Prelude.{slice_get, nat_eq, if◌then◌else◌}
 use Rattle.code_relation.specs.Laws.Changing.{SameBlock-same}
@@ -20,14 +21,17 @@ use Rattle.c_type_base.specs.Types.{TyLayer, is_struct, is_array}
 use Rattle.block_meaning.specs.declared.value.Pointer.{Pointer}
 use Rattle.block_meaning.specs.Blocks.{Block, pointer, ended}
 use Rattle.block_meaning.specs.Expressions.{NodeLayer, ExprParts}
-use Rattle.block_meaning.specs.Locals.{InitParts, latest, with_local, local_info, new_block, new_locals, end_locals, scoped, text_at, only_run}
+use Rattle.block_meaning.specs.Locals.{InitParts, latest, with_local, local_info, new_block, new_locals, end_locals, scoped, text_at}
+use Rattle.block_meaning.specs.Locals.{only_run}
 use Rattle.block_meaning.specs.Locals.{fill_array, fill_struct, fill_one, fill_elements, fill_members, fill_list, fill_node, fill_at}
 use Rattle.block_meaning.specs.Locals.{is_list, after_zero, declared_with, declarations}
 use Rattle.block_meaning.specs.Memory.{Object, object, structs_at}
 use Rattle.block_meaning.specs.Opening.{zero_cells}
 use Rattle.block_meaning.specs.Running.{Call, Run, Context}
-use Rattle.unit_follows.specs.Laws.Spares.Runs.{Moment, AreNewer, SparesTo, Spares, kept-itself, spares-gives, spares-stuck, spares-stored, spares-then}
-use Rattle.unit_follows.specs.Laws.Spares.Runs.{spares-then_to, spares-unit, spares-some, spares-some_to, spares-blocks_by, keeps-with_block}
+use Rattle.unit_follows.specs.Laws.Spares.Runs.{Moment, AreNewer, SparesTo, Spares, kept-itself, spares-gives, spares-stuck}
+use Rattle.unit_follows.specs.Laws.Spares.Runs.{spares-stored, spares-then}
+use Rattle.unit_follows.specs.Laws.Spares.Runs.{spares-then_to, spares-unit, spares-some, spares-some_to, spares-blocks_by}
+use Rattle.unit_follows.specs.Laws.Spares.Runs.{keeps-with_block}
 use Rattle.unit_follows.specs.Laws.Spares.Values.{write_spares, copy_spares}
 use Rattle.unit_follows.specs.Laws.Spares.Expressions.{SparesParts}
 
@@ -107,16 +111,19 @@ array_spares {init = init} of n p e (TNode-F.Text text) =
     spares-unit (spares-some (text_at init.here text) (λ bytes. spares-stored p _))
 array_spares of n p e _ = run_spares of.parts e
 
-struct_spares : {mark : Moment} {init : InitParts} → SparesInit mark init → (o : Object) (e : TExpr) (is : Bool) → Spares mark (fill_struct init o e is)
+struct_spares : {mark : Moment} {init : InitParts} → SparesInit mark init → (o : Object) (e : TExpr) (is : Bool) →
+    Spares mark (fill_struct init o e is)
 struct_spares of o e false = run_spares of.parts e
 struct_spares {init = init} of o e true = spares-then (of.parts.value e.span e) (λ v. copy_spares init.here _)
 
-one_spares : {mark : Moment} {init : InitParts} → SparesInit mark init → (o : Object) (e : TExpr) (level : TyLayer) → Spares mark (fill_one init o e level)
+one_spares : {mark : Moment} {init : InitParts} → SparesInit mark init → (o : Object) (e : TExpr) (level : TyLayer) →
+    Spares mark (fill_one init o e level)
 one_spares of o e (Ty-F.Array t n) = array_spares of n o.at e (out-TNode e.node)
 one_spares of o e (Ty-F.Struct number) = struct_spares of o e (is_struct e.ty)
 one_spares {init = init} of o e _ = spares-then (of.parts.value e.span e) (λ v. write_spares init.here e.span o v)
 
-elements_spares : {mark : Moment} {init : InitParts} → SparesInit mark init → (first : Object) (k : ℕ) (is : List TInit) → Spares mark (fill_elements init first k is)
+elements_spares : {mark : Moment} {init : InitParts} → SparesInit mark init → (first : Object) (k : ℕ) (is : List TInit) →
+    Spares mark (fill_elements init first k is)
 elements_spares of first k [] = spares-gives tt
 elements_spares of first k (i ∷ is) = spares-then (of.fill _ i) (λ _. elements_spares of first (k + 1) is)
 
@@ -126,23 +133,27 @@ members_spares of p ms [] = spares-gives tt
 members_spares of p [] (i ∷ is) = spares-stuck
 members_spares of p (m ∷ ms) (i ∷ is) = spares-then (of.fill _ i) (λ _. members_spares of p ms is)
 
-list_spares : {mark : Moment} {init : InitParts} → SparesInit mark init → (o : Object) (is : List TInit) (level : TyLayer) → Spares mark (fill_list init o is level)
+list_spares : {mark : Moment} {init : InitParts} → SparesInit mark init → (o : Object) (is : List TInit) (level : TyLayer) →
+    Spares mark (fill_list init o is level)
 list_spares of o is (Ty-F.Array t n) = elements_spares of (object t o.at) 0 is
 list_spares {init = init} of o is (Ty-F.Struct number) =
     members_spares of o.at (members_of (slice_get (structs_at init.here) number)) is
 list_spares of o is _ = spares-stuck
 
-init_spares : {mark : Moment} {init : InitParts} → SparesInit mark init → (o : Object) (i : TInit-F TInit) → Spares mark (fill_node init o i)
+init_spares : {mark : Moment} {init : InitParts} → SparesInit mark init → (o : Object) (i : TInit-F TInit) →
+    Spares mark (fill_node init o i)
 init_spares of o (TInit-F.One e) = one_spares of o e (out-Ty o.ty)
 init_spares of o (TInit-F.List is span) = list_spares of o is (out-Ty o.ty)
 
-fill_spares : {mark : Moment} (here : Context) {p : ExprParts} → SparesParts mark p → (depth : ℕ) (o : Object) (i : TInit) → Spares mark (fill_at here p depth o i)
+fill_spares : {mark : Moment} (here : Context) {p : ExprParts} → SparesParts mark p → (depth : ℕ) (o : Object) (i : TInit) →
+    Spares mark (fill_at here p depth o i)
 fill_spares here of zero o i = spares-stuck
 fill_spares here {p = p} of (suc depth) o i =
     init_spares {init = record { here = here; parts = p; fill = fill_at here p depth }}
     (record { parts = of; fill = fill_spares here of depth }) o (out-TInit i)
 
-zero_spares : {mark : Moment} (here : Context) (o : Object) (b : Bool) {m : Run (Unit {0})} → Spares mark m → Spares mark (after_zero here o b m)
+zero_spares : {mark : Moment} (here : Context) (o : Object) (b : Bool) {m : Run (Unit {0})} → Spares mark m →
+    Spares mark (after_zero here o b m)
 zero_spares here o false spares = spares
 zero_spares here o true spares = spares-then (spares-stored o.at (zero_cells (structs_at here) o.ty)) (λ _. spares)
 

@@ -58,7 +58,8 @@ end_still : (call calls : ℕ) (blocks : List Block) (number : ℕ) (b : Block) 
 end_still call calls [] number b later is older = absurd (cc)
 end_still call calls (x ∷ xs) zero b later is older =
     let same : x ≡ b = cc in
-    let other : is_of_call call x.kind ≡ false = ap (λ (y : Block). is_of_call call y.kind) same ∙ other_kind call calls b.kind later older in
+    let other : is_of_call call x.kind ≡ false = ap (λ (y : Block). is_of_call call y.kind) same
+    ∙ other_kind call calls b.kind later older in
     record {
       block = b;
       is = ap (λ (of : Bool). Some (if of then ended x else x)) other ∙ ap Some same;
@@ -117,10 +118,12 @@ new_call_spares here f place = record {
   );
 }
 
-call_of_spares : {mark : Moment} {s : StmtParts} → SparesStmts mark s → (here : Context) (f : Function) (vs : List Value) (g : TFunction) (bytes : ℕ) →
+call_of_spares : {mark : Moment} {s : StmtParts} → SparesStmts mark s →
+    (here : Context) (f : Function) (vs : List Value) (g : TFunction) (bytes : ℕ) →
     Spares mark (call_of s here f vs g bytes)
 call_of_spares of here f vs g bytes = spares-choice (leb (open_bytes here.open_calls + bytes) here.program.stack)
-    (spares-then_to (new_call_spares here f (open_bytes here.open_calls + bytes)) (λ inner over. body_spares of g vs inner over)) spares-deep
+    (spares-then_to (new_call_spares here f (open_bytes here.open_calls + bytes))
+    (λ inner over. body_spares of g vs inner over)) spares-deep
 
 pub calls_spares : {mark : Moment} (bound : ℕ) → SparesCalls mark (calls_at bound)
 calls_spares zero here f vs = spares-stuck

@@ -68,7 +68,8 @@ Spares t m = SparesTo t any m
 
 -- ---- states
 
-still_then : {blocks after : List Block} {number : ℕ} {b : Block} → ((c : Block) → slice_get blocks number ≡ Some c → IsStill after number c) →
+still_then : {blocks after : List Block} {number : ℕ} {b : Block} → ((c : Block) → slice_get blocks number ≡ Some c →
+    IsStill after number c) →
     IsStill blocks number b → IsStill after number b
 still_then more still =
     let next = more still.block still.is in record {

@@ -27,11 +27,13 @@ use Rattle.block_meaning.specs.Values.{cells_of}
 use Rattle.block_meaning.specs.declared.value.Value.{Value}
 use Rattle.block_meaning.specs.declared.value.Value.TheVariants.{Number, Address, Struct}
 
-unless_spares : {mark : Moment} (here : Context) (span : Span) (a : Access) (why : Option Reason) → Spares mark (unless_undefined here span a why)
+unless_spares : {mark : Moment} (here : Context) (span : Span) (a : Access) (why : Option Reason) →
+    Spares mark (unless_undefined here span a why)
 unless_spares here span a None = spares-gives tt
 unless_spares here span a (Some why) = spares-undefined here span (Some a) why
 
-in_block_spares : {mark : Moment} {A : Type 0} (a : Access) {f : Block → Run A} → ((b : Block) → Spares mark (f b)) → Spares mark (in_block a f)
+in_block_spares : {mark : Moment} {A : Type 0} (a : Access) {f : Block → Run A} → ((b : Block) → Spares mark (f b)) →
+    Spares mark (in_block a f)
 in_block_spares a each = spares-blocks (λ blocks. spares-some (slice_get blocks a.at.block) each)
 
 judged_spares : {mark : Moment} (here : Context) (span : Span) (a : Access) → Spares mark (judged here span a)
@@ -63,7 +65,8 @@ overlap_spares here span a true = spares-undefined here span (Some a) _
 pub copy_spares : {mark : Moment} (here : Context) (c : Copy) → Spares mark (copy_struct here c)
 copy_spares here c = spares-then (judged_spares here c.source_span (access here false c.source)) (λ _.
     spares-then (judged_spares here c.target_span (access here true c.target)) (λ _.
-    spares-then (overlap_spares here c.span (access here true c.target) _) (λ _. spares-blocks_by (keeps-copied c.source.at c.target.at _))))
+    spares-then (overlap_spares here c.span (access here true c.target) _) (λ _. spares-blocks_by
+        (keeps-copied c.source.at c.target.at _))))
 
 -- ---- operators
 
@@ -83,7 +86,8 @@ difference_spares : {mark : Moment} (here : Context) (span : Span) (n : Option �
 difference_spares here span None = spares-undefined here span None _
 difference_spares here span (Some n) = spares-gives _
 
-pointers_spares : {mark : Moment} (here : Context) (span : Span) (o : BinaryOperator) (size : ℕ) (p q : Pointer) → Spares mark (on_pointers here span o size p q)
+pointers_spares : {mark : Moment} (here : Context) (span : Span) (o : BinaryOperator) (size : ℕ) (p q : Pointer) →
+    Spares mark (on_pointers here span o size p q)
 pointers_spares here span binary.Subtract size p q = difference_spares here span (objects_between p q size)
 pointers_spares here span o size p q =
     spares-blocks (λ blocks. spares-then (comparison_spares here span (compared blocks o p q)) (λ b. spares-gives _))
@@ -93,7 +97,8 @@ pointer_spares binary.Add size p n = spares-gives _
 pointer_spares binary.Subtract size p n = spares-gives _
 pointer_spares _ size p n = spares-stuck
 
-pub values_spares : {mark : Moment} (here : Context) (span : Span) (o : BinaryOperator) (s t : Ty) (v w : Value) → Spares mark (on_values here span o s t v w)
+pub values_spares : {mark : Moment} (here : Context) (span : Span) (o : BinaryOperator) (s t : Ty) (v w : Value) →
+    Spares mark (on_values here span o s t v w)
 values_spares here span o s t (Number n) (Number m) = divide_spares (binary_value o (int_in s) n m)
 values_spares here span o s t (Address p) (Number n) = pointer_spares o _ p n
 values_spares here span o s t (Number n) (Address p) = pointer_spares o _ p n
