@@ -118,7 +118,8 @@ module _ (c : Code) (f : Function) (p : Place) (s : Scope) (bound : ℕ) (is : L
           (record { broke = p.label broke; continued = p.label continued; Leaving = λ at. LeavesAt p is at }) t (p.at (length is)) x later u
       named here t x later u one other ends =
           subst (λ (n : ℕ). Ends (scene_at c f p s here bound)
-          (record { broke = p.label n; continued = p.label continued; Leaving = λ at. LeavesAt p is at }) t (p.at (length is)) x later u) one
+          (record { broke = p.label n; continued = p.label continued; Leaving = λ at. LeavesAt p is at }) t (p.at (length is)) x later u)
+          one
           (subst (λ (n : ℕ). Ends (scene_at c f p s here bound)
           (record { broke = p.label around.broke; continued = p.label n; Leaving = λ at. LeavesAt p is at }) t (p.at (length is)) x later u)
           other ends)

@@ -1,3 +1,4 @@
+pub mod Basics
 pub mod Slots
 pub mod Apart
 pub mod Born

@@ -8,7 +8,8 @@ use Rattle.a64_code.specs.declared.instr.Instr.{Instr}
 use Rattle.a64_code.specs.declared.instr.Reg.{Reg}
 use Rattle.a64_code.specs.State.{State, at_pc}
 use Rattle.block_meaning.specs.Operators.{is_true}
-use Rattle.block_meaning.specs.Running.{Run, Stop, Stops, IsUndefined, Undefined, gives, stuck, and_then, goes_on, unit_then, choice, with_some}
+use Rattle.block_meaning.specs.Running.{Run, Stop, Stops, IsUndefined, Undefined, gives, stuck, and_then, goes_on, unit_then, choice}
+use Rattle.block_meaning.specs.Running.{with_some}
 use Rattle.block_meaning.specs.Running.{State as MeaningState}
 use Rattle.block_meaning.specs.declared.value.Value.{Value}
 use Rattle.code_follows.specs.Parts.{Result, Yields}

@@ -17,7 +17,9 @@ use Rattle.c_type_base.specs.declared.statement.TDecl.{TDecl}
 use Rattle.c_type_base.specs.declared.statement.TItem.{TItem, out-TItem}
 use Rattle.c_type_base.specs.declared.statement.TItem.TheOpen.{TItem-F, TStmt-F}
 use Rattle.c_type_base.specs.declared.statement.TStmt.{TStmt, out-TStmt}
-use Rattle.code_follows.specs.Scene.{Scene, calls_in, structs_in, frame_in}
+use Rattle.code_follows.specs.Nodes.{Nodes}
+use Rattle.code_follows.specs.Scene.{Scene, IsScene, calls_in, structs_in, frame_in}
+use Rattle.code_follows.specs.Laws.Whole.{all_below as expressions_below}
 use Rattle.code_relation.specs.Fresh as fresh
 use Rattle.code_relation.specs.Fresh.{Fresh, FreshItem, FreshItems}
 use Rattle.gen_base.specs.Code.{in_turn}
@@ -230,3 +232,10 @@ pub items_below : {k : Scene} (expressions : ExpressionsFollow k) (declaring : D
     (items_run (statements_at (calls_in k) depth) here is)
 items_below expressions declaring depth s here function_is place is ordered new all =
     parts_follow expressions declaring (all_below expressions declaring depth) s here place function_is is ordered new all
+
+-- Where the nodes of expressions follow in each scope and context, so do expressions.
+pub expressions_follow : {k : Scene} → ((s : Scope) (here : Context) → IsScene (moved k s here) → Nodes (moved k s here)) →
+    ExpressionsFollow k
+expressions_follow nodes = record {
+  follows = λ s here depth e scene ordered is. (expressions_below (nodes s here scene) depth).value e ordered is;
+}

@@ -1,5 +1,6 @@
 -- A new local of the latest call lies apart from all that is alive (this project's own).
-use Rattle.std.specs.Prelude.{◌≡◌, ◌≢◌, ℕ, zero, suc, ◌+◌, ◌%◌, ◌<◌, ◌≤◌, ◌-◌, Bool, true, false, ◌||◌, List, [], ◌∷◌, slice_get, Some, None, refl, ◌⊎◌}
+use Rattle.std.specs.Prelude.{◌≡◌, ◌≢◌, ℕ, zero, suc, ◌+◌, ◌%◌, ◌<◌, ◌≤◌, ◌-◌, Bool, true, false, ◌||◌, List, [], ◌∷◌, slice_get, Some}
+use Rattle.std.specs.Prelude.{None, refl, ◌⊎◌}
 use Rattle.std.specs.List.{list_any}
 use Rattle.std.proofs.Common.{arith, ap, sym, subst, inl, inr, ◌∙◌}
 use Rattle.std.proofs.lemmas.Bool.Decides.{nat_tests}
@@ -18,7 +19,8 @@ use Rattle.block_meaning.specs.Running.{Call, Context, State as MeaningState}
 use Rattle.code_relation.specs.Calls.{stack_end, lowest, frame_of, has_tagged, LieInOrder}
 use Rattle.code_relation.specs.Injects.{Injects}
 use Rattle.code_relation.specs.Loaded.{on_stack}
-use Rattle.code_relation.specs.Sites.{Given, units_of, Lives, site_of, site_by, has_byte, slot_in, is_of_file, is_tagged_by, is_tagged_local}
+use Rattle.code_relation.specs.Sites.{Given, units_of, Lives, site_of, site_by, has_byte, slot_in, is_of_file, is_tagged_by}
+use Rattle.code_relation.specs.Sites.{is_tagged_local}
 use Rattle.code_relation.specs.Sites.{is_tagged_block}
 use Rattle.code_relation.specs.Stands.{AreCalls, IsLocal, WasOpened}
 use Rattle.code_relation.specs.Laws.Framed.{frame-ends}

@@ -1,13 +1,11 @@
 -- A local of the latest call gets a block, which nothing has written: the relation holds on (this project's own).
 use Rattle.std.specs.Prelude.{◌≡◌, ◌≢◌, ℕ, zero, suc, ◌+◌, Bool, true, false, ◌||◌, nat_eq, [], ◌∷◌, ◌++◌, length, slice_get}
-use Rattle.std.specs.Prelude.{Option, Some, None, refl, if◌then◌else◌}
+use Rattle.std.specs.Prelude.{Some, None, refl}
 use Rattle.std.proofs.Common.{arith, ap, sym, subst, ◌∙◌}
 use Rattle.std.proofs.lemmas.Bool.{eqb-true}
-use Rattle.std.proofs.lemmas.Bool.Decides.{nat_tests}
 use Rattle.a64_code.specs.State.{State}
 use Rattle.block_meaning.specs.declared.cell.Cell.{Cell}
 use Rattle.block_meaning.specs.declared.cell.Cell.TheVariants.{Nothing, Byte, Part}
-use Rattle.block_meaning.specs.declared.kind.Kind.{Kind}
 use Rattle.block_meaning.specs.declared.kind.Kind.TheVariants.{NullBlock, Local}
 use Rattle.block_meaning.specs.declared.value.Pointer.{Pointer}
 use Rattle.block_meaning.specs.Blocks.{Block}
@@ -25,6 +23,7 @@ use Rattle.code_relation.specs.Stands.{AreCalls, IsLocal, IsInScope, IsAsOpened,
 use Rattle.mt_base.specs.Granules.{granule_of}
 use Rattle.code_relation.specs.Laws.Lists.{InJoined, front, back, get_joined}
 use Rattle.code_relation.specs.Laws.Placing.{get_front, get_back}
+use Rattle.stmt_follows.specs.Laws.Locals.Basics.{if_true, if_false, some_none, eq_same, call_in, number_in}
 use Rattle.stmt_follows.specs.Laws.Locals.Apart.{NewLocal, none_tagged, new_apart, new_granules}
 
 -- the state with one block more
@@ -38,29 +37,6 @@ pub record IsBorn (g : Given) (here : Context) (now : MeaningState) (b : Block) 
   pub live : b.live ≡ true
   pub whole : length b.cells ≡ b.size
   pub nothing : (offset : ℕ) (c : Cell) → slice_get b.cells offset ≡ Some c → c ≡ Nothing
-
--- whose local a block is, and which
-abbrev call_in : Kind → ℕ
-call_in (Local call k) = call
-call_in _ = 0
-
-abbrev number_in : Kind → ℕ
-number_in (Local call k) = k
-number_in _ = 0
-
-of_nat : (b : Bool) {A : Type 0} (x y : A) → b ≡ true → (if b then x else y) ≡ x
-of_nat true x y is = refl
-of_nat false x y is = absurd (cc)
-
-of_other : (b : Bool) {A : Type 0} (x y : A) → b ≡ false → (if b then x else y) ≡ y
-of_other true x y is = absurd (cc)
-of_other false x y is = refl
-
-some_none : {A : Type 0} {o : Option A} {x : A} → o ≡ Some x → o ≡ None → ⊥
-some_none some none = absurd (cc)
-
-eq_same : (n : ℕ) → nat_eq n n ≡ true
-eq_same n = grind (arith, nat_tests)
 
 module _ {g : Given} {here : Context} {now : MeaningState} {s : State} (injects : Injects g here now s) (order : InOrder g.program)
     {b : Block} {k : ℕ} (born : IsBorn g here now b k) where
@@ -86,12 +62,19 @@ module _ {g : Given} {here : Context} {now : MeaningState} {s : State} (injects 
   there_on : (i : ℕ) (d : Block) → slice_get now.blocks i ≡ Some d → slice_get (now.blocks ++ b ∷ []) i ≡ Some d
   there_on i d is = get_front now.blocks (b ∷ []) i d is
 
+  two_were : {i j : ℕ} {c d : Block} → slice_get now.blocks i ≡ Some c → slice_get now.blocks j ≡ Some d →
+      AreTwo (with_new b now) i j c d → AreTwo now i j c d
+  two_were first second two = record {
+    different = two.different;
+    first = record { is = first; live = two.first.live };
+    second = record { is = second; live = two.second.live };
+  }
+
   lives_on : {i : ℕ} {d : Block} → Lives now i d → Lives (with_new b now) i d
   lives_on {i} {d} lives = record { is = there_on i d lives.is; live = lives.live }
 
   number_on : {p : Pointer} {n : ℕ} → IsNumber g now p n → IsNumber g (with_new b now) p n
-  number_on {p} is =
-      record { block = is.block; is = there_on p.block is.block is.is; fits = is.fits; number = is.number }
+  number_on {p} is = record { block = is.block; is = there_on p.block is.block is.is; fits = is.fits; number = is.number }
 
   cell_on : (c : Cell) (byte : ℕ) → IsCell g now c byte → IsCell g (with_new b now) c byte
   cell_on Nothing byte is = tt
@@ -122,12 +105,14 @@ module _ {g : Given} {here : Context} {now : MeaningState} {s : State} (injects 
     size_is = is.size_is;
   }
 
-  in_new_scope : (j n : ℕ) → (with_local k (length now.blocks) here).local j ≡ Some n → IsInScope (with_new b now) (latest here.open_calls) j n
+  in_new_scope : (j n : ℕ) → (with_local k (length now.blocks) here).local j ≡ Some n →
+      IsInScope (with_new b now) (latest here.open_calls) j n
   in_new_scope j n is = by_number (nat_eq j k) refl
     where
       by_number : (same : Bool) → nat_eq j k ≡ same → IsInScope (with_new b now) (latest here.open_calls) j n
       by_number true equal =
-          let found : (with_local k (length now.blocks) here).local j ≡ Some (length now.blocks) = of_nat (nat_eq j k) (Some (length now.blocks)) (here.local j) equal in
+          let found : (with_local k (length now.blocks) here).local j ≡ Some (length now.blocks) =
+          if_true (nat_eq j k) (Some (length now.blocks)) (here.local j) equal in
           let n_is : length now.blocks ≡ n = cc in
           let j_is : j ≡ k = eqb-true j k equal in
           record {
@@ -138,15 +123,9 @@ module _ {g : Given} {here : Context} {now : MeaningState} {s : State} (injects 
             kind_is = born.new.kind_is ∙ ap (λ (m : ℕ). Local born.new.c.number m) (sym j_is);
           }
       by_number false other =
-          let before : here.local j ≡ Some n = sym (of_other (nat_eq j k) (Some (length now.blocks)) (here.local j) other) ∙ is in
+          let before : here.local j ≡ Some n = sym (if_false (nat_eq j k) (Some (length now.blocks)) (here.local j) other) ∙ is in
           let found : IsInScope now (latest here.open_calls) j n = injects.stands.scope j n before in
-          record {
-            of = found.of;
-            call_is = found.call_is;
-            block = found.block;
-            lives = lives_on found.lives;
-            kind_is = found.kind_is;
-          }
+          record { of = found.of; call_is = found.call_is; block = found.block; lives = lives_on found.lives; kind_is = found.kind_is }
 
   old_in_scope : (c : Call) (n : ℕ) (d : Block) (j : ℕ) → latest here.open_calls ≡ Some c → Lives now n d → d.kind ≡ Local c.number j →
       (with_local k (length now.blocks) here).local j ≡ Some n
@@ -159,12 +138,13 @@ module _ {g : Given} {here : Context} {now : MeaningState} {s : State} (injects 
       by_number true equal =
           let none : here.local j ≡ None = ap here.local (eqb-true j k equal) ∙ born.new.none in
           absurd (some_none before none)
-      by_number false other = of_other (nat_eq j k) (Some (length now.blocks)) (here.local j) other ∙ before
+      by_number false other = if_false (nat_eq j k) (Some (length now.blocks)) (here.local j) other ∙ before
 
-  new_in_scope : (n : ℕ) (j call : ℕ) → n ≡ length now.blocks → b.kind ≡ Local call j → (with_local k (length now.blocks) here).local j ≡ Some n
+  new_in_scope : (n : ℕ) (j call : ℕ) → n ≡ length now.blocks → b.kind ≡ Local call j →
+      (with_local k (length now.blocks) here).local j ≡ Some n
   new_in_scope n j call n_is kind_is =
       let j_is : j ≡ k = ap number_in (sym kind_is ∙ born.new.kind_is) in
-      of_nat (nat_eq j k) (Some (length now.blocks)) (here.local j) (ap (λ m. nat_eq m k) j_is ∙ eq_same k) ∙ ap Some (sym n_is)
+      if_true (nat_eq j k) (Some (length now.blocks)) (here.local j) (ap (λ m. nat_eq m k) j_is ∙ eq_same k) ∙ ap Some (sym n_is)
 
   Stands-born : Stands g (with_local k (length now.blocks) here) (with_new b now)
   Stands-born = record {
@@ -185,8 +165,7 @@ module _ {g : Given} {here : Context} {now : MeaningState} {s : State} (injects 
       in_scope : (c : Call) (n : ℕ) (d : Block) (j : ℕ) → latest here.open_calls ≡ Some c → Lives (with_new b now) n d →
           d.kind ≡ Local c.number j → Was n d → (with_local k (length now.blocks) here).local j ≡ Some n
       in_scope c n d j is lives kind_is (old there) = old_in_scope c n d j is (record { is = there; live = lives.live }) kind_is
-      in_scope c n d j is lives kind_is (newest at same) =
-          new_in_scope n j c.number at (ap (λ y. y.kind) (sym same) ∙ kind_is)
+      in_scope c n d j is lives kind_is (newest at same) = new_in_scope n j c.number at (ap (λ y. y.kind) (sym same) ∙ kind_is)
 
       null_alone : (n : ℕ) (d : Block) → d.kind ≡ NullBlock → Was n d → n ≡ 0
       null_alone n d null (old there) = injects.stands.null_alone n d there null
@@ -195,8 +174,7 @@ module _ {g : Given} {here : Context} {now : MeaningState} {s : State} (injects 
           absurd (cc)
 
       opened : (n : ℕ) (d : Block) → IsAsOpened now n d → IsAsOpened (with_new b now) n d
-      opened n d is =
-          record { block = is.block; lives = lives_on is.lives; kind_is = is.kind_is; size_is = is.size_is }
+      opened n d is = record { block = is.block; lives = lives_on is.lives; kind_is = is.kind_is; size_is = is.size_is }
 
       of_files : (n : ℕ) (d : Block) → is_of_file d.kind ≡ true → Was n d → WasOpened g n d
       of_files n d of (old there) = injects.stands.of_files n d there of
@@ -237,11 +215,7 @@ module _ {g : Given} {here : Context} {now : MeaningState} {s : State} (injects 
       bytes : (i j : ℕ) (c d : Block) → AreTwo (with_new b now) i j c d → (a : ℕ) → has_byte g now i c a ≡ true →
           has_byte g now j d a ≡ true → Was i c → Was j d → ⊥
       bytes i j c d two a one other (old first) (old second) =
-          injects.apart.bytes i j c d (record {
-            different = two.different;
-            first = record { is = first; live = two.first.live };
-            second = record { is = second; live = two.second.live };
-          }) a one other
+          injects.apart.bytes i j c d (two_were first second two) a one other
       bytes i j c d two a one other (old first) (newest at same) =
           new_apart injects order born.new i c (record { is = first; live = two.first.live }) a one (of_new j d a at same other)
       bytes i j c d two a one other (newest at same) (old second) =
@@ -251,11 +225,7 @@ module _ {g : Given} {here : Context} {now : MeaningState} {s : State} (injects 
       granules : (i j : ℕ) (c d : Block) → AreTwo (with_new b now) i j c d → is_tagged_block g now.calls c.kind ≡ true → (x y : ℕ) →
           has_byte g now i c x ≡ true → has_byte g now j d y ≡ true → Was i c → Was j d → granule_of x ≢ granule_of y
       granules i j c d two tagged x y one other (old first) (old second) =
-          injects.apart.granules i j c d (record {
-            different = two.different;
-            first = record { is = first; live = two.first.live };
-            second = record { is = second; live = two.second.live };
-          }) tagged x y one other
+          injects.apart.granules i j c d (two_were first second two) tagged x y one other
       granules i j c d two tagged x y one other (old first) (newest at same) =
           new_granules injects order born.new i c (record { is = first; live = two.first.live }) tagged x y one (of_new j d y at same other)
       granules i j c d two tagged x y one other (newest at same) is = absurd (tagged_new c same tagged)
@@ -295,11 +265,9 @@ module _ {g : Given} {here : Context} {now : MeaningState} {s : State} (injects 
     where
       owned : (n : ℕ) (d : Block) (call j : ℕ) → Lives (with_new b now) n d → d.kind ≡ Local call j → Was n d →
           is_among call here.open_calls ≡ true
-      owned n d call j lives kind_is (old there) =
-          injects.frames.owned n d call j (record { is = there; live = lives.live }) kind_is
+      owned n d call j lives kind_is (old there) = injects.frames.owned n d call j (record { is = there; live = lives.live }) kind_is
       owned n d call j lives kind_is (newest at same) =
-          let call_is : born.new.c.number ≡ call =
-          ap call_in (sym born.new.kind_is ∙ ap (λ y. y.kind) (sym same) ∙ kind_is) in
+          let call_is : born.new.c.number ≡ call = ap call_in (sym born.new.kind_is ∙ ap (λ y. y.kind) (sym same) ∙ kind_is) in
           subst (λ (m : ℕ). is_among m here.open_calls ≡ true) call_is owned_new
 
       of_blocks : (n : ℕ) (d : Block) → Lives (with_new b now) n d → is_tagged_block g now.calls d.kind ≡ true → (a : ℕ) →
@@ -314,8 +282,7 @@ module _ {g : Given} {here : Context} {now : MeaningState} {s : State} (injects 
           cell_on c (s.byte ((site_of g now n d).start + offset))
           (injects.cells.cell n d offset c (record { is = there; live = lives.live }) is)
       cell n d offset c lives is (newest at same) =
-          let nothing : c ≡ Nothing =
-          born.nothing offset c (ap (λ (y : Block). slice_get y.cells offset) (sym same) ∙ is) in
+          let nothing : c ≡ Nothing = born.nothing offset c (ap (λ (y : Block). slice_get y.cells offset) (sym same) ∙ is) in
           subst (λ x. IsCell g (with_new b now) x (s.byte ((site_of g now n d).start + offset))) (sym nothing) tt
 
 -- and the outside is the same

@@ -1,13 +1,12 @@
 -- The life of a local ends: the relation holds on (this project's own).
 use Rattle.std.specs.Prelude.{◌≡◌, ◌≢◌, ℕ, ◌+◌, Bool, true, false, nat_eq, slice_get, slice_set}
-use Rattle.std.specs.Prelude.{Option, Some, None, refl, if◌then◌else◌}
+use Rattle.std.specs.Prelude.{Some, None, refl}
 use Rattle.std.proofs.Common.{arith, ap, sym, subst, inl, inr, ◌∙◌}
 use Rattle.std.proofs.lemmas.Bool.{cases_eq, eqb-true}
 use Rattle.std.proofs.lemmas.Bool.Decides.{nat_tests}
 use Rattle.a64_code.specs.State.{State}
 use Rattle.block_meaning.specs.declared.cell.Cell.{Cell}
 use Rattle.block_meaning.specs.declared.cell.Cell.TheVariants.{Nothing, Byte, Part}
-use Rattle.block_meaning.specs.declared.kind.Kind.{Kind}
 use Rattle.block_meaning.specs.declared.kind.Kind.TheVariants.{NullBlock, Local}
 use Rattle.block_meaning.specs.declared.value.Pointer.{Pointer}
 use Rattle.block_meaning.specs.declared.value.Value.{Value}
@@ -25,34 +24,13 @@ use Rattle.code_relation.specs.Sites.{Given, units_of, Lives, site_by, site_of, 
 use Rattle.code_relation.specs.Sites.{is_tagged_block}
 use Rattle.code_relation.specs.Stands.{IsLocal, IsInScope, IsAsOpened, WasOpened, Stands}
 use Rattle.code_relation.specs.Laws.Lists.{get_set_same, get_set_other}
+use Rattle.stmt_follows.specs.Laws.Locals.Basics.{if_true, if_false, some_none, same_some, number_in, without}
 use Rattle.stmt_follows.specs.Laws.Locals.Apart.{none_tagged}
 use Rattle.stmt_follows.specs.Laws.Locals.Opened.{is_local, no_local_opened}
-
--- the context without a local
-abbrev pub without : ℕ → Context → Context
-without k here = record here { local = λ j. (if nat_eq j k then None else here.local j) }
 
 -- the state in which a block is dead
 abbrev pub with_dead : ℕ → Block → MeaningState → MeaningState
 with_dead number b now = record now { blocks = slice_set now.blocks number (ended b) }
-
-of_same : (b : Bool) {A : Type 0} (x y : A) → b ≡ true → (if b then x else y) ≡ x
-of_same true x y is = refl
-of_same false x y is = absurd (cc)
-
-of_other : (b : Bool) {A : Type 0} (x y : A) → b ≡ false → (if b then x else y) ≡ y
-of_other true x y is = absurd (cc)
-of_other false x y is = refl
-
-some_none : {A : Type 0} {o : Option A} {x : A} → o ≡ Some x → o ≡ None → ⊥
-some_none some none = absurd (cc)
-
-same_some : {A : Type 0} {o : Option A} {x y : A} → o ≡ Some x → o ≡ Some y → x ≡ y
-same_some one other = cc
-
-abbrev number_in : Kind → ℕ
-number_in (Local call k) = k
-number_in _ = 0
 
 -- a local of the latest call, whose function has no tagged slots
 pub record IsEnding (g : Given) (here : Context) (now : MeaningState) (k number : ℕ) : Type 0 where
@@ -135,9 +113,9 @@ module _ {g : Given} {here : Context} {now : MeaningState} {s : State} (injects 
   still_in_scope j n is = by_number (nat_eq j k) refl
     where
       by_number : (same : Bool) → nat_eq j k ≡ same → IsInScope (with_dead number ending.block now) (latest here.open_calls) j n
-      by_number true equal = absurd (some_none is (of_same (nat_eq j k) None (here.local j) equal))
+      by_number true equal = absurd (some_none is (if_true (nat_eq j k) None (here.local j) equal))
       by_number false differs =
-          let before : here.local j ≡ Some n = sym (of_other (nat_eq j k) None (here.local j) differs) ∙ is in
+          let before : here.local j ≡ Some n = sym (if_false (nat_eq j k) None (here.local j) differs) ∙ is in
           let found : IsInScope now (latest here.open_calls) j n = injects.stands.scope j n before in
           let other : n ≢ number = λ same.
           let there : slice_get now.blocks number ≡ Some found.block = ap (λ m. slice_get now.blocks m) (sym same) ∙ found.lives.is in
@@ -163,7 +141,7 @@ module _ {g : Given} {here : Context} {now : MeaningState} {s : State} (injects 
 
       by_number : (same : Bool) → nat_eq j k ≡ same → (without k here).local j ≡ Some n
       by_number true equal = absurd (at.other (same_some (ap here.local (sym (eqb-true j k equal)) ∙ before) ending.local_is))
-      by_number false differs = of_other (nat_eq j k) None (here.local j) differs ∙ before
+      by_number false differs = if_false (nat_eq j k) None (here.local j) differs ∙ before
 
   not_opened : (n : ℕ) (d : Block) → slice_get now.blocks n ≡ Some d → is_local d.kind ≡ false → n ≢ number
   not_opened n d is none same =

@@ -1,6 +1,6 @@
 -- The locals of a scope get their blocks where it is entered (this project's own).
-use Rattle.std.specs.Prelude.{◌≡◌, ◌≢◌, ℕ, Bool, true, false, nat_eq, List, [], ◌∷◌, length, slice_get}
-use Rattle.std.specs.Prelude.{Option, Some, None, refl, if◌then◌else◌, ◌⊎◌}
+use Rattle.std.specs.Prelude.{◌≡◌, ℕ, Bool, true, false, nat_eq, List, [], ◌∷◌, length, slice_get}
+use Rattle.std.specs.Prelude.{Option, Some, None, refl, ◌⊎◌}
 use Rattle.std.specs.List.{Contains}
 use Rattle.std.proofs.Common.{ap, sym, subst, inl, inr, ◌∙◌}
 use Rattle.std.proofs.lemmas.Bool.{eqb-true}
@@ -23,6 +23,7 @@ use Rattle.code_relation.specs.Stands.{AreCalls, IsLocal}
 use Rattle.code_runs.specs.Bounded.{Account, Room}
 use Rattle.stmt_follows.specs.Parts.{Proceeds}
 use Rattle.stmt_follows.specs.Laws.Conditions.{and_then-apart}
+use Rattle.stmt_follows.specs.Laws.Locals.Basics.{if_false, same_some, others_same}
 use Rattle.stmt_follows.specs.Laws.Locals.Born.{with_new, IsBorn, Relates-born}
 use Rattle.stmt_follows.specs.Laws.Locals.Lists.{contains_first, contains_more, AreDifferent, length-nothing, get-nothing}
 use Rattle.stmt_follows.specs.Laws.Locals.Slots.{slot_at}
@@ -44,9 +45,6 @@ pub record IsSafeCall (g : Given) (here : Context) : Type 0 where
   pub safe : has_tagged (units_of g) c.function ≡ false
 
 -- ---- one local
-
-same_some : {A : Type 0} {o : Option A} {x y : A} → o ≡ Some x → o ≡ Some y → x ≡ y
-same_some one other = cc
 
 -- the function of a call, and the local there
 record HasLocal (o : Option TFunction) (k : ℕ) (l : LocalInfo) : Type 0 where
@@ -96,22 +94,6 @@ born_by {g} {here} {now} relates order call k l info_is none =
       nothing = λ offset c is. get-nothing (bytes_of here l.ty) offset c is;
     }
 
-local_same : (same : Bool) {A : Type 0} (x y : A) → same ≡ true → (if same then x else y) ≡ x
-local_same true x y is = refl
-local_same false x y is = absurd (cc)
-
-local_other : (same : Bool) {A : Type 0} (x y : A) → same ≡ false → (if same then x else y) ≡ y
-local_other true x y is = absurd (cc)
-local_other false x y is = refl
-
--- another local is as it was
-pub others_same : (here : Context) (k number j : ℕ) → j ≢ k → (with_local k number here).local j ≡ here.local j
-others_same here k number j other = by_number (nat_eq j k) refl
-  where
-    by_number : (same : Bool) → nat_eq j k ≡ same → (with_local k number here).local j ≡ here.local j
-    by_number true equal = absurd (other (eqb-true j k equal))
-    by_number false differs = local_other (nat_eq j k) (Some number) (here.local j) differs
-
 -- a local more, and then others
 inner_then : (here : Context) (k number : ℕ) (ks : List ℕ) (inner : Context) → IsInner (with_local k number here) ks inner →
     IsInner here (k ∷ ks) inner
@@ -132,7 +114,7 @@ inner_then here k number ks inner is = record {
         by_number : (same : Bool) → nat_eq j k ≡ same → Contains (k ∷ ks) j ⊎ (here.local j ≡ Some n)
         by_number true equal =
             inl (subst (λ i. Contains (k ∷ ks) i) (sym (eqb-true j k equal)) (contains_first k ks))
-        by_number false differs = inr (sym (local_other (nat_eq j k) (Some number) (here.local j) differs) ∙ found)
+        by_number false differs = inr (sym (if_false (nat_eq j k) (Some number) (here.local j) differs) ∙ found)
 
 -- ---- all of them
 

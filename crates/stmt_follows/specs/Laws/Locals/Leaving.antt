@@ -1,6 +1,5 @@
 -- The lives of a scope's locals end where it is left (this project's own).
-use Rattle.std.specs.Prelude.{◌≡◌, ◌≢◌, ℕ, Bool, true, false, nat_eq, List, [], ◌∷◌, Option, Some, None, refl}
-use Rattle.std.specs.Prelude.{if◌then◌else◌}
+use Rattle.std.specs.Prelude.{◌≡◌, ℕ, Bool, true, false, nat_eq, List, [], ◌∷◌, Option, Some, None, refl}
 use Rattle.std.specs.List.{Contains}
 use Rattle.std.proofs.Common.{arith, ap, sym, subst, inl, inr, ◌∙◌}
 use Rattle.std.proofs.Math.Path.{fun_ext}
@@ -20,7 +19,8 @@ use Rattle.code_relation.specs.Stands.{AreCalls, IsInScope}
 use Rattle.code_runs.specs.Bounded.{Account, Room}
 use Rattle.stmt_follows.specs.Parts.{Proceeds}
 use Rattle.stmt_follows.specs.Laws.Conditions.{and_then-apart}
-use Rattle.stmt_follows.specs.Laws.Locals.Ended.{without, with_dead, IsEnding, Holds-ended, Relates-ended}
+use Rattle.stmt_follows.specs.Laws.Locals.Basics.{if_true, if_false, same_some, without, others_stay}
+use Rattle.stmt_follows.specs.Laws.Locals.Ended.{with_dead, IsEnding, Holds-ended, Relates-ended}
 use Rattle.stmt_follows.specs.Laws.Locals.Entering.{IsSafeCall}
 use Rattle.stmt_follows.specs.Laws.Locals.Lists.{contains_none, contains_first, contains_more, contains_cases, AreDifferent}
 use Rattle.stmt_follows.specs.Laws.Proceeding.{Proceeds-same, Proceeds-from, Proceeds-stuck}
@@ -29,24 +29,6 @@ use Rattle.stmt_follows.specs.Laws.Proceeding.{Proceeds-same, Proceeds-from, Pro
 abbrev pub without_all : List ℕ → Context → Context
 without_all [] here = here
 without_all (k ∷ ks) here = without_all ks (without k here)
-
-if_false : (same : Bool) {A : Type 0} (x y : A) → same ≡ false → (if same then x else y) ≡ y
-if_false true x y is = absurd (cc)
-if_false false x y is = refl
-
-if_true : (same : Bool) {A : Type 0} (x y : A) → same ≡ true → (if same then x else y) ≡ x
-if_true true x y is = refl
-if_true false x y is = absurd (cc)
-
-same_some : {B : Type 0} {o : Option B} {x y : B} → o ≡ Some x → o ≡ Some y → x ≡ y
-same_some one other = cc
-
-others_stay : (here : Context) (k j : ℕ) → j ≢ k → (without k here).local j ≡ here.local j
-others_stay here k j other = by_number (nat_eq j k) refl
-  where
-    by_number : (same : Bool) → nat_eq j k ≡ same → (without k here).local j ≡ here.local j
-    by_number true equal = absurd (other (eqb-true j k equal))
-    by_number false differs = if_false (nat_eq j k) None (here.local j) differs
 
 -- ---- the context round the scope
 

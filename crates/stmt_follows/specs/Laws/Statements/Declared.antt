@@ -24,7 +24,8 @@ use Rattle.stmt_follows.specs.Laws.Standing.{Standing-turn, Standing-two}
 module _ {A : Type 0} {k : Scene} {room : A → Room} {Q : A → MeaningState → State → Type 0} {s : State} where
   -- declarations, and then what follows them
   pub Proceeds-declarations : {a : Account} {spare from middle : ℕ} {code : Items} {m : Run (Unit {0})}
-      {now : MeaningState} {t : State} (f : Unit {0} → Run A) → DeclsPart k code m → IsScene k → Lies k code from middle → Here k s from a 0 spare now t →
+      {now : MeaningState} {t : State} (f : Unit {0} → Run A) → DeclsPart k code m → IsScene k → Lies k code from middle →
+      Here k s from a 0 spare now t →
       ((then : MeaningState) (u : State) (n : ℕ) → Here k s middle (later n a) 0 spare then u →
       Proceeds k.code room Q (later n a) (f (tt {0})) then u) →
       Proceeds k.code room Q a (and_then m f) now t

@@ -4,7 +4,8 @@ use Rattle.std.proofs.Common.{arith, sym, subst, ◌∙◌}
 use Rattle.a64_code.specs.State.{State}
 use Rattle.a64_code.specs.declared.instr.Instr.TheVariants.{Nop}
 use Rattle.block_meaning.specs.Running.{Run, gives, and_then, unit_then, choice, State as MeaningState}
-use Rattle.block_meaning.specs.Statements.{StmtParts, Flow, Next, Broke, Continued, Returned, Turn, Again, Leaves, after_body, if_again, loop}
+use Rattle.block_meaning.specs.Statements.{StmtParts, Flow, Next, Broke, Continued, Returned, Turn, Again, Leaves, after_body, if_again}
+use Rattle.block_meaning.specs.Statements.{loop}
 use Rattle.block_meaning.specs.Statements.{condition, stmt_node}
 use Rattle.block_meaning.specs.Statements.{around as around_turn}
 use Rattle.c_type_base.specs.Types.{is_scalar}
@@ -31,7 +32,8 @@ use Rattle.stmt_follows.specs.Parts.{ways, Standing, Ends, flow_room, Here, Afte
 use Rattle.stmt_follows.specs.Laws.Ahead.{unit_then-apart, Proceeds-chosen}
 use Rattle.stmt_follows.specs.Laws.Conditions.{and_then-apart, Proceeds-condition}
 use Rattle.stmt_follows.specs.Laws.Flowing.{Here-comes, Proceeds-flow, Proceeds-next, StmtPart-by}
-use Rattle.stmt_follows.specs.Laws.Proceeding.{Proceeds-same, Proceeds-stuck, Proceeds-done, Proceeds-unit, Proceeds-jump, Proceeds-computes}
+use Rattle.stmt_follows.specs.Laws.Proceeding.{Proceeds-same, Proceeds-stuck, Proceeds-done, Proceeds-unit, Proceeds-jump}
+use Rattle.stmt_follows.specs.Laws.Proceeding.{Proceeds-computes}
 use Rattle.stmt_follows.specs.Laws.Standing.{Standing-turn, Standing-two, Standing-labelled}
 
 abbrev turns : Items → Emits → ℕ → Items

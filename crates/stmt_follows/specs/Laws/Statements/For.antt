@@ -4,7 +4,8 @@ use Rattle.std.proofs.Common.{arith, sym, subst, ◌∙◌}
 use Rattle.a64_code.specs.State.{State}
 use Rattle.block_meaning.specs.Expressions.{value_of}
 use Rattle.block_meaning.specs.Running.{Run, gives, and_then, choice, State as MeaningState}
-use Rattle.block_meaning.specs.Statements.{StmtParts, Flow, Next, Broke, Continued, Returned, Turn, Again, Leaves, after_body, if_again, loop}
+use Rattle.block_meaning.specs.Statements.{StmtParts, Flow, Next, Broke, Continued, Returned, Turn, Again, Leaves, after_body, if_again}
+use Rattle.block_meaning.specs.Statements.{loop}
 use Rattle.block_meaning.specs.Statements.{Heading, condition, condition_or_true, effect, for_turn}
 use Rattle.block_meaning.specs.Statements.{around as around_turn}
 use Rattle.c_type_base.specs.declared.expr.TExpr.{TExpr}

@@ -54,7 +54,8 @@ if_follows {k} scene parts e st emits runs scalar follows = StmtPart-by (λ arou
     let named = Standing-labelled (one_way (emits around)) pieces.back in
     let way = stands_one (emits around) named.number named.stands in
     let small : result.0 < 31 = omega arith in
-    Proceeds-condition scene parts (λ holds. choice holds (parts.run k.here st) (gives Next)) e runs scalar pieces.front.lies (jump_inside way.branch small) on (λ then u n came.
+    Proceeds-condition scene parts (λ holds. choice holds (parts.run k.here st) (gives Next)) e runs scalar pieces.front.lies
+    (jump_inside way.branch small) on (λ then u n came.
     Proceeds-choice (not (nat_eq (u.register result.0) 0))
     (λ yes. Proceeds-jump 0 (on_other_jump way.branch small u (IsAt-on came) (true_number (u.register result.0) yes)) came (omega arith)
     (omega arith) (λ there.

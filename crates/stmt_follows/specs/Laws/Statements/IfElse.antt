@@ -82,7 +82,8 @@ if_else_follows {k} scene parts e st other emits others runs scalar follows othe
     let named = Standing-labelled (two_ways (emits around) (others around)) pieces.back in
     let both = stands_both (emits around) (others around) named.number named.stands in
     let small : result.0 < 31 = omega arith in
-    Proceeds-condition scene parts (λ holds. choice holds (parts.run k.here st) (parts.run k.here other)) e runs scalar pieces.front.lies (jump_inside both.branch small) on (λ then u n came.
+    Proceeds-condition scene parts (λ holds. choice holds (parts.run k.here st) (parts.run k.here other)) e runs scalar
+    pieces.front.lies (jump_inside both.branch small) on (λ then u n came.
     Proceeds-choice (not (nat_eq (u.register result.0) 0))
     (λ yes. Proceeds-jump 2 (on_other_jump both.branch small u (IsAt-on came) (true_number (u.register result.0) yes)) came (omega arith)
     (omega arith) (λ there.

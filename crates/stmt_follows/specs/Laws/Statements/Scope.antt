@@ -1,5 +1,6 @@
 -- The code of a scope that declares locals does what it means (this project's own).
-use Rattle.std.specs.Prelude.{◌≡◌, ℕ, ◌+◌, ◌*◌, ◌≤◌, Bool, true, false, List, [], ◌∷◌, ◌++◌, slice_get, Option, Some, None, refl, ◌⊎◌, if◌then◌else◌}
+use Rattle.std.specs.Prelude.{◌≡◌, ℕ, ◌+◌, ◌*◌, ◌≤◌, Bool, true, false, List, [], ◌∷◌, ◌++◌, slice_get, Option, Some, None, refl, ◌⊎◌}
+use Rattle.std.specs.Prelude.{if◌then◌else◌}
 use Rattle.std.specs.List.{Contains}
 use Rattle.std.proofs.Common.{arith, ap, sym, subst, inl, inr, ◌∙◌}
 use Rattle.std.proofs.lemmas.List.Elements.{Contains-append_left, Contains-append_right}
@@ -103,7 +104,8 @@ none_new {k} {ks} place new j has = by_number (k.here.local j) refl
     by_number None is = is
     by_number (Some number) is = absurd (new.not_there j has (place.only j number is))
 
-inner_place : {k : Scene} {ks : List ℕ} {inner : Context} → IsPlace k → IsInner k.here ks inner → IsPlace (moved k (within k.scope ks) inner)
+inner_place : {k : Scene} {ks : List ℕ} {inner : Context} → IsPlace k → IsInner k.here ks inner →
+    IsPlace (moved k (within k.scope ks) inner)
 inner_place {k} {ks} {inner} place is = record {
   scene = record {
     file = place.scene.file;
@@ -217,7 +219,8 @@ module _ {k : Scene} (place : IsPlace k) (j : ℕ) (js : List ℕ) (new : AreNew
       (λ last relates work_is holds.
       Proceeds-done x (bounds_out k (j ∷ js) inner is after.bounds work_is) (omega (arith, no_spare x))
       (ends_out k (j ∷ js) inner is w s to x later last u after.ends
-      (subst (λ here. Relates (given_in k) here last u) (context_out k (j ∷ js) inner is (λ i has. none_new place new i has)) relates) holds)))
+      (subst (λ here. Relates (given_in k) here last u) (context_out k (j ∷ js) inner is (λ i has. none_new place new i has)) relates)
+      holds)))
 
   pub scope_follows : StmtPart k (scope (frame_in k) (j ∷ js) emits) (scoped k.here (j ∷ js) run)
   scope_follows = StmtPart-by (λ around Leaving from to stands a now s on.
