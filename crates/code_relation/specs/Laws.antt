@@ -24,3 +24,4 @@ pub mod PointerCells
 pub mod BytesPut
 pub mod TempBytes
 pub mod WholeFrames
+pub mod SlotSites

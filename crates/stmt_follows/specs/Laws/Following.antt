@@ -1,6 +1,7 @@
 -- Code that stands among a function's items follows its statement (this project's own), in a function without tagged slots.
 use Rattle.std.specs.Prelude.{◌≡◌, ℕ, false, List, map, length, slice_get, Some, refl}
 use Rattle.std.proofs.Common.{arith, ap, sym, subst, ◌∙◌}
+use Rattle.c_type_base.specs.declared.typed.Typed.{Typed}
 use Rattle.a64_code.specs.State.{State}
 use Rattle.block_meaning.specs.ExpressionsInOrder.{Scope}
 use Rattle.block_meaning.specs.Meaning.{calls_at}
@@ -29,8 +30,8 @@ use Rattle.stmt_follows.specs.Laws.Statements.Declarations.{declarations_follow}
 use Rattle.stmt_follows.specs.Laws.Whole.{all_below, items_below}
 
 -- a list of items of a function, whose temps are all free
-abbrev pub part_of : Function → List SymItem → Part
-part_of f is = record { function = f; items = is; first = 0 }
+abbrev pub part_of : Typed → Function → List SymItem → Part
+part_of file f is = record { file = file; function = f; items = is; first = 0 }
 
 -- the code of trees of a scope, where it stands
 abbrev pub scene_at : Code → Function → Place → Scope → Context → ℕ → Scene
@@ -47,7 +48,7 @@ record LeavesAt (p : Place) (is : List SymItem) (at : ℕ) : Type 0 where
   there : slice_get is position ≡ Some item.Leave
   at_is : p.at position ≡ at
 
-module _ (c : Code) (f : Function) (p : Place) (s : Scope) (bound : ℕ) (is : List SymItem) (broke continued : ℕ) where
+module _ (file : Typed) (c : Code) (f : Function) (p : Place) (s : Scope) (bound : ℕ) (is : List SymItem) (broke continued : ℕ) where
   -- the addresses of the labels
   abbrev exits : Exits
   exits = record { broke = p.label broke; continued = p.label continued }
@@ -55,7 +56,7 @@ module _ (c : Code) (f : Function) (p : Place) (s : Scope) (bound : ℕ) (is : L
   comes_by : (here : Context) (t : State) (x : Flow) (now : MeaningState) (u : State) →
       Ends (scene_at c f p s here bound)
       (record { broke = p.label broke; continued = p.label continued; Leaving = λ at. LeavesAt p is at }) t (p.at (length is)) x now u →
-      ComesBy c.given (part_of f is) p exits here t 0 x now u
+      ComesBy c.given (part_of file f is) p exits here t 0 x now u
   comes_by here t Next now u ends = ends
   comes_by here t Broke now u ends = (ends, no_scope)
   comes_by here t Continued now u ends = (ends, no_scope)
@@ -74,10 +75,10 @@ module _ (c : Code) (f : Function) (p : Place) (s : Scope) (bound : ℕ) (is : L
 
   -- from what a part promises, in each context
   follows_by : (emits : Emits) (around : Around) (position : ℕ) → around.broke ≡ broke → around.continued ≡ continued →
-      is ≡ emits around position → (run : Context → Run Flow) → IsPlaced (part_of f is) c p → IsScope c f s →
+      is ≡ emits around position → (run : Context → Run Flow) → IsPlaced (part_of file f is) c p → IsScope c f s →
       has_tagged (units_of c.given) f ≡ false →
       ((here : Context) → IsPlace (scene_at c f p s here bound) → StmtPart (scene_at c f p s here bound) emits (run here)) →
-      Follows c (statement_tree c.given run (part_of f is) p s.locals exits)
+      Follows c (statement_tree c.given run (part_of file f is) p s.locals exits)
   follows_by emits around position broke_is continued_is code_is run placed of_scope safe each = record {
     does = λ here now t within relates begins.
         let k : Scene = scene_at c f p s here bound in
@@ -142,13 +143,13 @@ pub record IsStatement (c : Code) (f : Function) (p : Place) (s : Scope) (bound 
   pub ready : Ready (frame_of (units_of c.given) f) s.function (out-TStmt st)
 
 -- The items follow the statement.
-pub follows_statement : (f : Function) (is : List SymItem) (broke continued : ℕ) (st : TStmt) →
-    ((c : Code) (p : Place) (s : Scope) (bound : ℕ) → IsPlaced (part_of f is) c p → IsScope c f s →
-    IsStatement c f p s bound is broke continued st) → FollowsStatement (part_of f is) broke continued st
-follows_statement f is broke continued st each = record {
+pub follows_statement : (file : Typed) (f : Function) (is : List SymItem) (broke continued : ℕ) (st : TStmt) →
+    ((c : Code) (p : Place) (s : Scope) (bound : ℕ) → IsPlaced (part_of file f is) c p → IsScope c f s →
+    IsStatement c f p s bound is broke continued st) → FollowsStatement (part_of file f is) broke continued st
+follows_statement file f is broke continued st each = record {
   follows = λ c p s placed of_scope ordered new bound depth.
       let asked : IsStatement c f p s bound is broke continued st = each c p s bound placed of_scope in
-      follows_by c f p s bound is broke continued
+      follows_by file c f p s bound is broke continued
       (statement_code (structs_of (units_of c.given) f.unit) (frame_of (units_of c.given) f) st) asked.code.around asked.code.position
       asked.code.broke_is asked.code.continued_is asked.code.code_is (λ here. (statements_at (calls_at bound) depth).run here st) placed
       of_scope asked.followed.safe (λ here place.
@@ -164,13 +165,13 @@ pub record AreItems (c : Code) (f : Function) (p : Place) (s : Scope) (bound : �
   pub followed : IsFollowed c f p s bound
   pub ready : ReadyItems (frame_of (units_of c.given) f) s.function parts
 
-pub follows_items : (f : Function) (is : List SymItem) (broke continued : ℕ) (parts : List TItem) →
-    ((c : Code) (p : Place) (s : Scope) (bound : ℕ) → IsPlaced (part_of f is) c p → IsScope c f s →
-    AreItems c f p s bound is broke continued parts) → FollowsItems (part_of f is) broke continued parts
-follows_items f is broke continued parts each = record {
+pub follows_items : (file : Typed) (f : Function) (is : List SymItem) (broke continued : ℕ) (parts : List TItem) →
+    ((c : Code) (p : Place) (s : Scope) (bound : ℕ) → IsPlaced (part_of file f is) c p → IsScope c f s →
+    AreItems c f p s bound is broke continued parts) → FollowsItems (part_of file f is) broke continued parts
+follows_items file f is broke continued parts each = record {
   follows = λ c p s placed of_scope ordered new bound depth.
       let asked : AreItems c f p s bound is broke continued parts = each c p s bound placed of_scope in
-      follows_by c f p s bound is broke continued
+      follows_by file c f p s bound is broke continued
       (items (map (coded_item (structs_of (units_of c.given) f.unit) (frame_of (units_of c.given) f)) parts)) asked.code.around
       asked.code.position asked.code.broke_is asked.code.continued_is asked.code.code_is
       (λ here. items_run (statements_at (calls_at bound) depth) here parts) placed of_scope asked.followed.safe (λ here place.

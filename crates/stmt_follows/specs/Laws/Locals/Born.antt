@@ -293,6 +293,7 @@ Relates-born order born relates = record {
   outside = record {
     output = relates.outside.output;
     input = relates.outside.input;
+    bytes = relates.outside.bytes;
     takes = relates.outside.takes;
     puts = relates.outside.puts;
   };

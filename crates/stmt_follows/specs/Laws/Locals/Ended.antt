@@ -279,6 +279,7 @@ Relates-ended ending relates = record {
   outside = record {
     output = relates.outside.output;
     input = relates.outside.input;
+    bytes = relates.outside.bytes;
     takes = relates.outside.takes;
     puts = relates.outside.puts;
   };

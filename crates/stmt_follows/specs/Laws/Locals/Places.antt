@@ -11,6 +11,7 @@ use Rattle.frame_layout.specs.WellFormed.{is_tagged_slot}
 use Rattle.block_meaning.specs.Linkage.{structs_of, function_named}
 use Rattle.block_meaning.specs.Running.{Call, State as MeaningState}
 use Rattle.code_relation.specs.Calls.{frame_of}
+use Rattle.block_meaning.specs.Access.{is_null_block, is_text}
 use Rattle.code_relation.specs.Relates.{Relates}
 use Rattle.code_relation.specs.Sites.{Given, units_of, is_tagged_by}
 use Rattle.code_relation.specs.Laws.FrameWords.{HasSlot, slot_of_local}
@@ -58,9 +59,8 @@ local_place {k} {now} {s} place relates t local number l local_is type_is scalar
       place = record {
         block = at.block;
         lives = at.lives;
-        call = c.number;
-        local = local;
-        kind_is = at.kind_is;
+        not_null = ap (λ kind. is_null_block kind) at.kind_is;
+        not_text = ap (λ kind. is_text kind) at.kind_is;
         size_is = bytes;
         start_is = at.start_is;
         near = record {

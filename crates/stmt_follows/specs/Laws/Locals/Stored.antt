@@ -27,7 +27,8 @@ use Rattle.code_relation.specs.Numbers.{IsNumber}
 use Rattle.code_relation.specs.Relates.{Relates}
 use Rattle.code_relation.specs.Sites.{units_of, site_of}
 use Rattle.code_relation.specs.Laws.BytesPut.{Writes-put, Relates-put, KeepsFrom-all}
-use Rattle.code_relation.specs.Laws.Stores.{Stores, Stores-local}
+use Rattle.code_relation.specs.Laws.Stores.{Stores}
+use Rattle.code_follows.specs.Laws.StoresAny.{stores_any}
 use Rattle.code_runs.specs.Bounded.{Account, later}
 use Rattle.code_runs.specs.Laws.Ranges.{IsInRange-Steps}
 use Rattle.code_runs.specs.Within.{StepsWithin}
@@ -105,7 +106,8 @@ module _ {k : Scene} (scene : IsScene k) (t : Ty) (scalar : is_scalar t ≡ true
       let cells : Stored (given_in k) now t v s.byte (s.sp + start) (general s r) =
       stored-scalar t v (general s r) s.byte (s.sp + start) scalar is_general in
       let stores : Stores (given_in k) k.here now number p.block 0 (cells_of t v) s (puts_bytes byte s) =
-      Stores-local relates.injects scene.file.meant.in_order number p.block p.call p.local 0 (cells_of t v) p.lives p.kind_is
+      stores_any relates.injects scene.file.meant.in_order number p.block 0 (cells_of t v) p.lives p.not_null p.not_text
+      (omega (arith, p.size_is, load_some t))
       (Writes-put number p.block 0 (bytes_in t) (s.sp + start) (general s r) (cells_of t v) (omega (arith, p.start_is))
       (omega (arith, p.size_is)) cells.as_many cells.cells) in
       let range : IsInRange (puts_bytes byte s) = IsInRange-Steps 1 led.steps relates.injects.in_range in
