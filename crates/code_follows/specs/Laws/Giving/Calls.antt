@@ -5,7 +5,6 @@ use Rattle.std.proofs.lemmas.List.Elements.{All-head, All-tail}
 use Rattle.c_ast.specs.declared.int_type.IntType.TheVariants as int
 use Rattle.c_type_base.specs.Laws.Opened.{given_types}
 use Rattle.c_type_base.specs.declared.expr.Callee.{Callee}
-use Rattle.c_type_base.specs.declared.expr.Callee.TheVariants as callee
 use Rattle.c_type_base.specs.declared.ty.Ty.{Ty}
 use Rattle.c_type_base.specs.declared.typed.ExternInfo.{ExternInfo}
 use Rattle.c_type_base.specs.declared.typed.TFunction.{TFunction}
@@ -13,16 +12,16 @@ use Rattle.block_meaning.specs.Expressions.{Calls, Site, take_byte, put_byte, fi
 use Rattle.block_meaning.specs.ExpressionsInOrder as order
 use Rattle.block_meaning.specs.ExpressionsInOrder.{Scope, Callable, IsDefined, int_type}
 use Rattle.block_meaning.specs.Linkage.{extern_at, function_of, function_named, called_as}
-use Rattle.block_meaning.specs.Running.{Function, Program, Context, Goes, gives, State as MeaningState}
+use Rattle.block_meaning.specs.Running.{Function, Program, Context, Goes, State as MeaningState}
 use Rattle.block_meaning.specs.declared.value.Value.{Value}
 use Rattle.block_meaning.specs.declared.value.Value.TheVariants.{Number}
 use Rattle.gen_laws.specs.Computes.{IsOf}
 use Rattle.code_follows.specs.Giving.{Gives}
-use Rattle.code_follows.specs.Later.{AreBytes, Ran}
+use Rattle.code_follows.specs.Later.{AreBytes}
 use Rattle.code_follows.specs.Values.{IsOfType}
-use Rattle.code_follows.specs.Laws.Giving.Words.{gives-gives, gives-undefined, gives-some}
+use Rattle.code_follows.specs.Laws.Giving.Words.{gives-undefined, gives-some}
 use Rattle.code_follows.specs.Laws.Nodes.CallAcross.{GivesAs, gives-as}
-use Rattle.code_follows.specs.Laws.Nodes.CallBytes.{byte_of, end_of, exchanged, taken_byte, taken_end}
+use Rattle.code_follows.specs.Laws.Nodes.CallBytes.{byte_of, end_of, taken_byte, taken_end}
 
 -- functions of a program give values of the types of their results
 pub record CallsGiving (p : Program) (calls : Calls) : Type 0 where

@@ -1,27 +1,25 @@
 -- What operators give is of the type of their result (this project's own).
-use Rattle.std.specs.Prelude.{◌≡◌, ◌≢◌, ℕ, Bool, true, false, ◌||◌, Option, Some, None, refl, if◌then◌else◌, nat_eq}
-use Rattle.std.proofs.Common.{ap, sym, subst, ◌∙◌}
-use Rattle.c_ast.specs.declared.int_type.IntType.{IntType}
+use Rattle.std.specs.Prelude.{◌≡◌, ℕ, Bool, true, false, ◌||◌, Option, Some, None, refl, if◌then◌else◌, nat_eq}
+use Rattle.std.proofs.Common.{sym, subst}
 use Rattle.c_ast.specs.declared.int_type.IntType.TheVariants as int
 use Rattle.c_ast.specs.declared.operator.AssignOperator.{AssignOperator}
-use Rattle.c_ast.specs.declared.operator.AssignOperator.TheVariants as assign
 use Rattle.c_ast.specs.declared.operator.BinaryOperator.{BinaryOperator}
 use Rattle.c_ast.specs.declared.operator.BinaryOperator.TheVariants as binary
 use Rattle.c_ast.specs.declared.operator.UnaryOperator.{UnaryOperator}
 use Rattle.c_ast.specs.declared.operator.UnaryOperator.TheVariants as unary
 use Rattle.c_ast.specs.declared.token.Span.{Span}
-use Rattle.c_type_base.specs.Arithmetic.{negated, binary_value, unary_value, quotient}
+use Rattle.c_type_base.specs.Arithmetic.{binary_value, unary_value, quotient}
 use Rattle.c_type_base.specs.Laws.Opened.{given_types}
-use Rattle.c_type_base.specs.Types.{is_there, int_of, target_of, is_integer, is_pointer, is_scalar}
+use Rattle.c_type_base.specs.Types.{is_integer, is_pointer}
 use Rattle.c_type_base.specs.declared.ty.Ty.{Ty}
 use Rattle.c_type_base.specs.declared.ty.Ty.TheVariants as ty
 use Rattle.block_meaning.specs.Compare.{compared, objects_between}
 use Rattle.block_meaning.specs.Expressions.{number_known}
-use Rattle.block_meaning.specs.ExpressionsInOrder.{Group, Arithmetic, Shift, Comparison, group_of, is_sign, int_type}
+use Rattle.block_meaning.specs.ExpressionsInOrder.{Comparison, group_of, is_sign, int_type}
 use Rattle.block_meaning.specs.ExpressionsInOrder.{BinaryTypes, arithmetic, shift, comparison, added, added_to, taken, distance}
 use Rattle.block_meaning.specs.ExpressionsInOrder.{CompoundTypes, computes, adds, takes}
 use Rattle.block_meaning.specs.Operators.{int_in, comparison as truth_known, or_divide, difference_known, on_pointers, on_values}
-use Rattle.block_meaning.specs.Operators.{binary_of, computing_type, numbers_combined, values_combined}
+use Rattle.block_meaning.specs.Operators.{binary_of, values_combined}
 use Rattle.block_meaning.specs.Running.{Context}
 use Rattle.block_meaning.specs.Values.{number_in}
 use Rattle.block_meaning.specs.declared.value.Pointer.{Pointer}
@@ -33,7 +31,7 @@ use Rattle.gen_laws.specs.Laws.Numbers.{wrap-is_of}
 use Rattle.code_follows.specs.Covered.{operates_in}
 use Rattle.code_follows.specs.Giving.{Gives}
 use Rattle.code_follows.specs.Values.{IsOfType}
-use Rattle.code_follows.specs.Laws.Giving.Values.{IntegerOf, integer_of, PointerOf, pointer_of, of_pointer, of_truth, of_converted_integer}
+use Rattle.code_follows.specs.Laws.Giving.Values.{integer_of, PointerOf, pointer_of, of_pointer, of_truth, of_converted_integer}
 use Rattle.code_follows.specs.Laws.Giving.Words.{Any, gives-gives, gives-stops, gives-undefined, gives-then, gives-blocks}
 use Rattle.code_follows.specs.Laws.Nodes.OnIntegers.{integer-of, promoted-in, comparison-on}
 

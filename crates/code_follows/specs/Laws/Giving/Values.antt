@@ -1,28 +1,24 @@
 -- Values are of their types: what is read, what is converted, and what operators give (this project's own).
-use Rattle.std.specs.Prelude.{◌≡◌, ℕ, Bool, true, false, ◌||◌, List, [], ◌∷◌, Option, Some, None, refl, if◌then◌else◌}
-use Rattle.std.specs.List.{list_any}
-use Rattle.std.proofs.Common.{ap, sym, subst, ◌∙◌}
+use Rattle.std.specs.Prelude.{◌≡◌, ℕ, Bool, true, false, ◌||◌, List, Option, Some, None, refl, if◌then◌else◌}
+use Rattle.std.proofs.Common.{sym, subst}
 use Rattle.c_ast.specs.declared.int_type.IntType.{IntType}
 use Rattle.c_ast.specs.declared.int_type.IntType.TheVariants as int
-use Rattle.c_ast.specs.declared.operator.AssignOperator.{AssignOperator}
-use Rattle.c_ast.specs.declared.operator.BinaryOperator.{BinaryOperator}
-use Rattle.c_ast.specs.declared.operator.BinaryOperator.TheVariants as binary
 use Rattle.c_ast.specs.declared.operator.Step.{Step}
 use Rattle.c_ast.specs.declared.token.Span.{Span}
-use Rattle.c_type_base.specs.Arithmetic.{truth, binary_value}
+use Rattle.c_type_base.specs.Arithmetic.{truth}
 use Rattle.c_type_base.specs.Conversions.{wrap}
 use Rattle.c_type_base.specs.Laws.Opened.{given_types}
 use Rattle.c_type_base.specs.Types.{TyLayer, is_there, int_of_level, target_of_level, is_integer, is_pointer, is_scalar, is_struct, is_void}
 use Rattle.c_type_base.specs.Types.{is_void_level, struct_of_level}
 use Rattle.c_type_base.specs.declared.ty.Ty.{Ty, out-Ty}
 use Rattle.c_type_base.specs.declared.ty.Ty.TheOpen.{Ty-F}
-use Rattle.block_meaning.specs.Access.{ReadResult, ReadsAs, UndefinedBy, whole_or_part, scalar_in, unless_reason, read_in, reason_against}
+use Rattle.block_meaning.specs.Access.{ReadResult, ReadsAs, UndefinedBy, whole_or_part, unless_reason, read_in, reason_against}
 use Rattle.block_meaning.specs.ExpressionsInOrder.{int_type, Converts, integers, pointers, null_constant}
 use Rattle.block_meaning.specs.Memory.{Object, access, what_is_read, read_scalar, read}
 use Rattle.block_meaning.specs.Operators.{or_int, int_in, number_of_truth, stepped}
 use Rattle.block_meaning.specs.Running.{gives, Context}
-use Rattle.block_meaning.specs.Values.{number_of_cells, pointer_of_cells, number_value, address_value, scalar_of_cells, value_of_cells}
-use Rattle.block_meaning.specs.Values.{is_nothing, value_as, converted_to, zero_as, missing_result}
+use Rattle.block_meaning.specs.Values.{number_of_cells, pointer_of_cells, number_value, address_value, scalar_of_cells}
+use Rattle.block_meaning.specs.Values.{value_as, converted_to, zero_as, missing_result}
 use Rattle.block_meaning.specs.declared.access.Access.{Access}
 use Rattle.block_meaning.specs.declared.cell.Cell.{Cell}
 use Rattle.block_meaning.specs.declared.reason.Reason.{Reason}

@@ -1,24 +1,24 @@
 -- What runs give: the words that they are made of (this project's own).
 use Rattle.std.specs.Prelude.{◌≡◌, ℕ, zero, suc, Bool, true, false, List, Option, Some, None, refl}
-use Rattle.std.proofs.Common.{ap, sym, subst, ◌∙◌}
+use Rattle.std.proofs.Common.{subst}
 use Rattle.c_ast.specs.declared.token.Span.{Span}
 use Rattle.block_meaning.specs.declared.access.Access.{Access}
 use Rattle.block_meaning.specs.declared.reason.Reason.{Reason}
 use Rattle.block_meaning.specs.Blocks.{Block}
-use Rattle.block_meaning.specs.Running.{Stop, Result, Goes, Stops, Run, gives, stops, goes_on, and_then, one_of, unit_then, choice, stuck}
+use Rattle.block_meaning.specs.Running.{Stop, Result, Goes, Stops, Run, gives, stops, goes_on, and_then, one_of, unit_then, choice}
 use Rattle.block_meaning.specs.Running.{with_some, by_blocks, Context, undefined, State as MeaningState}
 use Rattle.code_follows.specs.Giving.{Gives}
-use Rattle.code_follows.specs.Later.{AreBytes, Lasts, Ran}
+use Rattle.code_follows.specs.Later.{AreBytes, Lasts}
 use Rattle.code_follows.specs.Laws.Keeping.{leads_to}
 
 -- anything
 abbrev pub Any : {A : Type 0} → A → Type 0
 Any a = Unit {0}
 
-goes_value : {A : Type 0} {a b : A} {now later : MeaningState} → Goes a now ≡ Goes b later → a ≡ b
+pub goes_value : {A : Type 0} {a b : A} {now later : MeaningState} → Goes a now ≡ Goes b later → a ≡ b
 goes_value is = cc
 
-goes_state : {A : Type 0} {a b : A} {now later : MeaningState} → Goes a now ≡ Goes b later → now ≡ later
+pub goes_state : {A : Type 0} {a b : A} {now later : MeaningState} → Goes a now ≡ Goes b later → now ≡ later
 goes_state is = cc
 
 pub gives-gives : {A : Type 0} {P : A → Type 0} (a : A) → P a → Gives (gives a) P

@@ -53,7 +53,7 @@ new_locals_lasts here [] = lasts-gives here
 new_locals_lasts here (k ∷ ks) = lasts-then (lasts-some (latest here.open_calls) (λ c.
     lasts-some (local_info here c k) (λ l. new_block_lasts here k _))) (λ inner. new_locals_lasts inner ks)
 
-end_locals_lasts : (here : Context) (ks : List ℕ) → Lasts (end_locals here ks)
+pub end_locals_lasts : (here : Context) (ks : List ℕ) → Lasts (end_locals here ks)
 end_locals_lasts here [] = lasts-gives tt
 end_locals_lasts here (k ∷ ks) =
     lasts-then (lasts-some (here.local k) (λ b. lasts-with_blocks (with_block b ended) (stays-ended b))) (λ _. end_locals_lasts here ks)

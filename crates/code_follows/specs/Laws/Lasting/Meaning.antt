@@ -30,10 +30,10 @@ body_node_lasts : {s : StmtParts} → LastingStmts s → (here : Context) (body 
 body_node_lasts of here (TStmt-F.Block is) = lasts-then (new_locals_lasts here (declared is)) (λ inner. items_lasts of inner is)
 body_node_lasts of here _ = lasts-stuck
 
-abbrev end_of : ℕ → Block → Block
+abbrev pub end_of : ℕ → Block → Block
 end_of call b = (if is_of_call call b.kind then ended b else b)
 
-end_keeps : (call : ℕ) → KeepsBlocks (end_of call)
+pub end_keeps : (call : ℕ) → KeepsBlocks (end_of call)
 end_keeps call = record { kind = λ b. kind_by b (is_of_call call b.kind); size = λ b. size_by b (is_of_call call b.kind) }
   where
     kind_by : (b : Block) (is : Bool) → (if is then ended b else b).kind ≡ b.kind

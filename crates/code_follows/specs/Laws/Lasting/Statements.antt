@@ -38,14 +38,14 @@ item_lasts of here (TItem-F.Stmt st) = of.run here st
 pub items_lasts : {s : StmtParts} → LastingStmts s → (here : Context) (is : List TItem) → Lasts (items s here is)
 items_lasts of here is = order_lasts (λ i. item_lasts of here (out-TItem i)) is
 
-condition_lasts : {s : StmtParts} → LastingStmts s → (here : Context) (e : TExpr) → Lasts (condition s here e)
+pub condition_lasts : {s : StmtParts} → LastingStmts s → (here : Context) (e : TExpr) → Lasts (condition s here e)
 condition_lasts of here e = lasts-then ((of.expr here).value e.span e) (λ v. truth_lasts here e.span v)
 
-or_true_lasts : {s : StmtParts} → LastingStmts s → (here : Context) (e : Option TExpr) → Lasts (condition_or_true s here e)
+pub or_true_lasts : {s : StmtParts} → LastingStmts s → (here : Context) (e : Option TExpr) → Lasts (condition_or_true s here e)
 or_true_lasts of here None = lasts-gives true
 or_true_lasts of here (Some e) = condition_lasts of here e
 
-effect_of_lasts : {s : StmtParts} → LastingStmts s → (here : Context) (e : Option TExpr) → Lasts (effect s here e)
+pub effect_of_lasts : {s : StmtParts} → LastingStmts s → (here : Context) (e : Option TExpr) → Lasts (effect s here e)
 effect_of_lasts of here None = lasts-gives tt
 effect_of_lasts of here (Some e) = run_lasts (of.expr here) e
 
