@@ -22,7 +22,7 @@ use Rattle.code_follows.specs.Giving.{Gives, Returns, ItemReturns, ItemsReturn}
 use Rattle.code_follows.specs.Later.{AreBytes}
 use Rattle.code_follows.specs.Values.{IsOfType}
 use Rattle.code_follows.specs.Laws.Giving.Calls.{CallsGiving, IsHere}
-use Rattle.code_follows.specs.Laws.Giving.Expressions.{structs_in, PartsGive, parts_give}
+use Rattle.code_follows.specs.Laws.Giving.Expressions.{PartsGive, parts_give}
 use Rattle.code_follows.specs.Laws.Giving.Values.{of_no_value}
 use Rattle.code_follows.specs.Laws.Giving.Words.{Any, goes_value, goes_state, gives-gives, gives-stops, gives-any, gives-then, gives-unit}
 use Rattle.code_follows.specs.Laws.Giving.Words.{gives-choice, gives-some}
