@@ -1,0 +1,4 @@
+pub mod Plain
+pub mod Constants
+pub mod Always
+pub mod Laws
