@@ -5,3 +5,4 @@ pub mod Promoted
 pub mod Operators
 pub mod Rows
 pub mod Expressions
+pub mod Initials

@@ -45,9 +45,9 @@ converted_leaves = 6
 
 -- ---- tests
 
-and_true : (a b : Bool) → a ≡ true → b ≡ true → (a && b) ≡ true
-and_true true b is its = its
-and_true false b is its = absurd cc
+pub and-true : (a b : Bool) → a ≡ true → b ≡ true → (a && b) ≡ true
+and-true true b is its = its
+and-true false b is its = absurd cc
 
 pub first-of : (a b : Bool) → (a && b) ≡ true → a ≡ true
 first-of true b both = refl
@@ -59,7 +59,7 @@ second-of false b both = absurd cc
 
 -- both are, where each is
 each_covers : (a b x y : Bool) → (a ≡ true → x ≡ true) → (b ≡ true → y ≡ true) → (a && b) ≡ true → (x && y) ≡ true
-each_covers a b x y first second both = and_true x y (first (first-of a b both)) (second (second-of a b both))
+each_covers a b x y first second both = and-true x y (first (first-of a b both)) (second (second-of a b both))
 
 -- ---- nodes
 
@@ -103,13 +103,13 @@ pub unary-covers : {n : ℕ} (span : Span) (t : Ty) (o : UnaryOperator) (e : TEx
     (if is_sign o then computes_in t else true) ≡ true → Covers n e → Covers value_leaves (texpr span t (node.Unary o e))
 unfolding given_typed
 unary-covers span t o e computes of_e = made value_leaves span t (TNode-F.Unary o e)
-    (λ plain. and_true (if is_sign o then computes_in t else true) (covered e) computes (of_e.covers plain)) (omega arith)
+    (λ plain. and-true (if is_sign o then computes_in t else true) (covered e) computes (of_e.covers plain)) (omega arith)
 
 pub binary-covers : {n m : ℕ} (span : Span) (t : Ty) (o : BinaryOperator) (a b : TExpr) → operates_by (group_of o) a.ty b.ty ≡ true →
     Covers n a → Covers m b → Covers value_leaves (texpr span t (node.Binary o a b))
 unfolding given_typed
 binary-covers span t o a b operates of_a of_b = made value_leaves span t (TNode-F.Binary o a b)
-    (λ plain. and_true (operates_by (group_of o) (covering a).ty (covering b).ty) (covered a && covered b)
+    (λ plain. and-true (operates_by (group_of o) (covering a).ty (covering b).ty) (covered a && covered b)
     (ap (λ s. operates_by (group_of o) s (covering b).ty) (covering-ty a) ∙ ap (λ t. operates_by (group_of o) a.ty t) (covering-ty b)
     ∙ operates)
     (each_covers (is_plain a) (is_plain b) (covered a) (covered b) of_a.covers of_b.covers plain)) (omega arith)
@@ -118,8 +118,8 @@ pub assign-covers : {n m : ℕ} (span : Span) (t : Ty) (o : Option AssignOperato
     Covers n a → Covers m b → Covers value_leaves (texpr span t (node.Assign o a b))
 unfolding given_typed
 assign-covers span t o a b combines of_a of_b = made value_leaves span t (TNode-F.Assign o a b)
-    (λ plain. and_true (not (is_struct t) && combines_by o (covering a).ty (covering b).ty) (covered a && covered b)
-    (and_true (not (is_struct t)) (combines_by o (covering a).ty (covering b).ty)
+    (λ plain. and-true (not (is_struct t) && combines_by o (covering a).ty (covering b).ty) (covered a && covered b)
+    (and-true (not (is_struct t)) (combines_by o (covering a).ty (covering b).ty)
     (first-of (not (is_struct t)) (is_plain a && is_plain b) plain)
     (ap (λ s. combines_by o s (covering b).ty) (covering-ty a) ∙ ap (λ t. combines_by o a.ty t) (covering-ty b) ∙ combines))
     (each_covers (is_plain a) (is_plain b) (covered a) (covered b) of_a.covers of_b.covers
@@ -187,5 +187,5 @@ under n most = grind (arith, nat_tests)
 pub convert-covers : (span : Span) (t : Ty) (e : TExpr) → Covers value_leaves e → Covers converted_leaves (texpr span t (node.Convert e))
 unfolding given_typed
 convert-covers span t e of_e = made converted_leaves span t (TNode-F.Convert e)
-    (λ plain. and_true (nat_lt bare_leaves (leaves e)) (covered e) (under (leaves e) of_e.least) (of_e.covers plain))
+    (λ plain. and-true (nat_lt bare_leaves (leaves e)) (covered e) (under (leaves e) of_e.least) (of_e.covers plain))
     (let most : 7 ≤ leaves e = of_e.least in omega (arith, most))
