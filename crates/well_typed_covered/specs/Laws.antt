@@ -6,3 +6,6 @@ pub mod Operators
 pub mod Rows
 pub mod Expressions
 pub mod Initials
+pub mod Statements
+pub mod Bodies
+pub mod Programs

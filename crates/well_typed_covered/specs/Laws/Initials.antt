@@ -56,7 +56,7 @@ passes-by e covers = implied (is_plain e) (covered e) covers.covers
 abbrev pub InitCovered : TInit → Type 0
 InitCovered i = each_in_init covered_if_plain i ≡ true
 
-abbrev FittedCovered : Fitted → Type 0
+abbrev pub FittedCovered : Fitted → Type 0
 FittedCovered f = InitCovered f.tree
 
 one_covered : {n : ℕ} (e : TExpr) → Covers n e → InitCovered (tinit.One e)
