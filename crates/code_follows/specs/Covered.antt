@@ -1,6 +1,6 @@
 -- The expressions of which it is shown that their code does what they mean (this project's own): all but those with members of structs, or
 -- structs that are assigned, which have no code yet. Each constant is a value of its type, as the text has it, and operators compute in
--- promoted types (ISO C11 6.3.1.8); conversions do not stand deep in one another. Laws of `well_typed_covered` say that typed trees are so.
+-- promoted types (ISO C11 6.3.1.8); conversions do not stand deep in one another. So the type checker makes them (`well_typed_covered`).
 use Rattle.std.specs.Prelude.{ℕ, ◌-◌, nat_le, nat_lt, Bool, true, false, ◌&&◌, ◌||◌, nat_eq, not, List, [], ◌∷◌, Option, Some, None}
 use Rattle.std.specs.Prelude.{if◌then◌else◌}
 use Rattle.c_ast.specs.declared.int_type.IntType.{IntType}

@@ -9,3 +9,5 @@ pub mod Initials
 pub mod Statements
 pub mod Bodies
 pub mod Programs
+pub mod Everywhere
+pub mod PlainBodies

@@ -16,7 +16,8 @@ use Rattle.block_meaning.specs.Running.{stuck}
 use Rattle.gen_expr.specs.Coded.{Emits}
 use Rattle.block_meaning.specs.Expressions.{NodeLayer, parts_at}
 use Rattle.block_meaning.specs.ExpressionsInOrder as order
-use Rattle.block_meaning.specs.ExpressionsInOrder.{Scope, HasValue, Designates, Arguments, BinaryTypes, Group, Arithmetic, Shift, Comparison}
+use Rattle.block_meaning.specs.ExpressionsInOrder.{Scope, HasValue, Designates, Arguments, BinaryTypes, Group, Arithmetic, Shift}
+use Rattle.block_meaning.specs.ExpressionsInOrder.{Comparison}
 use Rattle.block_meaning.specs.ExpressionsInOrder.{Logical, group_of, is_sign}
 use Rattle.code_follows.specs.Covered.{computes_in, operates_in, operates_by, combines_in, all_covered, covering, covered, layer_covered}
 use Rattle.code_follows.specs.Covered.{layer_leaves, leaves}

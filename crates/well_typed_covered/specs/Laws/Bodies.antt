@@ -1,5 +1,5 @@
 -- All statements: each expression in what is known of them that is plain is covered, if their constants fit (this project's own).
-use Rattle.std.specs.Prelude.{◌≡◌, Bool, true, ◌&&◌, List, [], ◌∷◌, map, Option, Some, None, refl}
+use Rattle.std.specs.Prelude.{◌≡◌, Bool, true, ◌&&◌, List, [], ◌∷◌, map, Some, None, refl}
 use Rattle.std.specs.List.{AllByRecursion}
 use Rattle.std.proofs.Common.{sym, subst, ◌∙◌}
 use Rattle.c_ast.specs.Tree.{StmtLayer, ItemLayer}
@@ -8,17 +8,15 @@ use Rattle.c_ast.specs.declared.statement.Item.{Item, roll-Item, map-Item}
 use Rattle.c_ast.specs.declared.statement.Item.TheFolds.{ind-Stmt, fold-roll-Item, fold-roll-Stmt}
 use Rattle.c_ast.specs.declared.statement.Item.TheOpen.{Item-F, Stmt-F}
 use Rattle.c_ast.specs.declared.statement.Stmt.{Stmt, roll-Stmt, map-Stmt}
-use Rattle.c_type_base.specs.declared.statement.TDecl.{TDecl}
 use Rattle.c_type_base.specs.declared.statement.TItem.{TItem}
 use Rattle.c_type_base.specs.declared.statement.TItem.TheVariants as titem
-use Rattle.c_type_base.specs.declared.statement.TStmt.{TStmt}
 use Rattle.c_type_base.specs.declared.statement.TStmt.TheVariants as tstmt
-use Rattle.c_type_expr.specs.Outcomes.{Judged, sure, each, perhaps, on}
+use Rattle.c_type_expr.specs.Outcomes.{Judged, sure, each, perhaps}
 use Rattle.c_type_stmt.specs.Declarations.{local}
 use Rattle.c_type_stmt.specs.Laws.SaidLaws.{item_judged}
 use Rattle.c_type_stmt.specs.Statements.{StmtSaid, block, stmt_step, item_step, statement}
-use Rattle.well_typed_covered.specs.Always.{IfThere, Always}
-use Rattle.well_typed_covered.specs.Constants.{all_fit, part_fits, item_fits, stmt_fits, constants_fit, constants_fit_item, constants_fit_stmt}
+use Rattle.well_typed_covered.specs.Always.{Always}
+use Rattle.well_typed_covered.specs.Constants.{all_fit, item_fits, stmt_fits, constants_fit, constants_fit_item, constants_fit_stmt}
 use Rattle.well_typed_covered.specs.Constants.{constants_fit_decls}
 use Rattle.well_typed_covered.specs.Laws.Always.{always-sure, always-on, always-without, always-perhaps}
 use Rattle.well_typed_covered.specs.Laws.Statements.{StmtCovered, ItemCovered, always-scoped, expression-always, block-always, if-always}

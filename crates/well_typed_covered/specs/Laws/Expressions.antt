@@ -38,13 +38,15 @@ use Rattle.c_type_expr.specs.Environment.{node_at}
 use Rattle.c_type_base.specs.Known.{texpr}
 use Rattle.code_follows.specs.Leaves.{value_leaves}
 use Rattle.well_typed_covered.specs.Always.{Always}
-use Rattle.well_typed_covered.specs.Constants.{all_fit, type_fits, node_fits, expr_fits, constants_fit, constants_fit_node, constants_fit_type}
+use Rattle.well_typed_covered.specs.Constants.{all_fit, type_fits, node_fits, expr_fits, constants_fit, constants_fit_node}
+use Rattle.well_typed_covered.specs.Constants.{constants_fit_type}
 use Rattle.well_typed_covered.specs.Laws.Always.{always-any, always-sure, always-on, always-both, always-each}
 use Rattle.well_typed_covered.specs.Laws.Known.{KnownCovers, value-covers}
 use Rattle.well_typed_covered.specs.Laws.Operators.{binary-always, cond-always}
 use Rattle.well_typed_covered.specs.Laws.Rows.{unary-always, cast-always, sizeof-always, sizeof-type-always, assign-always, step-always}
 use Rattle.well_typed_covered.specs.Laws.Rows.{index-always, member-always, arrow-always, call-always}
-use Rattle.well_typed_covered.specs.Laws.Trees.{Covers, constant-covers, text-covers, local-covers, global-covers, extern-covers, paren-covers}
+use Rattle.well_typed_covered.specs.Laws.Trees.{Covers, constant-covers, text-covers, local-covers, global-covers, extern-covers}
+use Rattle.well_typed_covered.specs.Laws.Trees.{paren-covers}
 use Rattle.well_typed_covered.specs.Laws.Trees.{first-of, second-of}
 
 abbrev TypeSaid : Type 0
@@ -129,7 +131,8 @@ arrow_always e name span = always-on e.judged (λ k. arrow_of span k name) (alwa
     (λ k any. arrow-always span (value k) name (struct_pointed (target_of (value k).tree.ty)))
 
 step_always : (o : Step) (e : Said) → SaidAlways e → NodeAlways (node_step (Node-F.Step o e))
-step_always o e of_e span = always-on e.judged (λ k. step_row o span k (sort_of k)) of_e (λ k known. step-always o span k known (sort_of k))
+step_always o e of_e span =
+    always-on e.judged (λ k. step_row o span k (sort_of k)) of_e (λ k known. step-always o span k known (sort_of k))
 
 -- ---- calls
 

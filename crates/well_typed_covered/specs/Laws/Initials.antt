@@ -1,11 +1,11 @@
 -- Initialisers: each expression in them that is plain is covered (this project's own).
-use Rattle.std.specs.Prelude.{◌≡◌, ℕ, ◌+◌, Bool, true, false, ◌&&◌, ◌||◌, not, List, [], ◌∷◌, map, Option, Some, None, refl, if◌then◌else◌}
+use Rattle.std.specs.Prelude.{◌≡◌, ℕ, ◌+◌, Bool, true, false, ◌&&◌, ◌||◌, not, List, [], ◌∷◌, map, Option, Some, None, refl}
+use Rattle.std.specs.Prelude.{if◌then◌else◌}
 use Rattle.std.specs.List.{AllByRecursion}
-use Rattle.std.proofs.Common.{ap, sym, subst, ◌∙◌}
+use Rattle.std.proofs.Common.{sym, subst, ◌∙◌}
 use Rattle.c_ast.specs.declared.declaration.Init.{Init, roll-Init, map-Init}
 use Rattle.c_ast.specs.declared.declaration.Init.TheFolds.{fold-roll-Init, ind-Init}
 use Rattle.c_ast.specs.declared.declaration.Init.TheOpen.{Init-F}
-use Rattle.c_ast.specs.declared.expr.Expr.{Expr}
 use Rattle.c_ast.specs.declared.int_type.IntType.TheVariants as int
 use Rattle.c_ast.specs.declared.token.Span.{Span}
 use Rattle.c_type_base.specs.Known.{value, converted}
@@ -35,7 +35,7 @@ use Rattle.c_type_stmt.specs.declared.fitted.Fitted.{Fitted}
 use Rattle.c_type_stmt.specs.declared.initial.Slot.{Slot}
 use Rattle.code_follows.specs.Covered.{covered}
 use Rattle.well_typed_covered.specs.Always.{IfThere, Always}
-use Rattle.well_typed_covered.specs.Constants.{all_fit, init_fits, constants_fit, constants_fit_init}
+use Rattle.well_typed_covered.specs.Constants.{all_fit, init_fits, constants_fit_init}
 use Rattle.well_typed_covered.specs.CoveredBodies.{covered_if_plain}
 use Rattle.well_typed_covered.specs.Everywhere.{all_pass, init_passes, each_in_init}
 use Rattle.well_typed_covered.specs.Laws.Always.{always-any, always-sure, always-on, always-both, always-each, always-either}

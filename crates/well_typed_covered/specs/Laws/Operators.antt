@@ -81,7 +81,8 @@ module _ (span : Span) (a b : Known) (of_a : KnownCovers a) (of_b : KnownCovers 
     known = λ env. binary-covers span a.tree.ty binary.Subtract a.tree b.tree (first_points binary.Subtract b.tree.ty u is) of_a of_b;
   }
   difference_always (Points u) (Points w) is = record {
-    known = λ env. binary-covers span (ty.Int int.Long) binary.Subtract a.tree b.tree (first_points binary.Subtract b.tree.ty u is) of_a of_b;
+    known = λ env. binary-covers span (ty.Int int.Long) binary.Subtract a.tree b.tree
+        (first_points binary.Subtract b.tree.ty u is) of_a of_b;
   }
   difference_always _ _ is = record { known = λ env. tt }
 
@@ -103,12 +104,13 @@ module _ (span : Span) (a b : Known) (of_a : KnownCovers a) (of_b : KnownCovers 
   equality_always o (Integer s) (Integer t) is its = record { known = λ env. on_two o (usual s t) int.Int (usual-is s t) }
   equality_always o (Points u) (Points w) is its = record { known = λ env. compared o u is }
   equality_always o (Points u) (Integer t) is its = record {
-    known = λ env. binary-covers span (ty.Int int.Int) o a.tree (converted_as a b).tree (first_points o (converted_as a b).tree.ty u is) of_a
-        (converted-covers a.tree.ty b of_b);
+    known = λ env. binary-covers span (ty.Int int.Int) o a.tree (converted_as a b).tree
+        (first_points o (converted_as a b).tree.ty u is) of_a (converted-covers a.tree.ty b of_b);
   }
   equality_always o (Integer s) (Points w) is its = record {
     known = λ env. binary-covers span (ty.Int int.Int) o (converted_as b a).tree b.tree
-        (operates-second (group_of o) (converted_as b a).tree.ty b.tree.ty (sort-pointer b w its)) (converted-covers b.tree.ty a of_a) of_b;
+        (operates-second (group_of o) (converted_as b a).tree.ty b.tree.ty (sort-pointer b w its))
+        (converted-covers b.tree.ty a of_a) of_b;
   }
   equality_always o _ _ is its = record { known = λ env. tt }
 

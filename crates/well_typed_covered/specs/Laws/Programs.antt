@@ -1,7 +1,6 @@
 -- The functions of a well-typed program: each expression in their bodies that is plain is covered, if the constants of the text fit.
-use Rattle.std.specs.Prelude.{◌≡◌, ℕ, Bool, true, ◌&&◌, List, [], ◌∷◌, ◌++◌, slice_get, Option, Some, None, refl}
-use Rattle.std.proofs.Common.{◌⊎◌, inl, inr, sym, subst, ◌∙◌}
-use Rattle.std.proofs.lemmas.Option.{same_Some}
+use Rattle.std.specs.Prelude.{◌≡◌, ℕ, true, List, [], ◌∷◌, ◌++◌, slice_get, Option, Some, None, refl}
+use Rattle.std.proofs.Common.{◌⊎◌, inl, inr, subst}
 use Rattle.c_ast.specs.declared.declaration.Decl.{Decl}
 use Rattle.c_ast.specs.declared.declaration.Storage.{Storage}
 use Rattle.c_ast.specs.declared.declaration.StructDecl.{StructDecl}
@@ -20,13 +19,13 @@ use Rattle.c_type_expr.specs.Outcomes.{Outcome}
 use Rattle.c_type_stmt.specs.Statements.{statement}
 use Rattle.c_types.specs.Files.{file_names}
 use Rattle.c_types.specs.Functions.{result_type}
-use Rattle.c_types.specs.Units.{Judgement, start, function_of, with_function, parameters_in, head_judged, function_judged, with_tag, with_body}
+use Rattle.c_types.specs.Units.{Judgement, start, function_of, with_function, parameters_in, head_judged, with_tag, with_body}
 use Rattle.c_types.specs.Units.{with_members, struct_judged, object_judged, objects_judged, part_judged, parts_judged, judged, typed_by}
 use Rattle.c_types.specs.WellTyped.{WellTyped}
 use Rattle.c_types.specs.declared.names.FileNames.{FileNames}
 use Rattle.block_meaning.specs.Linkage.{function_in, function_named}
 use Rattle.block_meaning.specs.Running as running
-use Rattle.well_typed_order.specs.WellTypedPrograms.{FileOf, WellTypedProgram}
+use Rattle.well_typed_order.specs.WellTypedPrograms.{WellTypedProgram}
 use Rattle.well_typed_order.specs.Laws.Bodies.{env_of_body}
 use Rattle.well_typed_order.specs.Laws.FileTables.{by-names-in}
 use Rattle.well_typed_order.specs.Laws.Growth.{In}
@@ -96,7 +95,8 @@ struct_covered j d all = of_members d.members
     of_members None = of_tag (tag_number j.env.structs d.name)
     of_members (Some ds) = of_body (tag_number tagged.env.structs d.name) ds
 
-objects_covered : (names : FileNames) (c : Storage) (j : Judgement) (ds : List Decl) → AllCovered j → AllCovered (objects_judged names c j ds)
+objects_covered : (names : FileNames) (c : Storage) (j : Judgement) (ds : List Decl) → AllCovered j →
+    AllCovered (objects_judged names c j ds)
 objects_covered names c j [] all = all
 objects_covered names c j (d ∷ ds) all = objects_covered names c (object_judged names c j d) ds all
 
@@ -131,8 +131,8 @@ abbrev pub ConstantsFit : (program : running.Program) → WellTypedProgram progr
 ConstantsFit program well = (unit : ℕ) (u : Typed) (is : slice_get program.units unit ≡ Some u) →
     constants_fit_in (well.files unit u is).text ≡ true
 
-in_file : (program : running.Program) (well : WellTypedProgram program) → ConstantsFit program well → (unit number : ℕ) (o : Option Typed) →
-    slice_get program.units unit ≡ o → (f : TFunction) → function_in o number ≡ Some f → all_covered_in f.body ≡ true
+in_file : (program : running.Program) (well : WellTypedProgram program) → ConstantsFit program well → (unit number : ℕ)
+    (o : Option Typed) → slice_get program.units unit ≡ o → (f : TFunction) → function_in o number ≡ Some f → all_covered_in f.body ≡ true
 in_file program well fits unit number None is f there = absurd cc
 in_file program well fits unit number (Some u) is f there =
     let file = well.files unit u is in

@@ -122,7 +122,8 @@ pub member-always : (span : Span) (k : Known) (name : List ℕ) (o : Option ℕ)
 member-always span k name None = record { known = λ env. tt }
 member-always span k name (Some number) = record { known = λ env. (member_in_always span k _ _ name).known env }
 
-arrow_found_always : (span : Span) (k : Known) (number : Option ℕ) (m : Option MemberInfo) → Always KnownCovers (arrow_found span k number m)
+arrow_found_always : (span : Span) (k : Known) (number : Option ℕ) (m : Option MemberInfo) →
+    Always KnownCovers (arrow_found span k number m)
 arrow_found_always span k (Some n) (Some m) = record { known = λ env. arrow-covers span m.ty k.tree n }
 arrow_found_always span k _ _ = record { known = λ env. tt }
 

@@ -1,15 +1,10 @@
 -- Statements: each expression in them that is plain is covered (this project's own).
 use Rattle.std.specs.Prelude.{◌≡◌, ℕ, Bool, true, false, ◌&&◌, List, [], ◌∷◌, map, Option, Some, None, refl}
 use Rattle.std.specs.List.{AllByRecursion}
-use Rattle.std.proofs.Common.{ap, sym, subst, ◌∙◌}
-use Rattle.c_ast.specs.Tree.{StmtLayer, ItemLayer}
+use Rattle.std.proofs.Common.{◌∙◌}
 use Rattle.c_ast.specs.declared.declaration.Decl.{Decl}
 use Rattle.c_ast.specs.declared.declaration.Init.{Init}
 use Rattle.c_ast.specs.declared.expr.Expr.{Expr}
-use Rattle.c_ast.specs.declared.statement.Item.{Item, roll-Item, map-Item}
-use Rattle.c_ast.specs.declared.statement.Item.TheFolds.{ind-Stmt, fold-roll-Item, fold-roll-Stmt}
-use Rattle.c_ast.specs.declared.statement.Item.TheOpen.{Item-F, Stmt-F}
-use Rattle.c_ast.specs.declared.statement.Stmt.{Stmt, roll-Stmt, map-Stmt}
 use Rattle.c_ast.specs.declared.token.Span.{Span}
 use Rattle.c_type_base.specs.Known.{converted}
 use Rattle.c_type_base.specs.Laws.Opened.{given_typed}
@@ -24,24 +19,22 @@ use Rattle.c_type_base.specs.declared.statement.TItem.TheVariants as titem
 use Rattle.c_type_base.specs.declared.statement.TStmt.{TStmt, roll-TStmt}
 use Rattle.c_type_base.specs.declared.statement.TStmt.TheVariants as tstmt
 use Rattle.c_type_base.specs.declared.ty.Ty.{Ty}
-use Rattle.c_type_expr.specs.Environment.{Env, opened}
+use Rattle.c_type_expr.specs.Environment.{opened}
 use Rattle.c_type_expr.specs.Expressions.{judged_value}
 use Rattle.c_type_expr.specs.Faults.{rule}
 use Rattle.c_type_expr.specs.Outcomes.{Judged, behind, sure, both, each, perhaps, on, option_map, ruled}
 use Rattle.c_type_stmt.specs.Declarations.{init_of, declared_type, object_rules, fits_object, initialised, is_new, declares_local, tdecl}
 use Rattle.c_type_stmt.specs.Declarations.{local}
 use Rattle.c_type_stmt.specs.Initials.{InitSaid, initialiser}
-use Rattle.c_type_stmt.specs.Laws.SaidLaws.{item_judged}
-use Rattle.c_type_stmt.specs.Statements.{StmtSaid, scoped, effect, condition, block, returned, return_row, if_row, for_row, judged_of}
-use Rattle.c_type_stmt.specs.Statements.{stmt_step, item_step, statement}
+use Rattle.c_type_stmt.specs.Statements.{scoped, effect, condition, block, returned, return_row, for_row}
 use Rattle.c_type_stmt.specs.declared.fitted.Fitted.{Fitted}
 use Rattle.block_meaning.specs.Statements as meaning
 use Rattle.well_typed_covered.specs.Always.{IfThere, Always}
-use Rattle.well_typed_covered.specs.Constants.{all_fit, fits_if, part_fits, item_fits, stmt_fits, constants_fit, constants_fit_init}
-use Rattle.well_typed_covered.specs.Constants.{constants_fit_decl, constants_fit_decls, constants_fit_item, constants_fit_stmt}
+use Rattle.well_typed_covered.specs.Constants.{fits_if, constants_fit, constants_fit_init}
+use Rattle.well_typed_covered.specs.Constants.{constants_fit_decl, constants_fit_decls}
 use Rattle.well_typed_covered.specs.CoveredBodies.{covered_if_plain, all_covered_in}
-use Rattle.well_typed_covered.specs.Everywhere.{all_pass, passes_if, part_passes, each_in_decl, each_in_decls, stmt_passes, item_passes}
-use Rattle.well_typed_covered.specs.Everywhere.{each_in, each_in_item, each_in_layer, each_in_item_layer}
+use Rattle.well_typed_covered.specs.Everywhere.{all_pass, passes_if, each_in_decl, each_in_decls, stmt_passes, item_passes}
+use Rattle.well_typed_covered.specs.Everywhere.{each_in_item, each_in_layer, each_in_item_layer}
 use Rattle.well_typed_covered.specs.Laws.Always.{always-any, always-sure, always-on, always-both, always-each, always-without}
 use Rattle.well_typed_covered.specs.Laws.Always.{always-perhaps}
 use Rattle.well_typed_covered.specs.Laws.Expressions.{value-covered}

@@ -148,7 +148,8 @@ all_cover : (es : List TExpr) → AllByRecursion (Covers converted_leaves) es �
     all_covered (map covering es) ≡ true
 all_cover [] all plain = refl
 all_cover (e ∷ es) all plain =
-    each_covers (is_plain e) (all_plain (map is_plain es)) (covered e) (all_covered (map covering es)) all.0.covers (all_cover es all.1) plain
+    each_covers (is_plain e) (all_plain (map is_plain es)) (covered e) (all_covered (map covering es)) all.0.covers (all_cover es all.1)
+    plain
 
 pub call-covers : (span : Span) (t : Ty) (f : Callee) (es : List TExpr) → AllByRecursion (Covers converted_leaves) es →
     Covers value_leaves (texpr span t (node.Call f es))
