@@ -1,6 +1,7 @@
 -- The expressions of which it is shown that their code does what they mean (this project's own): all but those with members of structs, or
 -- structs that are assigned, which have no code yet. Each constant is a value of its type, as the text has it, and operators compute in
--- promoted types (ISO C11 6.3.1.8); conversions do not stand deep in one another; a call has eight arguments at most.
+-- promoted types (ISO C11 6.3.1.8); conversions do not stand deep in one another. So the type checker makes them (`well_typed_covered`).
+-- A call has eight arguments at most.
 use Rattle.std.specs.Prelude.{ℕ, ◌-◌, nat_le, nat_lt, Bool, true, false, ◌&&◌, ◌||◌, nat_eq, List, [], ◌∷◌, length, Option, Some, None}
 use Rattle.std.specs.Prelude.{if◌then◌else◌}
 use Rattle.c_ast.specs.declared.int_type.IntType.{IntType}
@@ -13,7 +14,7 @@ use Rattle.c_type_base.specs.declared.expr.TNode.TheFolds.{fold-TNode, fold-TExp
 use Rattle.c_type_base.specs.declared.expr.TNode.TheOpen.{TNode-F, TExpr-F}
 use Rattle.c_type_base.specs.declared.ty.Ty.{Ty}
 use Rattle.block_meaning.specs.Expressions.{NodeLayer}
-use Rattle.block_meaning.specs.ExpressionsInOrder.{is_sign}
+use Rattle.block_meaning.specs.ExpressionsInOrder.{Group, Logical, group_of, is_sign}
 use Rattle.block_meaning.specs.Operators.{int_in, binary_of, computing_type}
 use Rattle.code_follows.specs.Leaves.{bare_leaves, value_leaves}
 
@@ -34,6 +35,11 @@ computes_in t = is_promoted_in (int_of t)
 -- an operator on operands of these types
 abbrev pub operates_in : Ty → Ty → Bool
 operates_in s t = is_pointer t || computes_in s
+
+-- `&&` and `||` compare each operand with 0 in its own type
+abbrev pub operates_by : Group → Ty → Ty → Bool
+operates_by Logical s t = true
+operates_by _ s t = operates_in s t
 
 -- an operator with `=`, on an object of the first type
 abbrev pub combines_in : AssignOperator → Ty → Ty → Bool
@@ -68,7 +74,7 @@ node_covered (TNode-F.Global n) ty = true
 node_covered (TNode-F.Extern n) ty = true
 node_covered (TNode-F.Paren e) ty = e.is
 node_covered (TNode-F.Unary o e) ty = (if is_sign o then computes_in ty else true) && e.is
-node_covered (TNode-F.Binary o a b) ty = operates_in a.ty b.ty && (a.is && b.is)
+node_covered (TNode-F.Binary o a b) ty = operates_by (group_of o) a.ty b.ty && (a.is && b.is)
 node_covered (TNode-F.Assign o a b) ty = (is_scalar ty && combines_by o a.ty b.ty) && (a.is && b.is)
 node_covered (TNode-F.Cond c a b) ty = c.is && (a.is && b.is)
 node_covered (TNode-F.Cast t e) ty = e.is

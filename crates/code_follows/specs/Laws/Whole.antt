@@ -6,6 +6,7 @@ use Rattle.std.proofs.Common.{arith, ap, sym, subst, ◌∙◌}
 use Rattle.std.proofs.lemmas.Bool.{eqb-true}
 use Rattle.std.proofs.lemmas.Bool.Decides.{nat_tests}
 use Rattle.c_ast.specs.declared.operator.AssignOperator.{AssignOperator}
+use Rattle.c_ast.specs.declared.operator.BinaryOperator.{BinaryOperator}
 use Rattle.c_ast.specs.declared.operator.UnaryOperator.{UnaryOperator}
 use Rattle.c_type_base.specs.Types.{TyLayer, int_of_level, target_of_level, struct_of_level, is_there, is_scalar}
 use Rattle.c_type_base.specs.declared.expr.TExpr.{TExpr}
@@ -17,8 +18,10 @@ use Rattle.block_meaning.specs.Running.{stuck}
 use Rattle.gen_expr.specs.Coded.{Emits}
 use Rattle.block_meaning.specs.Expressions.{NodeLayer, parts_at}
 use Rattle.block_meaning.specs.ExpressionsInOrder as order
-use Rattle.block_meaning.specs.ExpressionsInOrder.{Scope, HasValue, Designates, Arguments, is_sign}
-use Rattle.code_follows.specs.Covered.{computes_in, operates_in, combines_in, all_covered, covering, covered, layer_covered}
+use Rattle.block_meaning.specs.ExpressionsInOrder.{Scope, HasValue, Designates, Arguments, BinaryTypes, Group, Arithmetic, Shift}
+use Rattle.block_meaning.specs.ExpressionsInOrder.{Comparison}
+use Rattle.block_meaning.specs.ExpressionsInOrder.{Logical, group_of, is_sign}
+use Rattle.code_follows.specs.Covered.{computes_in, operates_in, operates_by, combines_in, all_covered, covering, covered, layer_covered}
 use Rattle.code_follows.specs.Covered.{layer_leaves, leaves}
 use Rattle.code_follows.specs.Nodes.{AllFollow, Nodes}
 use Rattle.code_follows.specs.Layers.{layer_code, layer_need}
@@ -28,13 +31,27 @@ use Rattle.code_follows.specs.Scene.{Scene, calls_in, structs_in, frame_in}
 use Rattle.code_follows.specs.Laws.Going.{Goes-stuck, Part-by}
 use Rattle.code_follows.specs.Laws.Layers.{coded-is, need-is, covered-is, covering-ty, leaves-is}
 
-pub operated_types : (a b : TExpr) → operates_in (covering a).ty (covering b).ty ≡ true → operates_in a.ty b.ty ≡ true
-operated_types a b is =
-    sym (ap (λ s. operates_in s (covering b).ty) (covering-ty a) ∙ ap (λ t. operates_in a.ty t) (covering-ty b)) ∙ is
+pub operated_types : (g : Group) (a b : TExpr) → operates_by g (covering a).ty (covering b).ty ≡ true → operates_by g a.ty b.ty ≡ true
+operated_types g a b is =
+    sym (ap (λ s. operates_by g s (covering b).ty) (covering-ty a) ∙ ap (λ t. operates_by g a.ty t) (covering-ty b)) ∙ is
 
 combined_types : (o : AssignOperator) (a b : TExpr) → combines_in o (covering a).ty (covering b).ty ≡ true → combines_in o a.ty b.ty ≡ true
 combined_types o a b is =
     sym (ap (λ s. combines_in o s (covering b).ty) (covering-ty a) ∙ ap (λ t. combines_in o a.ty t) (covering-ty b)) ∙ is
+
+-- an operator that takes two values is not `&&` or `||`
+pub operates_of : {o : BinaryOperator} {s t u : Ty} → BinaryTypes o s t u → (g : Group) → group_of o ≡ g → operates_by g s t ≡ true →
+    operates_in s t ≡ true
+operates_of types Arithmetic group is = is
+operates_of types Shift group is = is
+operates_of types Comparison group is = is
+operates_of (order.arithmetic is_one integer) Logical group is = absurd cc
+operates_of (order.shift is_one integer its) Logical group is = absurd cc
+operates_of (order.comparison is_one scalar) Logical group is = absurd cc
+operates_of (order.added pointer integer) Logical group is = absurd cc
+operates_of (order.added_to integer pointer) Logical group is = absurd cc
+operates_of (order.taken pointer integer) Logical group is = absurd cc
+operates_of (order.distance pointer) Logical group is = absurd cc
 
 pub first_of : (a b : Bool) → (a && b) ≡ true → a ≡ true
 first_of true b both = refl
@@ -105,14 +122,16 @@ module _ {k : Scene} {depth : ℕ} (nodes : Nodes k) (below : Below k depth) whe
       (nodes.values depth).signed o e sign (below.value e d (second_of _ (covered e) cov)) is
       (sign_computes o t sign (first_of (if is_sign o then computes_in t else true) (covered e) cov))
   value_by t l (order.logical {o} {a} {b} group d is x its) cov =
-      let both : (covered a && covered b) ≡ true = second_of (operates_in (covering a).ty (covering b).ty) (covered a && covered b) cov in
+      let operates : Bool = operates_by (group_of o) (covering a).ty (covering b).ty in
+      let both : (covered a && covered b) ≡ true = second_of operates (covered a && covered b) cov in
       (nodes.values depth).logical o a b group (below.value a d (first_of (covered a) (covered b) both)) is
       (below.value b x (second_of (covered a) (covered b) both)) its
   value_by t l (order.operated {o} {a} {b} d x types) cov =
-      let both : (covered a && covered b) ≡ true = second_of (operates_in (covering a).ty (covering b).ty) (covered a && covered b) cov in
+      let operates : Bool = operates_by (group_of o) (covering a).ty (covering b).ty in
+      let both : (covered a && covered b) ≡ true = second_of operates (covered a && covered b) cov in
       (nodes.values depth).operated o a b t (below.value a d (first_of (covered a) (covered b) both))
       (below.value b x (second_of (covered a) (covered b) both)) types
-      (operated_types a b (first_of (operates_in (covering a).ty (covering b).ty) (covered a && covered b) cov))
+      (operates_of types (group_of o) refl (operated_types (group_of o) a b (first_of operates (covered a && covered b) cov)))
   value_by t l (order.assigned {a} {b} d x same) cov =
       let both : (covered a && covered b) ≡ true = second_of (is_scalar a.ty && true) (covered a && covered b) cov in
       (nodes.values depth).assigned a b (below.place a d (first_of (covered a) (covered b) both))

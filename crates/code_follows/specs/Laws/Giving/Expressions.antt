@@ -31,7 +31,7 @@ use Rattle.block_meaning.specs.declared.value.Pointer.{Pointer}
 use Rattle.block_meaning.specs.declared.value.Value.{Value}
 use Rattle.block_meaning.specs.declared.value.Value.TheVariants.{Number, Address, Struct, NoValue}
 use Rattle.gen_laws.specs.Computes.{IsOf}
-use Rattle.code_follows.specs.Covered.{covering, covered, layer_covered, operates_in, combines_by, computes_in}
+use Rattle.code_follows.specs.Covered.{covering, covered, layer_covered, operates_in, operates_by, combines_by, computes_in}
 use Rattle.code_follows.specs.Giving.{Gives}
 use Rattle.code_follows.specs.Leaves.{bare_leaves}
 use Rattle.code_follows.specs.Values.{IsOfLevel, IsOfType}
@@ -44,7 +44,7 @@ use Rattle.code_follows.specs.Laws.Lasting.Values.{write_lasts, truth_lasts}
 use Rattle.code_follows.specs.Laws.Lasting.Words.{lasts-all}
 use Rattle.code_follows.specs.Laws.Layers.{covered-is}
 use Rattle.code_follows.specs.Laws.Nodes.Operated.{plain_run}
-use Rattle.code_follows.specs.Laws.Whole.{first_of, second_of, is_false, operated_types}
+use Rattle.code_follows.specs.Laws.Whole.{operates_of, first_of, second_of, is_false, operated_types}
 
 scalar_no_struct : (l : TyLayer) → (is_there (int_of_level l) || is_there (target_of_level l)) ≡ true →
     is_there (struct_of_level l) ≡ false
@@ -147,9 +147,10 @@ module _ (s : Scope) (at : Site) (is_here : IsHere s at.here) (calls : CallsGivi
       signs o e sign d integer (second_of (if is_sign o then computes_in t else true) (covered e) cov)
   node_gives t l (order.logical {o} {a} {b} group d scalar x other) cov is = logicals o a b group
   node_gives t l (order.operated {o} {a} {b} d x types) cov is =
-      let test : Bool = operates_in (covering a).ty (covering b).ty in
+      let test : Bool = operates_by (group_of o) (covering a).ty (covering b).ty in
       let both : (covered a && covered b) ≡ true = second_of test (covered a && covered b) cov in
-      let operates : operates_in a.ty b.ty ≡ true = operated_types a b (first_of test (covered a && covered b) cov) in
+      let operates : operates_in a.ty b.ty ≡ true =
+      operates_of types (group_of o) refl (operated_types (group_of o) a b (first_of test (covered a && covered b) cov)) in
       gives-same (λ now. plain_run at o a b (not_logical types) now)
       (gives-then (parts.value a.span a d (first_of (covered a) (covered b) both)) (λ v of.
       gives-then (parts.value b.span b x (second_of (covered a) (covered b) both)) (λ w its.

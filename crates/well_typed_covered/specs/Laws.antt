@@ -1,0 +1,13 @@
+pub mod Always
+pub mod Trees
+pub mod Known
+pub mod Promoted
+pub mod Operators
+pub mod Rows
+pub mod Expressions
+pub mod Initials
+pub mod Statements
+pub mod Bodies
+pub mod Programs
+pub mod Everywhere
+pub mod PlainBodies
