@@ -8,21 +8,24 @@ use Rattle.c_type_base.specs.declared.ty.Ty.{Ty}
 use Rattle.c_type_base.specs.declared.typed.LocalInfo.{LocalInfo}
 use Rattle.c_type_base.specs.declared.typed.StructInfo.{StructInfo}
 use Rattle.c_type_base.specs.declared.typed.TFunction.{TFunction}
+use Rattle.c_type_base.specs.declared.typed.Typed.{Typed}
 use Rattle.c_type_base.specs.Types.{is_void}
 use Rattle.block_meaning.specs.declared.value.Value.{Value}
 use Rattle.block_meaning.specs.declared.value.Value.TheVariants.{NoValue}
+use Rattle.block_meaning.specs.ExpressionsInOrder.{Scope}
 use Rattle.block_meaning.specs.Linkage.{function_named, structs_of, type_of_local}
 use Rattle.block_meaning.specs.Meaning.{calls_at, inside}
 use Rattle.block_meaning.specs.ProgramsInOrder.{FunctionInOrder, numbered}
 use Rattle.block_meaning.specs.Running.{Function, Call, Context, Goes, State as MeaningState}
+use Rattle.block_meaning.specs.StatementsInOrder.{Items}
 use Rattle.block_meaning.specs.Statements.{Flow, Next, Returned, statements_at, items}
 use Rattle.code_relation.specs.Calls.{frame_of, has_tagged}
-use Rattle.code_relation.specs.Follows.{Code, HasArguments, IsIn}
-use Rattle.code_relation.specs.Fresh.{Fresh}
+use Rattle.code_relation.specs.Follows.{Code, Follows, HasArguments, IsIn}
+use Rattle.code_relation.specs.Fresh.{Fresh, FreshItems}
 use Rattle.code_relation.specs.Items.{Place}
 use Rattle.code_relation.specs.Relates.{Relates}
 use Rattle.code_relation.specs.Sites.{units_of}
-use Rattle.code_relation.specs.Trees.{Part, HasFile, FollowsItems}
+use Rattle.code_relation.specs.Trees.{Part, HasFile, IsPlaced, IsScope, statement_tree}
 use Rattle.frame_layout.specs.declared.frame.Frame.{Frame}
 use Rattle.frame_layout.specs.Frames.{largest_frame}
 use Rattle.gen_stmt.specs.Statements.{body_code}
@@ -59,8 +62,8 @@ body_items structs tf fr = body_code structs fr (parts_of (out-TStmt tf.body)) n
 abbrev pub all_items : List StructInfo → TFunction → Frame → List SymItem
 all_items structs tf fr = function_code structs tf fr 0
 
-abbrev pub body_part : List StructInfo → Function → TFunction → Frame → Part
-body_part structs f tf fr = record { function = f; items = body_items structs tf fr; first = 0 }
+abbrev pub body_part : Typed → List StructInfo → Function → TFunction → Frame → Part
+body_part file structs f tf fr = record { file = file; function = f; items = body_items structs tf fr; first = 0 }
 
 -- where they stand
 abbrev pub function_place : List StructInfo → TFunction → Frame → ℕ → Place
@@ -90,7 +93,11 @@ pub record IsPlacedFunction (c : Code) (p : Placing) (f : Function) (tf : TFunct
   pub here : IsFunctionAt c p f tf at
   -- the body
   pub follows : let fr = frame_of (units_of c.given) f in
-      FollowsItems (body_part (structs_of (units_of c.given) f.unit) f tf fr) 0 0 here.order.items
+      let part = body_part here.file.file (structs_of (units_of c.given) f.unit) f tf fr in
+      (place : Place) (scope : Scope) → IsPlaced part c place → IsScope c f scope → Items scope here.order.items →
+      FreshItems scope.locals here.order.items → (bound depth : ℕ) →
+      Follows c (statement_tree c.given (λ around. items (statements_at (calls_at bound) depth) around here.order.items) part place
+      scope.locals (record { broke = place.label 0; continued = place.label 0 }))
   pub ends : (bound : ℕ) (around : Context) (now : MeaningState) (s : State) (flow : Flow) (later : MeaningState) →
       Relates c.given around now s → IsIn f around →
       items (statements_at (calls_at bound) bound) around here.order.items now ≡ Goes flow later →

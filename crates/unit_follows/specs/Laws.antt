@@ -28,3 +28,4 @@ pub mod Files
 pub mod Ended
 pub mod FrameFacts
 pub mod FunctionStands
+pub mod ReadyFunctions

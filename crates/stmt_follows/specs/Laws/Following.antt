@@ -12,6 +12,8 @@ use Rattle.c_type_base.specs.declared.statement.TItem.{TItem}
 use Rattle.c_type_base.specs.declared.statement.TStmt.{TStmt, out-TStmt}
 use Rattle.code_follows.specs.Scene.{Scene}
 use Rattle.block_meaning.specs.Linkage.{structs_of}
+use Rattle.block_meaning.specs.StatementsInOrder.{Items}
+use Rattle.code_relation.specs.Fresh.{FreshItems}
 use Rattle.code_relation.specs.Calls.{has_tagged, frame_of}
 use Rattle.code_relation.specs.Sites.{units_of}
 use Rattle.code_relation.specs.Follows.{Code, Follows}
@@ -165,16 +167,25 @@ pub record AreItems (c : Code) (f : Function) (p : Place) (s : Scope) (bound : �
   pub followed : IsFollowed c f p s bound
   pub ready : ReadyItems (frame_of (units_of c.given) f) s.function parts
 
+-- where they stand
+pub items_follow : {file : Typed} {c : Code} {f : Function} {p : Place} {s : Scope} {bound : ℕ} {is : List SymItem} {broke continued : ℕ}
+    {parts : List TItem} → AreItems c f p s bound is broke continued parts → IsPlaced (part_of file f is) c p → IsScope c f s →
+    Items s parts → FreshItems s.locals parts → (depth : ℕ) →
+    Follows c (statement_tree c.given (λ here. items_run (statements_at (calls_at bound) depth) here parts) (part_of file f is) p s.locals
+    (record { broke = p.label broke; continued = p.label continued }))
+items_follow {file} {c} {f} {p} {s} {bound} {is} {broke} {continued} {parts} asked placed of_scope ordered new depth =
+    follows_by file c f p s bound is broke continued
+    (items (map (coded_item (structs_of (units_of c.given) f.unit) (frame_of (units_of c.given) f)) parts)) asked.code.around
+    asked.code.position asked.code.broke_is asked.code.continued_is asked.code.code_is
+    (λ here. items_run (statements_at (calls_at bound) depth) here parts) placed of_scope asked.followed.safe (λ here place.
+    items_below (asked.followed.expressions here) (declarations_follow _ (asked.followed.expressions here)) depth s here refl place parts
+    ordered new asked.ready)
+
+-- and so wherever they are placed
 pub follows_items : (file : Typed) (f : Function) (is : List SymItem) (broke continued : ℕ) (parts : List TItem) →
     ((c : Code) (p : Place) (s : Scope) (bound : ℕ) → IsPlaced (part_of file f is) c p → IsScope c f s →
     AreItems c f p s bound is broke continued parts) → FollowsItems (part_of file f is) broke continued parts
 follows_items file f is broke continued parts each = record {
   follows = λ c p s placed of_scope ordered new bound depth.
-      let asked : AreItems c f p s bound is broke continued parts = each c p s bound placed of_scope in
-      follows_by file c f p s bound is broke continued
-      (items (map (coded_item (structs_of (units_of c.given) f.unit) (frame_of (units_of c.given) f)) parts)) asked.code.around
-      asked.code.position asked.code.broke_is asked.code.continued_is asked.code.code_is
-      (λ here. items_run (statements_at (calls_at bound) depth) here parts) placed of_scope asked.followed.safe (λ here place.
-      items_below (asked.followed.expressions here) (declarations_follow _ (asked.followed.expressions here)) depth s here refl place parts
-      ordered new asked.ready);
+      items_follow (each c p s bound placed of_scope) placed of_scope ordered new depth;
 }

@@ -188,7 +188,7 @@ module _ {c : Code} {p : Placing} {f : Function} {tf : TFunction} {base : ℕ} (
   -- ---- where its body has returned
 
   abbrev pub part : Part
-  part = body_part structs f tf fr
+  part = body_part fn.here.file.file structs f tf fr
 
   abbrev pub body_place : Place
   body_place = from_item (length args) spot
@@ -240,6 +240,7 @@ module _ {c : Code} {p : Placing} {f : Function} {tf : TFunction} {base : ℕ} (
         outside = record {
           output = there.relates.outside.output;
           input = there.relates.outside.input;
+          bytes = there.relates.outside.bytes;
           takes = there.relates.outside.takes;
           puts = there.relates.outside.puts;
         };

@@ -96,6 +96,7 @@ call_finishes {c} {here} {inner} {now} {done} {s} {t} at call v order injects ne
       outside = record {
         output = ap (λ o. o.output) e.outside ∙ relates.outside.output;
         input = ap (λ o. o.answers) e.outside ∙ relates.outside.input;
+        bytes = relates.outside.bytes;
         takes = ap (λ o. o.next_failure) e.outside ∙ relates.outside.takes;
         puts = ap (λ o. o.put_failure) e.outside ∙ relates.outside.puts;
       };

@@ -91,6 +91,7 @@ module _ {c : Code} {p : Placing} {f : Function} {tf : TFunction} {base : ℕ} (
   body_placed : IsPlaced (part fn) c (body_place fn)
   body_placed = record {
     file = fn.here.file;
+    of_part = refl;
     stands = StandsAt-back (args fn) (body fn) (StandsAt-front (args fn ++ body fn) (zero_item fn ∷ [])
         (subst (λ is. StandsAt c f (spot fn) is) (parts_are fn) (all_stand fn)));
   }
@@ -134,7 +135,7 @@ module _ {c : Code} {p : Placing} {f : Function} {tf : TFunction} {base : ℕ} (
       does : Does c (statement_tree c.given (λ here. items parts here fn.here.order.items) (part fn)
           (body_place fn) scope.locals exits) inner then' t
       does =
-          (fn.follows.follows c (body_place fn) scope body_placed (record { program_is = refl; unit_is = refl; function_is = fn.here.is })
+          (fn.follows (body_place fn) scope body_placed (record { program_is = refl; unit_is = refl; function_is = fn.here.is })
           fn.here.order.body (body_fresh fn.here.fresh).1 bound bound).does inner then' t within relates ((is_in, pc), only)
 
   -- ---- the locals of its outermost block

@@ -142,6 +142,7 @@ module _ {c : Code} {p : Placing} {f : Function} {tf : TFunction} {base : ℕ} (
           outside = record {
             output = ap (λ o. o.output) e.outside ∙ relates.outside.output;
             input = ap (λ o. o.answers) e.outside ∙ relates.outside.input;
+            bytes = relates.outside.bytes;
             takes = ap (λ o. o.next_failure) e.outside ∙ relates.outside.takes;
             puts = ap (λ o. o.put_failure) e.outside ∙ relates.outside.puts;
           };
@@ -268,6 +269,7 @@ WordsFollow-function {c} {p} {f} {tf} {base} fn = record {
           outside = record {
             output = relates.outside.output;
             input = relates.outside.input;
+            bytes = relates.outside.bytes;
             takes = relates.outside.takes;
             puts = relates.outside.puts;
           };
