@@ -1,6 +1,7 @@
--- Expressions without what has no code yet: no member of a struct, and no struct that is assigned (this project's own).
-use Rattle.std.specs.Prelude.{Bool, true, false, ◌&&◌, not, List, [], ◌∷◌}
-use Rattle.c_type_base.specs.Types.{is_struct}
+-- Expressions without what has no code yet: no member of a struct, nothing but scalars that are assigned, and no call with more than eight
+-- arguments (this project's own).
+use Rattle.std.specs.Prelude.{Bool, true, false, ◌&&◌, nat_le, List, [], ◌∷◌, length}
+use Rattle.c_type_base.specs.Types.{is_scalar}
 use Rattle.c_type_base.specs.declared.expr.TExpr.{TExpr}
 use Rattle.c_type_base.specs.declared.expr.TNode.{TNode, map-TNode}
 use Rattle.c_type_base.specs.declared.expr.TNode.TheFolds.{fold-TNode, fold-TExpr}
@@ -20,10 +21,10 @@ abbrev pub node_plain : TNode-F NodePlain Bool → NodePlain
 node_plain (TNode-F.Paren e) ty = e
 node_plain (TNode-F.Unary o e) ty = e
 node_plain (TNode-F.Binary o a b) ty = a && b
-node_plain (TNode-F.Assign o a b) ty = not (is_struct ty) && (a && b)
+node_plain (TNode-F.Assign o a b) ty = is_scalar ty && (a && b)
 node_plain (TNode-F.Cond c a b) ty = c && (a && b)
 node_plain (TNode-F.Cast t e) ty = e
-node_plain (TNode-F.Call f es) ty = all_plain es
+node_plain (TNode-F.Call f es) ty = nat_le (length es) 8 && all_plain es
 node_plain (TNode-F.Index a i) ty = a && i
 node_plain (TNode-F.Member e n) ty = false
 node_plain (TNode-F.Arrow e n) ty = false

@@ -1,5 +1,5 @@
 -- Typed expressions that are covered where they are plain, by their nodes (this project's own).
-use Rattle.std.specs.Prelude.{◌≡◌, ℕ, Bool, true, false, ◌&&◌, not, ◌≤◌, nat_lt, List, [], ◌∷◌, map, Option, refl}
+use Rattle.std.specs.Prelude.{◌≡◌, ℕ, Bool, true, false, ◌&&◌, not, ◌≤◌, nat_le, nat_lt, suc, List, [], ◌∷◌, length, map, Option, refl}
 use Rattle.std.specs.Prelude.{if◌then◌else◌}
 use Rattle.std.specs.List.{AllByRecursion}
 use Rattle.std.proofs.Common.{arith, ap, sym, subst, ◌∙◌}
@@ -12,7 +12,7 @@ use Rattle.c_ast.specs.declared.operator.Step.{Step}
 use Rattle.c_ast.specs.declared.operator.UnaryOperator.{UnaryOperator}
 use Rattle.c_type_base.specs.Known.{texpr}
 use Rattle.c_type_base.specs.Laws.Opened.{given_typed}
-use Rattle.c_type_base.specs.Types.{is_struct}
+use Rattle.c_type_base.specs.Types.{is_scalar}
 use Rattle.c_type_base.specs.declared.expr.Callee.{Callee}
 use Rattle.c_type_base.specs.declared.expr.TExpr.{TExpr}
 use Rattle.c_type_base.specs.declared.expr.TNode.{out-TNode, roll-TNode, out-roll-TNode}
@@ -118,12 +118,12 @@ pub assign-covers : {n m : ℕ} (span : Span) (t : Ty) (o : Option AssignOperato
     Covers n a → Covers m b → Covers value_leaves (texpr span t (node.Assign o a b))
 unfolding given_typed
 assign-covers span t o a b combines of_a of_b = made value_leaves span t (TNode-F.Assign o a b)
-    (λ plain. and-true (not (is_struct t) && combines_by o (covering a).ty (covering b).ty) (covered a && covered b)
-    (and-true (not (is_struct t)) (combines_by o (covering a).ty (covering b).ty)
-    (first-of (not (is_struct t)) (is_plain a && is_plain b) plain)
+    (λ plain. and-true (is_scalar t && combines_by o (covering a).ty (covering b).ty) (covered a && covered b)
+    (and-true (is_scalar t) (combines_by o (covering a).ty (covering b).ty)
+    (first-of (is_scalar t) (is_plain a && is_plain b) plain)
     (ap (λ s. combines_by o s (covering b).ty) (covering-ty a) ∙ ap (λ t. combines_by o a.ty t) (covering-ty b) ∙ combines))
     (each_covers (is_plain a) (is_plain b) (covered a) (covered b) of_a.covers of_b.covers
-    (second-of (not (is_struct t)) (is_plain a && is_plain b) plain))) (omega arith)
+    (second-of (is_scalar t) (is_plain a && is_plain b) plain))) (omega arith)
 
 pub cond-covers : {n m k : ℕ} (span : Span) (t : Ty) (c a b : TExpr) → Covers n c → Covers m a → Covers k b →
     Covers value_leaves (texpr span t (node.Cond c a b))
@@ -151,10 +151,17 @@ all_cover (e ∷ es) all plain =
     each_covers (is_plain e) (all_plain (map is_plain es)) (covered e) (all_covered (map covering es)) all.0.covers (all_cover es all.1)
     plain
 
+as_many : (es : List TExpr) → length (map covering es) ≡ length (map is_plain es)
+as_many [] = refl
+as_many (e ∷ es) = ap suc (as_many es)
+
 pub call-covers : (span : Span) (t : Ty) (f : Callee) (es : List TExpr) → AllByRecursion (Covers converted_leaves) es →
     Covers value_leaves (texpr span t (node.Call f es))
 unfolding given_typed
-call-covers span t f es all = made value_leaves span t (TNode-F.Call f es) (all_cover es all) (omega arith)
+call-covers span t f es all = made value_leaves span t (TNode-F.Call f es)
+    (λ plain. and-true (nat_le (length (map covering es)) 8) (all_covered (map covering es))
+    (ap (λ n. nat_le n 8) (as_many es) ∙ first-of (nat_le (length (map is_plain es)) 8) (all_plain (map is_plain es)) plain)
+    (all_cover es all (second-of (nat_le (length (map is_plain es)) 8) (all_plain (map is_plain es)) plain))) (omega arith)
 
 pub index-covers : {n m : ℕ} (span : Span) (t : Ty) (a i : TExpr) → Covers n a → Covers m i →
     Covers value_leaves (texpr span t (node.Index a i))
