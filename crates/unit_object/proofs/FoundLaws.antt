@@ -43,6 +43,7 @@ place_from test (k ∷ ks) i = ap (cond (test k) (Some i)) (place_from test ks (
       where
         by_sum : (j : ℕ) → i + 1 + j ≡ i + suc j
         by_sum j = omega arith
+
     by : (b : Bool) →
         cond b (Some i) (counted_from (i + 1) (place_of test ks)) ≡ counted_from i (if b then Some 0 else later (place_of test ks))
     by true = ap Some (omega arith)

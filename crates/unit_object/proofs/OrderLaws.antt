@@ -49,6 +49,7 @@ chosen_wanted filled gs (Some k) = by (slice_get gs k) refl
         chosen gs (if b then k ∷ [] else []) ≡ (if b then g ∷ [] else [])
     test g true is = ap (λ o. option_list o ++ []) is
     test g false is = refl
+
     by : (o : Option GlobalInfo) → slice_get gs k ≡ o →
         chosen gs (if is_wanted_there filled (slice_get gs k) then k ∷ [] else []) ≡ filter (is_wanted filled) (option_list (slice_get gs k))
     by None is =

@@ -59,7 +59,14 @@ fn defined_symbols(
 {
     let structs = typed.structs.as_slice();
     let globals = typed.globals.as_slice();
-    defined(alloc, structs, globals, &order.filled, &order.unfilled, functions)
+    defined(
+        alloc,
+        structs,
+        globals,
+        &order.filled,
+        &order.unfilled,
+        functions,
+    )
 }
 
 // The symbols that have names.
@@ -196,14 +203,14 @@ fn joined(
     symbols: Vec<Symbol>,
 ) -> Result<ObjectParts, AllocError>
     ensures { IfOk result (λ parts. object_of parts ≡ record {
-        words = words.items;
-        rodata = data.texts.items;
-        init_bytes = data.filled.items;
-        zero_bytes = data.zeros;
-        symbols = symbols.items;
-        text_relocs = waiting.text.items;
-        init_relocs = waiting.init.items;
-        tagged = spec.objects_from 0 symbols.items;
+      words = words.items;
+      rodata = data.texts.items;
+      init_bytes = data.filled.items;
+      zero_bytes = data.zeros;
+      symbols = symbols.items;
+      text_relocs = waiting.text.items;
+      init_relocs = waiting.init.items;
+      tagged = spec.objects_from 0 symbols.items;
     }) }
 {
     let tagged = tagged(alloc, &symbols)?;

@@ -136,6 +136,12 @@ pub fn by_definition(
         ≡ filter (spec.is_wanted filled) (globals_by (defined_names program.now) globals.now)) }
 {
     let mut numbers = Vec::new(alloc);
-    push_parts(&mut numbers, names, globals, program.items.as_slice(), filled)?;
+    push_parts(
+        &mut numbers,
+        names,
+        globals,
+        program.items.as_slice(),
+        filled,
+    )?;
     Ok(numbers)
 }

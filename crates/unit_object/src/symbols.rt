@@ -33,7 +33,11 @@ fn function_symbol(alloc: Global, place: &Place) -> Result<Symbol, AllocError>
     })
 }
 
-fn push_functions(alloc: Global, made: &mut Vec<Symbol>, functions: &[Place]) -> Result<(), AllocError>
+fn push_functions(
+    alloc: Global,
+    made: &mut Vec<Symbol>,
+    functions: &[Place],
+) -> Result<(), AllocError>
     ensures { OnOk result (made.new.items ≡ made.old.items ++ map spec.function_symbol functions.now) }
 {
     for place in functions {

@@ -146,9 +146,10 @@ module _ {C : Type 0} {k : Scene} {first : ℕ} {reg : Reg} {result : Result C} 
       Goes-fetches es vs (suc t) (suc j) left
       (record { within = omega (arith, can.within); near = omega (arith, can.near); registers = omega (arith, can.registers) })
       parts.back done (AreKept-bytes k now u fetched.to (suc t) es vs fetched.same.byte kept.3) (omega arith)
-      (λ w c there arguments others. more w c there
-      (ValueIs-fits e.ty v kept.0 kept.2,
-      subst (λ n. Holds (given_in k) now v n)
-      (sym (others j (omega arith) ∙ ap (λ r. fetched.to.register r) (sym into_is) ∙ fetched.holds)) kept.2.holds,
-      arguments)
+      (λ w c there arguments others. more w c there (
+        ValueIs-fits e.ty v kept.0 kept.2,
+        subst (λ n. Holds (given_in k) now v n)
+            (sym (others j (omega arith) ∙ ap (λ r. fetched.to.register r) (sym into_is) ∙ fetched.holds)) kept.2.holds,
+        arguments,
+      )
       (λ r less. others r (omega (arith, less)) ∙ fetched.registers r (λ same. omega (arith, same, into_is, less)) tt)))

@@ -161,8 +161,14 @@ text_in_files units from (v ∷ us) (suc unit) u n is within =
     let texts = texts_from from 0 v.texts in
     let codes = codes_from from 0 v.functions in
     let of_front : length (objects ++ texts ++ codes) ≡ blocks_of v =
-    omega (arith, length-append (objects ++ texts) codes, length-append objects texts, objects_count units from v.structs 0 v.globals,
-    texts_count from 0 v.texts, codes_count from 0 v.functions) in
+    omega (
+      arith,
+      length-append (objects ++ texts) codes,
+      length-append objects texts,
+      objects_count units from v.structs 0 v.globals,
+      texts_count from 0 v.texts,
+      codes_count from 0 v.functions,
+    ) in
     no_object_at (omega (arith, of_front))
     (no_object_back (objects ++ texts ++ codes) (opening_from units (from + 1) us) (blocks_in (take unit us) + length u.globals + n)
     (text_in_files units (from + 1) us unit u n is within))

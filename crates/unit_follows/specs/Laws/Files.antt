@@ -32,7 +32,7 @@ pub FunctionWords-named : {c : Code} {p : Placing} {unit : ℕ} (placed : IsPlac
     (all_items (structs_of (units_of c.given) unit) tf (frame_of (units_of c.given) (function_of unit n)))
 FunctionWords-named {c} {p} {unit} placed inside n tf is =
     subst (λ (fr : Frame). FunctionWords c p unit (p.function (function_of unit n)) fr (all_items (structs_of
-        (units_of c.given) unit) tf fr))
+    (units_of c.given) unit) tf fr))
     (sym frame_is)
     (subst (λ (structs : List StructInfo). FunctionWords c p unit (p.function (function_of unit n)) (frame structs tf)
     (function_items structs tf)) (sym structs_is) (FunctionWords-file placed inside n tf there))
@@ -64,7 +64,7 @@ module _ (u : Setup) (p : Placing) (unit : ℕ) where
 
   all_follow : AreReady → (reach : ℕ) → ((n : ℕ) (tf : TFunction) → function_named (units_of u.given) (function_of unit n) ≡ Some tf →
       WordsFollow (code u reach) (function_of unit n) (p.function (function_of unit n))) → OthersFollow u p unit reach →
-          AllFollow (code u reach) p
+      AllFollow (code u reach) p
   all_follow ready reach own others = record {
     follow = λ f there. by_unit f there;
     few = ready.few;

@@ -85,30 +85,30 @@ pub call_finishes : {c : Code} {here inner : Context} {now done : MeaningState} 
     InCall c.given here call s t → Holds c.given done v (t.register 0) → Finished c here now call v done s t
 call_finishes {c} {here} {inner} {now} {done} {s} {t} at call v order injects new relates open_is pc leaves small some in_call holds =
     record {
-  to = e.to;
-  steps = e.steps;
-  least = e.least;
-  most = e.most;
-  led = e.led;
-  returns = λ kept. record {
-    relates = record {
-      injects = Injects-left call injects new within open_is kept e.left (IsInRange-Steps e.steps e.led.steps within.in_range);
-      outside = record {
-        output = ap (λ o. o.output) e.outside ∙ relates.outside.output;
-        input = ap (λ o. o.answers) e.outside ∙ relates.outside.input;
-        bytes = relates.outside.bytes;
-        takes = ap (λ o. o.next_failure) e.outside ∙ relates.outside.takes;
-        puts = ap (λ o. o.put_failure) e.outside ∙ relates.outside.puts;
+      to = e.to;
+      steps = e.steps;
+      least = e.least;
+      most = e.most;
+      led = e.led;
+      returns = λ kept. record {
+        relates = record {
+          injects = Injects-left call injects new within open_is kept e.left (IsInRange-Steps e.steps e.led.steps within.in_range);
+          outside = record {
+            output = ap (λ o. o.output) e.outside ∙ relates.outside.output;
+            input = ap (λ o. o.answers) e.outside ∙ relates.outside.input;
+            bytes = relates.outside.bytes;
+            takes = ap (λ o. o.next_failure) e.outside ∙ relates.outside.takes;
+            puts = ap (λ o. o.put_failure) e.outside ∙ relates.outside.puts;
+          };
+        };
+        pc = e.pc;
+        value = subst (λ n. Holds c.given (with_ended call done) v n)
+            (sym (e.others 0 (λ same. omega (arith, same)) (λ same. omega (arith, same))))
+            (Holds-ended c.given call done v (t.register 0) holds);
+        kept = KeepsAll-then (units_of c.given) s t e.to here.open_calls in_call.kept
+            (KeepsAll-bytes (units_of c.given) t e.to here.open_calls e.left.byte);
       };
-    };
-    pc = e.pc;
-    value = subst (λ n. Holds c.given (with_ended call done) v n)
-        (sym (e.others 0 (λ same. omega (arith, same)) (λ same. omega (arith, same))))
-        (Holds-ended c.given call done v (t.register 0) holds);
-    kept = KeepsAll-then (units_of c.given) s t e.to here.open_calls in_call.kept
-        (KeepsAll-bytes (units_of c.given) t e.to here.open_calls e.left.byte);
-  };
-}
+    }
   where
     fr : Frame
     fr = frame_of (units_of c.given) call.function

@@ -74,8 +74,11 @@ pub InCall-bytes : {g : Given} {here : Context} {call : Call} {s t u : State} â†
 InCall-bytes {g} {here} {call} {s} {t} {u} in_call same =
     let pair : HasPair u.byte (lowest call) (s.register 29) (s.register 30) =
     subst (Î» byte. HasPair byte (lowest call) (s.register 29) (s.register 30)) (sym same) in_call.pair in
-    record { pair = pair; kept = KeepsAll-then (units_of g) s t u here.open_calls in_call.kept
-        (KeepsAll-bytes (units_of g) t u here.open_calls same) }
+    record {
+      pair = pair;
+      kept = KeepsAll-then (units_of g) s t u here.open_calls in_call.kept
+          (KeepsAll-bytes (units_of g) t u here.open_calls same);
+    }
 
 -- ---- the end
 

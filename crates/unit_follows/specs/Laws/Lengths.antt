@@ -32,8 +32,12 @@ length-item f ts at (item.LeaveScope first last) = refl
 
 pub length-words : (f : Form) (ts : Targets) (at : ℕ) (is : List SymItem) → at + length (words_in f ts at is) ≡ end_of f at is
 length-words f ts at [] = omega arith
-length-words f ts at (i ∷ is) = omega (arith, length-append (item_words f ts at i) (words_in f ts (at + item_length f i) is),
-    length-item f ts at i, length-words f ts (at + item_length f i) is)
+length-words f ts at (i ∷ is) = omega (
+  arith,
+  length-append (item_words f ts at i) (words_in f ts (at + item_length f i) is),
+  length-item f ts at i,
+  length-words f ts (at + item_length f i) is,
+)
 
 -- where the one at a position stands
 abbrev pub place_of : Form → ℕ → List SymItem → ℕ → ℕ

@@ -68,7 +68,7 @@ few_over t extra Continued ends = absurd ends
 abbrev behind_body : TFunction → Context → Call → Flow → Run Value
 behind_body tf here call flow =
     and_then (with_some (latest (inside here call).open_calls) (λ d. with_blocks (end_call d.number))) (λ _. gives
-        (result_of tf.result flow))
+    (result_of tf.result flow))
 
 module _ {c : Code} {p : Placing} {f : Function} {tf : TFunction} {base : ℕ} (fn : IsPlacedFunction c p f tf base) (bound : ℕ)
     (here : Context) (now : MeaningState) (call : Call) (vs : List Value) (s : State) (injects : Injects c.given here now s)

@@ -61,7 +61,7 @@ module _ {c : Code} {p : Placing} {f : Function} {tf : TFunction} {base : ℕ} (
   call_is bound here vs program =
       ap (λ o. with_some o (λ t. with_some (frame_bytes here.program f) (λ bytes.
       call_of (statements_at (calls_at bound) bound) here f vs t bytes))) (ap (λ (q : Program). function_named q.units f) program
-          ∙ fn.here.is)
+      ∙ fn.here.is)
       ∙ ap (λ o. with_some o (λ bytes. call_of (statements_at (calls_at bound) bound) here f vs tf bytes))
       (ap (λ q. frame_bytes q f) program ∙ has.is ∙ ap Some (fn.here.file.meant.frames f has.bytes has.is))
     where
@@ -86,8 +86,12 @@ module _ {c : Code} {p : Placing} {f : Function} {tf : TFunction} {base : ℕ} (
       small = omega (arith, fn.here.most);
       some = omega (arith, frame_some fn);
       below = omega (arith, injects.frames.sp);
-      sp_whole = omega (arith, injects.frames.sp, open_whole (units_of c.given) now.calls here.open_calls injects.stands.calls
-          injects.frames.in_order);
+      sp_whole = omega (
+        arith,
+        injects.frames.sp,
+        open_whole (units_of c.given) now.calls here.open_calls injects.stands.calls
+            injects.frames.in_order,
+      );
       whole = frame_whole fn;
     }
 
@@ -209,10 +213,10 @@ module _ {c : Code} {p : Placing} {f : Function} {tf : TFunction} {base : ℕ} (
         m (record now { work = left }) ≡ Goes v last → Returns c.given (s.register 30) here s v last u
     comes_back m spares left some v last u back is = back (kept (m (record now { work = left })) is
         ((spares left).spares (record now { work = left }) (since_made (Injects-with (record {
-        work = left;
-        input = now.input;
-        output = now.output;
-      }) injects).stands)))
+          work = left;
+          input = now.input;
+          output = now.output;
+        }) injects).stands)))
       where
         kept : (r : Result Value) → r ≡ Goes v last → OnGoes r (λ v last. IsKept (moment now) (record now { work = left }) last × any v) →
             IsKept (moment now) (record now { work = left }) last

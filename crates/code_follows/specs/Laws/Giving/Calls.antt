@@ -45,9 +45,10 @@ goes_parts is = (cc, cc)
 put_gives : (n : ℕ) → Gives (put_byte n) (IsOfType int_type)
 put_gives n = record {
   gives = λ now later v bytes ran.
-      let parts = goes_parts ran.is in
-      (subst (IsOfType int_type) parts.0 (of_int (n % 256) (byte_of (n % 256) (omega arith))),
-      subst (λ (s : MeaningState). AreBytes s.input) parts.1 bytes);
+      let parts = goes_parts ran.is in (
+        subst (IsOfType int_type) parts.0 (of_int (n % 256) (byte_of (n % 256) (omega arith))),
+        subst (λ (s : MeaningState). AreBytes s.input) parts.1 bytes,
+      );
 }
 
 take_gives : Gives take_byte (IsOfType int_type)
@@ -56,14 +57,16 @@ take_gives = record { gives = λ now later v bytes ran. by_input now later v byt
     by_input : (now later : MeaningState) (v : Value) → AreBytes now.input → take_byte now ≡ Goes v later → (input : List ℕ) →
         now.input ≡ input → IsOfType int_type v × AreBytes later.input
     by_input now later v bytes ran [] is =
-        let parts = goes_parts (sym (taken_end now is) ∙ ran) in
-        (subst (IsOfType int_type) parts.0 (of_int (2 ^ 64 - 1) end_of),
-        subst (λ (s : MeaningState). AreBytes s.input) parts.1 (subst AreBytes is bytes))
+        let parts = goes_parts (sym (taken_end now is) ∙ ran) in (
+          subst (IsOfType int_type) parts.0 (of_int (2 ^ 64 - 1) end_of),
+          subst (λ (s : MeaningState). AreBytes s.input) parts.1 (subst AreBytes is bytes),
+        )
     by_input now later v bytes ran (b ∷ bs) is =
         let parts = goes_parts (sym (taken_byte now b bs is) ∙ ran) in
-        let all : AreBytes (b ∷ bs) = subst AreBytes is bytes in
-        (subst (IsOfType int_type) parts.0 (of_int b (byte_of b (All-head (λ byte. byte < 256) b bs all))),
-        subst (λ (s : MeaningState). AreBytes s.input) parts.1 (All-tail (λ byte. byte < 256) b bs all))
+        let all : AreBytes (b ∷ bs) = subst AreBytes is bytes in (
+          subst (IsOfType int_type) parts.0 (of_int b (byte_of b (All-head (λ byte. byte < 256) b bs all))),
+          subst (λ (s : MeaningState). AreBytes s.input) parts.1 (All-tail (λ byte. byte < 256) b bs all),
+        )
 
 -- ---- calls
 

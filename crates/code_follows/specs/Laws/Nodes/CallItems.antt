@@ -86,8 +86,11 @@ module _ {k : Scene} {first : ℕ} {reg : Reg} {result : Result Value} {s : Stat
             }) on.came;
             least = omega (arith, on.least, does.least);
             most = omega (arith, on.most, does.most, enough);
-            within = omega (arith, on.within,
-                less_work k.code.per then.work now.work (pays-some scene) (omega (arith, does.most, eight)));
+            within = omega (
+              arith,
+              on.within,
+              less_work k.code.per then.work now.work (pays-some scene) (omega (arith, does.most, eight)),
+            );
           })
           (record { of = of_type v then (record { is = completes-goes (m now) is }); holds = back.value })).bounded
       by_outcome (Finishes end then) is does = record {
@@ -110,9 +113,9 @@ call_does {k} {now = now} {t} scene f around vs calls of_bound on has = bounded_
   where
     bounded_of : {from middle : ℕ} →
         Does k.code (call_item (given_in k) (call_from (given_in k) k.function f around vs) (record {
-      function = k.function;
-      from = from;
-      to = middle;
-    })) k.here now t → Bounded (setting k.code) (later 0 (opened (setting k.code) now.work)) (λ v. call_room vs) t
+          function = k.function;
+          from = from;
+          to = middle;
+        })) k.here now t → Bounded (setting k.code) (later 0 (opened (setting k.code) now.work)) (λ v. call_room vs) t
         (Returns (given_in k) middle k.here t) (outcome_of (unit_then (call_effect (record around { here = k.here }) f vs) now))
     bounded_of does = does.bounded

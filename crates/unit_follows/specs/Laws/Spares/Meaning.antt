@@ -130,4 +130,3 @@ calls_spares zero here f vs = spares-stuck
 calls_spares (suc bound) here f vs = spares-some (function_named here.program.units f) (λ g.
     spares-some (frame_bytes here.program f) (λ bytes.
     call_of_spares (statements_spares (calls_spares bound) bound) here f vs g bytes))
-

@@ -66,7 +66,7 @@ pub copy_spares : {mark : Moment} (here : Context) (c : Copy) → Spares mark (c
 copy_spares here c = spares-then (judged_spares here c.source_span (access here false c.source)) (λ _.
     spares-then (judged_spares here c.target_span (access here true c.target)) (λ _.
     spares-then (overlap_spares here c.span (access here true c.target) _) (λ _. spares-blocks_by
-        (keeps-copied c.source.at c.target.at _))))
+    (keeps-copied c.source.at c.target.at _))))
 
 -- ---- operators
 
