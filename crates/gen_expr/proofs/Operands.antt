@@ -8,7 +8,8 @@ use Rattle.c_type_base.specs.declared.expr.TNode.TheVariants as node
 use Rattle.c_type_base.specs.declared.typed.StructInfo.{StructInfo}
 use Rattle.frame_layout.specs.declared.frame.Frame.{Frame}
 use Rattle.gen_expr.specs.Expressions.{coded, coded_node}
-use Rattle.gen_expr.specs.Laws.CodeLaws.{coded-expression, coded-paren, coded-unary, coded-cast, coded-read, coded-decay, coded-convert, unary-alone}
+use Rattle.gen_expr.specs.Laws.CodeLaws.{coded-expression, coded-paren, coded-unary, coded-cast}
+use Rattle.gen_expr.specs.Laws.CodeLaws.{coded-read, coded-decay, coded-convert, unary-alone}
 
 -- whatever the structs and the frame
 abbrev pub IsAlone : Bool → TExpr → Type 0

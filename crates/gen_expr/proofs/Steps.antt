@@ -40,7 +40,8 @@ combining structs o ty other t r =
     plain (fetch t scratch ++ load_scalar ty (Behind scratch) left ∷ []) ∷ combined structs o ty other r ∷
     plain (fetch t scratch ++ store_scalar ty (Behind scratch) r ∷ []) ∷ []
 
-pub compound-behind : {T E : Type 0} (result : Result T E) (structs : List StructInfo) (o : AssignOperator) (place b : Coded) (ty other : Ty)
+pub compound-behind : {T E : Type 0} (result : Result T E) (structs : List StructInfo) (o : AssignOperator) (place b : Coded)
+    (ty other : Ty)
     (t next : ℕ) (r : Reg) (old first second third new : SymCode) → place.slot ≡ None → place.ty ≡ ty → b.ty ≡ other → next ≡ suc t →
     Appends old (place.pointer t r) first → Appends first (plain (keep t r)) second → Appends second (b.value next r) third →
     OnOk result (Appends third (in_turn (combining structs o ty other t r)) new) →

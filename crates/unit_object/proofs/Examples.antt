@@ -108,7 +108,8 @@ reloc offset kind symbol addend = record { offset = offset; kind = kind; symbol 
 -- a text, an object, and a call
 its_relocations : (body : Stmt) (tbody : TStmt) (code : UnitCode) → stmt_uses tbody ≡ 0 ∷ []
     → code.functions.items ≡ record { name = codes "main"; local = false; start = 0; bytes = 40 } ∷ []
-    → map (code_reloc (code_symbol (number_of (length (typed tbody).texts) (named_symbols (program body) (typed tbody) code)) (typed tbody) code)) (
+    → map (code_reloc (code_symbol (number_of (length (typed tbody).texts) (named_symbols (program body) (typed tbody) code))
+    (typed tbody) code)) (
     record { offset = 8; kind = 275; target = code_target.Text 0; addend = pos 0 }
     ∷ record { offset = 16; kind = 311; target = code_target.Global 1; addend = pos 0 }
     ∷ record { offset = 24; kind = 283; target = code_target.Extern 0; addend = pos 0 } ∷ [])

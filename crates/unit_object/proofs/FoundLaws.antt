@@ -1,5 +1,6 @@
 -- What is found by its name is at the number of the name.
-use Rattle.std.proofs.Common.{◌≡◌, refl, sym, ◌∙◌, ap, ℕ, zero, suc, ◌+◌, arith, Bool, true, false, cond, List, [], ◌∷◌, map, Option, Some, None}
+use Rattle.std.proofs.Common.{◌≡◌, refl, sym, ◌∙◌, ap, ℕ, zero, suc, ◌+◌, arith}
+use Rattle.std.proofs.Common.{Bool, true, false, cond, List, [], ◌∷◌, map, Option, Some, None}
 use Rattle.std.specs.Prelude.{if◌then◌else◌}
 use Rattle.std.specs.List.{find, position_from}
 use Rattle.std.specs.Str.{bytes_eq}
@@ -52,7 +53,8 @@ place_from test (k ∷ ks) i = ap (cond (test k) (Some i)) (place_from test ks (
 -- ---- the one that is found
 
 found_step : {K : Type 0} (k : K) (ks : List K) (found : Option K) (place : Option ℕ) (b : Bool) →
-    option_list found ≡ at_number ks place → option_list (if b then Some k else found) ≡ at_number (k ∷ ks) (if b then Some 0 else later place)
+    option_list found ≡ at_number ks place → option_list (if b then Some k else found) ≡ at_number (k ∷ ks)
+    (if b then Some 0 else later place)
 found_step k ks found place true same = refl
 found_step k ks found None false same = same
 found_step k ks found (Some j) false same = same

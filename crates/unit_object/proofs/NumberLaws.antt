@@ -19,7 +19,8 @@ use Rattle.unit_object.specs.Counted.{name_number, function_numbers, global_numb
 use Rattle.unit_object.specs.Data.{room}
 use Rattle.unit_object.specs.Numbers.{code_number, data_number}
 use Rattle.unit_object.specs.declared.numbers.Numbers.{Numbers}
-use Rattle.unit_object.specs.Parts.{named_number, code_symbol, data_symbol, code_reloc, data_relocs, piece_relocs, value_relocs, address_kind}
+use Rattle.unit_object.specs.Parts.{named_number, code_symbol, data_symbol, code_reloc}
+use Rattle.unit_object.specs.Parts.{data_relocs, piece_relocs, value_relocs, address_kind}
 use Rattle.unit_object.specs.Symbols.{number_of, name_of}
 use Rattle.unit_object.proofs.FoundLaws.{number_counted}
 
@@ -39,7 +40,8 @@ at_index number name (x ∷ xs) zero = refl
 at_index number name (x ∷ xs) (suc k) = at_index number name xs k
 
 -- the number of a name among symbols
-pub number_is_counted : (named : List Symbol) (from : ℕ) (name : Name) → number_of from named name ≡ name_number from (map name_of named) name
+pub number_is_counted : (named : List Symbol) (from : ℕ) (name : Name) → number_of from named name ≡ name_number from
+    (map name_of named) name
 number_is_counted named from name = number_counted named name_of name from
 
 same_named : {A : Type 0} (number other : Name → ℕ) (name : A → Name) (o : Option A) → ((n : Name) → number n ≡ other n) →

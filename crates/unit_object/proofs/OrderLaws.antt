@@ -51,7 +51,8 @@ chosen_wanted filled gs (Some k) = by (slice_get gs k) refl
     test g false is = refl
 
     by : (o : Option GlobalInfo) → slice_get gs k ≡ o →
-        chosen gs (if is_wanted_there filled (slice_get gs k) then k ∷ [] else []) ≡ filter (is_wanted filled) (option_list (slice_get gs k))
+        chosen gs (if is_wanted_there filled (slice_get gs k) then k ∷ [] else []) ≡ filter (is_wanted filled) (option_list
+        (slice_get gs k))
     by None is =
         ap (λ o. chosen gs (if is_wanted_there filled o then k ∷ [] else [])) is
         ∙ sym (ap (λ o. filter (is_wanted filled) (option_list o)) is)

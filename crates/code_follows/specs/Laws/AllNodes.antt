@@ -34,7 +34,8 @@ use Rattle.code_follows.specs.Laws.Nodes.SizeOf.{size_of_follows, size_of_type_f
 use Rattle.code_follows.specs.Laws.Nodes.Stepped.{stepped_follows}
 use Rattle.code_follows.specs.Laws.Nodes.Target.{target_follows}
 
-module _ (k : Scene) (scene : IsScene k) (slots : AlignedSlots (units_of (given_in k))) (give : CallsGive (given_in k).program k.bound) where
+module _ (k : Scene) (scene : IsScene k) (slots : AlignedSlots (units_of (given_in k))) (give : CallsGive
+    (given_in k).program k.bound) where
   pointers : PointersTrue k
   pointers = pointers_of scene
 

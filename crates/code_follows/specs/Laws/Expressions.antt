@@ -42,6 +42,9 @@ Lies-anywhere here lies = record {
   to_is = lies.to_is;
 }
 
+at_other : {k : Scene} {here : Context} {needs first : ℕ} {reg : Reg} → IsFree k needs first reg → IsFree (scene_at k here) needs first reg
+at_other free = record { low = free.low; high = free.high; temps = free.temps; near = free.near }
+
 -- all nodes do what they mean, in each context of the function
 pub record AllNodes (k : Scene) : Type 0 where
   pub nodes : (here : Context) → IsIn k.function here → Nodes (scene_at k here)
@@ -67,7 +70,7 @@ module _ {k : Scene} (all : AllNodes k) {first : ℕ} {reg : Reg} {from to : ℕ
         bounded =
             changes (record { least = omega arith; most = omega arith }) (λ v. record { wider = omega (arith, follows.least) })
             (λ v then t gave. (gave.came.comes, gave.result_is.holds))
-            ((((follows.around around).part.yields first reg from to (record { low = free.low; high = free.high; temps = free.temps; near = free.near })
+            ((((follows.around around).part.yields first reg from to (at_other free)
             (Lies-anywhere here lies)).goes now s within relates pc).bounded);
       }
 
@@ -90,6 +93,6 @@ module _ {k : Scene} (all : AllNodes k) {first : ℕ} {reg : Reg} {from to : ℕ
         bounded =
             changes (record { least = omega arith; most = omega arith }) (λ p. record { wider = omega arith })
             (λ p then t gave. (gave.came.comes, gave.result_is.is))
-            (((follows.part.place.yields first reg from to (record { low = free.low; high = free.high; temps = free.temps; near = free.near })
+            (((follows.part.place.yields first reg from to (at_other free)
             (Lies-anywhere here lies)).goes now s within relates pc).bounded);
       }

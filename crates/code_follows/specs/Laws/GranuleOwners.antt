@@ -29,7 +29,8 @@ use Rattle.block_meaning.specs.declared.kind.Kind.TheVariants.{NullBlock, Global
 use Rattle.code_relation.specs.Calls.{stack_end, lowest, frame_of, LieInOrder}
 use Rattle.code_relation.specs.Injects.{Injects}
 use Rattle.code_relation.specs.Loaded.{on_stack, is_stack_granule}
-use Rattle.code_relation.specs.Sites.{Given, units_of, Lives, has_byte, is_tagged_block, is_tagged_by, is_tagged_local, slot_in, is_of_file}
+use Rattle.code_relation.specs.Sites.{Given, units_of, Lives, has_byte}
+use Rattle.code_relation.specs.Sites.{is_tagged_block, is_tagged_by, is_tagged_local, slot_in, is_of_file}
 use Rattle.code_relation.specs.Stands.{IsLocal}
 use Rattle.code_relation.specs.Laws.LocalBytes.{InFrame, in_frame, frame_is, laid_out}
 use Rattle.code_relation.specs.Laws.Untouched.{Among, here, there, among_calls, place_within, frame_within}
@@ -235,7 +236,8 @@ module _ {g : Given} {here : Context} {now : MeaningState} {s : State} (injects 
             frame_c.lowest_whole frame_c.bytes_whole frame_d.lowest_whole ends within byte same_granule)
         by_frames (lies_above ends) =
             absurd (apart_above (lowest c) (lowest at.of) (frame_of (units_of g) at.of.function).bytes at.slot.start b.size x
-            frame_c.lowest_whole frame_d.bytes_whole frame_d.lowest_whole ends (omega (arith, at.behind.before, at.holds)) byte same_granule)
+            frame_c.lowest_whole frame_d.bytes_whole frame_d.lowest_whole ends (omega
+            (arith, at.behind.before, at.holds)) byte same_granule)
 
     local_owner : (number : ℕ) (b : Block) (other k x : ℕ) → Lives now number b → b.kind ≡ Local other k →
         is_tagged_block g now.calls b.kind ≡ true → has_byte g now number b x ≡ true → granule_of x ≡ granule_of (lowest c + place) →

@@ -39,7 +39,8 @@ pub record PutsValue (g : Given) (t : Ty) (v : Value) (now : MeaningState) (inst
   pub leads : effect instr s ≡ Leads (puts_register r number s)
   pub is : ValueIs g t v now number
 
-number_value : {g : Given} {now : MeaningState} (t : Ty) (u : IntType) (v : Value) (n : ℕ) → out-Ty t ≡ Ty-F.Int u → v ≡ Number (wrap u n) →
+number_value : {g : Given} {now : MeaningState} (t : Ty) (u : IntType) (v : Value) (n : ℕ) → out-Ty t ≡ Ty-F.Int u → v ≡ Number
+    (wrap u n) →
     ValueIs g t v now (wrap u n)
 number_value {g} {now} t u v n of is =
     subst (λ (x : Value). ValueIs g t x now (wrap u n)) (sym is)
@@ -52,7 +53,8 @@ pointer_value {g} {now} t target v n of is =
     (record { of = subst (λ (l : TyLayer). IsOfLevel l (Address is.pointer)) (sym of) tt; holds = is.number })
 
 module _ {g : Given} {here : Context} {now : MeaningState} {s : State} (injects : Injects g here now s) (t : Ty)
-    (scalar : is_scalar t ≡ true) (a : Access) (size_is : a.size ≡ load_size (load_of t)) (b : Block) (lives : Lives now a.at.block b) (v : Value)
+    (scalar : is_scalar t ≡ true) (a : Access) (size_is : a.size ≡ load_size (load_of t)) (b : Block)
+    (lives : Lives now a.at.block b) (v : Value)
     (reads : read_in b t a ≡ ReadsAs v) (r : Reg) (small : r.0 < 31) where
   bytes : (x : ℕ) → s.byte x < 256
   bytes x = injects.in_range.bytes x

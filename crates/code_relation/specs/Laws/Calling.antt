@@ -72,7 +72,8 @@ arguments_stay g now a s k (t ∷ ts) (v ∷ vs) few has = (
   arguments_stay g now a s (suc k) ts vs (omega (arith, few)) has.2,
 )
 
-pub linked_relates : {g : Given} {here : Context} {now : MeaningState} {s : State} (a : ℕ) → Steps 1 s (puts_link a s) → Relates g here now s →
+pub linked_relates : {g : Given} {here : Context} {now : MeaningState} {s : State} (a : ℕ) → Steps 1 s
+    (puts_link a s) → Relates g here now s →
     Relates g here now (puts_link a s)
 linked_relates {s = s} a steps relates = record {
   injects = Injects-same (linked_same a s) (IsInRange-Steps 1 steps relates.injects.in_range) relates.injects;
@@ -97,8 +98,8 @@ returns_behind {g} {here} {s} {v} {then} {u} a from is fits returns = record {
       (KeepsAll-bytes (units_of g) s (puts_link a s) here.open_calls (linked_bytes a s)) returns.kept;
 }
 
--- Where a branch with the link stands, and the words of a function that is defined in the same file stand where it goes and follow it, the
--- branch is a call of that function.
+-- Where a branch with the link stands, and the words of a function that is defined in the same file stand where it goes and follow it,
+-- the branch is a call of that function.
 pub Calls-words : (c : Code) (f : Function) (n from : ℕ) (way : Way) → HasInstr c from (jump_instr Linked way) → IsInReach 26 from way →
     length (types_of (function_named (units_of c.given) (function_of f.unit n))) ≤ 30 →
     WordsFollow c (function_of f.unit n) (goes_to from way) → Calls c f from (from + 4) (callee.Function n)

@@ -63,11 +63,13 @@ module _ (structs : List StructInfo) (f : Frame) where
   unfolding given_typed
   coded-unary o e ty = ap (λ c. c ty) (fold-roll-TNode NodeCode Coded (node_code structs f) expr_code (TNode-F.Unary o e))
 
-  pub coded-binary : (o : BinaryOperator) (a b : TExpr) (ty : Ty) → node_coded (node.Binary o a b) ty ≡ computed false (binary_value structs o (code a) (code b)) ty
+  pub coded-binary : (o : BinaryOperator) (a b : TExpr) (ty : Ty) → node_coded (node.Binary o a b) ty ≡ computed false
+      (binary_value structs o (code a) (code b)) ty
   unfolding given_typed
   coded-binary o a b ty = ap (λ c. c ty) (fold-roll-TNode NodeCode Coded (node_code structs f) expr_code (TNode-F.Binary o a b))
 
-  pub coded-assign : (o : Option AssignOperator) (a b : TExpr) (ty : Ty) → node_coded (node.Assign o a b) ty ≡ computed false (assign_node structs o (code a) (code b)) ty
+  pub coded-assign : (o : Option AssignOperator) (a b : TExpr) (ty : Ty) → node_coded (node.Assign o a b) ty ≡ computed false
+      (assign_node structs o (code a) (code b)) ty
   unfolding given_typed
   coded-assign o a b ty = ap (λ c. c ty) (fold-roll-TNode NodeCode Coded (node_code structs f) expr_code (TNode-F.Assign o a b))
 
@@ -79,7 +81,8 @@ module _ (structs : List StructInfo) (f : Frame) where
   unfolding given_typed
   coded-cast s e ty = ap (λ c. c ty) (fold-roll-TNode NodeCode Coded (node_code structs f) expr_code (TNode-F.Cast s e))
 
-  pub coded-sizeof_expr : (e : TExpr) (ty : Ty) → node_coded (node.SizeofExpr e) ty ≡ computed true (constant (wrapped_size structs (code e).ty)) ty
+  pub coded-sizeof_expr : (e : TExpr) (ty : Ty) → node_coded (node.SizeofExpr e) ty ≡ computed true (constant (wrapped_size structs
+      (code e).ty)) ty
   unfolding given_typed
   coded-sizeof_expr e ty = ap (λ c. c ty) (fold-roll-TNode NodeCode Coded (node_code structs f) expr_code (TNode-F.SizeofExpr e))
 
@@ -87,15 +90,18 @@ module _ (structs : List StructInfo) (f : Frame) where
   unfolding given_typed
   coded-sizeof_name s ty = ap (λ c. c ty) (fold-roll-TNode NodeCode Coded (node_code structs f) expr_code (TNode-F.SizeofName s))
 
-  pub coded-call : (callee : Callee) (es : List TExpr) (ty : Ty) → node_coded (node.Call callee es) ty ≡ computed false (call_value callee (map code es)) ty
+  pub coded-call : (callee : Callee) (es : List TExpr) (ty : Ty) → node_coded (node.Call callee es) ty ≡ computed false
+      (call_value callee (map code es)) ty
   unfolding given_typed
   coded-call callee es ty = ap (λ c. c ty) (fold-roll-TNode NodeCode Coded (node_code structs f) expr_code (TNode-F.Call callee es))
 
-  pub coded-index : (a i : TExpr) (ty : Ty) → node_coded (node.Index a i) ty ≡ designated false (index_place structs (code a) (code i) ty) ty
+  pub coded-index : (a i : TExpr) (ty : Ty) → node_coded (node.Index a i) ty ≡ designated false (index_place structs (code a)
+      (code i) ty) ty
   unfolding given_typed
   coded-index a i ty = ap (λ c. c ty) (fold-roll-TNode NodeCode Coded (node_code structs f) expr_code (TNode-F.Index a i))
 
-  pub coded-step : (s : Step) (e : TExpr) (ty : Ty) → node_coded (node.Step s e) ty ≡ computed false (step_value structs s (code e).slot (code e)) ty
+  pub coded-step : (s : Step) (e : TExpr) (ty : Ty) → node_coded (node.Step s e) ty ≡ computed false (step_value structs s
+      (code e).slot (code e)) ty
   unfolding given_typed
   coded-step s e ty = ap (λ c. c ty) (fold-roll-TNode NodeCode Coded (node_code structs f) expr_code (TNode-F.Step s e))
 

@@ -52,7 +52,8 @@ module _ {c : Code} {p : Placing} {f : Function} {tf : TFunction} {at : ℕ} (fn
           code_is = ap (λ s. body_code structs fr (parts_of s) no_loop (0 + length (argument_items tf fr))) fn.order.body_is;
         };
         followed = record {
-          expressions = λ here. expressions_follow (λ s there scene. nodes_follow (moved (scene_at c f place scope here bound) s there) scene slots (give bound));
+          expressions = λ here. expressions_follow (λ s there scene. nodes_follow (moved
+              (scene_at c f place scope here bound) s there) scene slots (give bound));
           safe = fn.safe;
         };
         ready = subst (λ (g : TFunction). ReadyItems fr g fn.order.items) (same_Some _ _ (sym fn.is ∙ of_scope.function_is)) ready;

@@ -8,7 +8,8 @@ use Rattle.c_ast.specs.declared.token.Span.{Span}
 use Rattle.c_type_base.specs.Arithmetic.{truth}
 use Rattle.c_type_base.specs.Conversions.{wrap}
 use Rattle.c_type_base.specs.Laws.Opened.{given_types}
-use Rattle.c_type_base.specs.Types.{TyLayer, is_there, int_of_level, target_of_level, is_integer, is_pointer, is_scalar, is_struct, is_void}
+use Rattle.c_type_base.specs.Types.{TyLayer, is_there, int_of_level, target_of_level}
+use Rattle.c_type_base.specs.Types.{is_integer, is_pointer, is_scalar, is_struct, is_void}
 use Rattle.c_type_base.specs.Types.{is_void_level, struct_of_level}
 use Rattle.c_type_base.specs.declared.ty.Ty.{Ty, out-Ty}
 use Rattle.c_type_base.specs.declared.ty.Ty.TheOpen.{Ty-F}
@@ -89,7 +90,8 @@ level_converted _ v is = absurd (cc)
 pub of_converted_integer : (t : Ty) (v : Value) → is_integer t ≡ true → IsOfType t (converted_to t v)
 of_converted_integer t v is = level_converted (out-Ty t) v is
 
-level_address_as : (l : TyLayer) (v : Value) (p : Pointer) → is_there (target_of_level l) ≡ true → v ≡ Address p → IsOfLevel l (value_as l v)
+level_address_as : (l : TyLayer) (v : Value) (p : Pointer) → is_there (target_of_level l) ≡ true → v ≡ Address p → IsOfLevel l
+    (value_as l v)
 level_address_as (Ty-F.Pointer t) v p is same = subst (λ w. IsOfLevel (Ty-F.Pointer t) (value_as (Ty-F.Pointer t) w)) (sym same) tt
 level_address_as _ v p is same = absurd (cc)
 
@@ -186,7 +188,8 @@ level_struct _ p is = absurd (cc)
 pub read_gives : (here : Context) (span : Span) (o : Object) → Gives (read here span o) (IsOfType o.ty)
 read_gives here span o = by_struct (is_struct o.ty) refl
   where
-    by_struct : (b : Bool) → is_struct o.ty ≡ b → Gives (λ now. (if b then gives (Struct o.at) else read_scalar here span o) now) (IsOfType o.ty)
+    by_struct : (b : Bool) → is_struct o.ty ≡ b → Gives (λ now. (if b then gives (Struct o.at) else read_scalar here span o) now)
+        (IsOfType o.ty)
     by_struct true is = gives-gives (Struct o.at) (level_struct (out-Ty o.ty) o.at is)
     by_struct false is = scalar_gives here span o
 

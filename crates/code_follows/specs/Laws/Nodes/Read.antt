@@ -126,7 +126,8 @@ pointer_part {k} {code} {t = t} {run} scene scalar slots place span = Part-by (�
 
     by_owed : (owes : Bool) (first : ℕ) (reg : Reg) (from to : ℕ) → reg.0 < 28 →
         HasInstrs k (load_scalar t (Behind reg) reg ∷ []) from to → (a : Account) (s : State) (now : MeaningState) (u : State)
-        (p : Pointer) → On k first reg code.alone s from a 0 (0 + pointer_leaves owes) now u → IsNumber (given_in k) now p (u.register reg.0) →
+        (p : Pointer) → On k first reg code.alone s from a 0 (0 + pointer_leaves owes) now u → IsNumber (given_in k) now p
+        (u.register reg.0) →
         Goes k first reg code.alone (ValueIs (given_in k) t) s to value_leaves a (and_then (owed owes p) f) now u
     by_owed false first reg from to low has a s now u p on number =
         loads_through scene t scalar span low on (omega arith) (omega arith) slots p has number

@@ -23,4 +23,5 @@ returns-in-Decay t c =
 
 pub returns-in-Convert : goal.returns-in-Convert
 returns-in-Convert t c =
-    alone-convert c.args.expr.now c.in-Convert.operand _ c.get.ensures c.is_alone-in-Convert.result c.is_alone-in-Convert.ensures c.in-Convert.is
+    alone-convert c.args.expr.now c.in-Convert.operand _ c.get.ensures c.is_alone-in-Convert.result c.is_alone-in-Convert.ensures
+    c.in-Convert.is
