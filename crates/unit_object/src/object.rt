@@ -198,15 +198,15 @@ fn bytes_of(alloc: Global, typed: &Typed, order: &Defined) -> Result<Data, Alloc
 fn joined(
     alloc: Global,
     words: Vec<u32>,
-    data: Data,
+    made: Data,
     waiting: Waiting,
     symbols: Vec<Symbol>,
 ) -> Result<ObjectParts, AllocError>
     ensures { IfOk result (λ parts. object_of parts ≡ record {
       words = words.items;
-      rodata = data.texts.items;
-      init_bytes = data.filled.items;
-      zero_bytes = data.zeros;
+      rodata = made.texts.items;
+      init_bytes = made.filled.items;
+      zero_bytes = made.zeros;
       symbols = symbols.items;
       text_relocs = waiting.text.items;
       init_relocs = waiting.init.items;
@@ -218,7 +218,7 @@ fn joined(
         texts,
         filled,
         zeros,
-    } = data;
+    } = made;
     let Waiting { text, init } = waiting;
     Ok(ObjectParts {
         words,
